@@ -1,0 +1,4 @@
+pub mod Bits
+pub mod Polynomial
+pub mod Check
+pub mod Damage
