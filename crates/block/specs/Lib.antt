@@ -1,0 +1,4 @@
+pub mod Answer
+pub mod Lengths
+pub mod Block
+pub mod Calls
