@@ -1,0 +1,3 @@
+pub mod LoopTime
+pub mod Order
+pub mod Sending

@@ -1,0 +1,48 @@
+-- Loop times: the longest loop for a block length and a speed, and the loop-time test. Assumes nothing.
+use mathlib.Core.Path.{_≡_}
+use mathlib.Core.Bool.{Bool, not, _||_}
+use mathlib.Core.List.{List, [], _∷_}
+use Prim.Native.Nat.{ℕ, _+_, _-_, _*_, _/_}
+use lib.Dec.{leb, ltb}
+use Rattle.block.specs.Answer as A
+use Rattle.block.specs.Answer.{Answer, refused, done, refuseIf}
+use Rattle.block.specs.Lengths.{isLength, blockLength, among}
+use Rattle.line.specs.declared.loop_time.LoopTime.{LoopTime}
+use Rattle.line.specs.declared.loop_time.LoopTime.the-variants as W
+
+-- the table's six speeds, in bit/s
+abbrev pub speeds : List ℕ
+speeds = 200 ∷ 600 ∷ 1200 ∷ 2400 ∷ 3600 ∷ 4800 ∷ []
+
+unfoldable pub isSpeed : ℕ → Bool
+isSpeed speed = among speed speeds
+
+-- a quotient rounded to the nearest whole number
+abbrev pub rounded : ℕ → ℕ → ℕ
+rounded a b = (2 * a + b) / (2 * b)
+
+-- how long a block lasts, in whole milliseconds: n times 1000 divided by the speed
+unfoldable pub blockTime : ℕ → ℕ → ℕ
+blockTime k speed = rounded (blockLength k * 1000) speed
+
+-- the table has an entry unless the block is over before 90 ms
+unfoldable pub hasEntry : ℕ → ℕ → Bool
+hasEntry k speed = leb 90 (blockTime k speed)
+
+-- the longest loop: the block's time less 90
+unfoldable pub longestLoop : ℕ → ℕ → ℕ
+longestLoop k speed = blockTime k speed - 90
+
+-- the loop-time test: 1, 2, 3
+unfoldable pub loopTime : ℕ → ℕ → ℕ → Answer (Unit {0})
+loopTime k speed loop-ms =
+    refuseIf (not (isLength k)) A.block
+    (refuseIf (not (isSpeed speed)) A.speed
+    (refuseIf (not (hasEntry k speed) || ltb (longestLoop k speed) loop-ms) A.loop-time (done tt)))
+
+abbrev pub loopAnswer : LoopTime → Answer (Unit {0})
+loopAnswer W.Allowed = done tt
+loopAnswer (W.Refused n) = refused n
+
+pub record LoopTest (k speed loop-ms : ℕ) (answer : LoopTime) : Type 0 where
+  pub answers : loopAnswer answer ≡ loopTime k speed loop-ms

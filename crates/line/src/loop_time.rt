@@ -1,0 +1,6 @@
+// Loop times.
+
+pub enum LoopTime {
+    Allowed,
+    Refused(u8),
+}
