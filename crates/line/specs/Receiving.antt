@@ -1,0 +1,361 @@
+-- The receiving end: opening a receiver and a receiving call, with their promises. Assumes nothing.
+use mathlib.Core.Path.{_≡_}
+use mathlib.Core.Bool.{Bool, true, false, cond, not, _&&_, _||_}
+use mathlib.Core.List.{List, [], _∷_, _++_}
+use Prim.Native.Nat.{ℕ, suc, _+_, _-_, _*_}
+use lib.Dec.{eqb, leb, ltb}
+use lib.ListN.{length, take, drop, replicate}
+use Rattle.crc.specs.Bits.{Bits, number, bitsOf, bytesOf}
+use Rattle.block.specs.Answer as A
+use Rattle.block.specs.Answer.{Answer, refused, done, refuseIf}
+use Rattle.block.specs.Lengths.{isLength, blockLength}
+use Rattle.block.specs.Block.{serviceOf, payloadOf, Verdict, passed, failed, verdict, serviceSync, syncSequence}
+use Rattle.block.specs.Calls.{tooShort}
+use Rattle.line.specs.Order.{mostItems, validLength, itemCount, letter, isLetter, endService, version}
+use Rattle.line.specs.declared.receiver.Receiver.{Receiver}
+use Rattle.line.specs.declared.receiver.Phase.{Phase}
+use Rattle.line.specs.declared.receiver.Phase.the-variants as P
+use Rattle.line.specs.declared.receiver.Event.{Event}
+use Rattle.line.specs.declared.receiver.Event.the-variants as E
+use Rattle.line.specs.declared.receiver.Received.{Received}
+use Rattle.line.specs.declared.receiver.Received.the-variants as R
+use Rattle.line.specs.declared.receiver.Step.{Step}
+use Rattle.line.specs.declared.receiver.Opening.{Opening}
+use Rattle.line.specs.declared.receiver.Opening.the-variants as O
+use Rattle.line.specs.declared.receiver.Opened.{Opened}
+
+-- ---- opening: 1
+
+-- the bytes of the array that holds one unfinished block
+abbrev pub arrayBytes : ℕ
+arrayBytes = 483
+
+unfoldable pub noBytes : List ℕ
+noBytes = replicate arrayBytes 0
+
+-- it starts in search with return bit 1
+unfoldable pub freshReceiver : ℕ → Receiver
+freshReceiver k =
+    record {
+      setup = record { k = k };
+      bits = noBytes;
+      held = 0;
+      row = 0;
+      back = true;
+      taken = 0;
+      ended = false;
+      phase = P.Search;
+    }
+
+unfoldable pub openReceiver : ℕ → Answer (Unit {0})
+openReceiver k = refuseIf (not (isLength k)) A.block (done tt)
+
+-- a refused opening hands back a state that every step refuses, k being 0
+abbrev pub openedReceiver : ℕ → Answer (Unit {0}) → Receiver
+openedReceiver k (refused n) = freshReceiver 0
+openedReceiver k (done u) = freshReceiver k
+
+abbrev pub openingAnswer : Opening → Answer (Unit {0})
+openingAnswer O.Opened = done tt
+openingAnswer (O.Refused n) = refused n
+
+pub record OpenReceiver (k : ℕ) (result : Opened) : Type 0 where
+  pub answers : openingAnswer (result .answer) ≡ openReceiver k
+  pub state : result .state ≡ openedReceiver k (openReceiver k)
+
+-- ---- the rules
+
+-- how a call comes to its event
+pub data Rule : Type 0 where
+  unfinished : Rule  -- all bits were used without an event
+  standing : Event → Rule  -- an alarm stood before the call
+  found : Rule  -- the search found its sequence
+  sync-block : Rule  -- rule 1
+  check-fails : Rule  -- rule 2
+  accepts : Rule  -- rule 3
+  previous : Rule  -- rule 4
+  out-of-sequence : Rule  -- rule 5
+  ends : ℕ → Rule  -- rule 6, with this L
+  wrong-length : Rule  -- rule 6, the length alarm
+  ends-again : Rule  -- rule 6, the end already taken
+  anything-else : Rule  -- rule 7
+
+-- what a rule comes to: its event; whether the data go to the store; whether rules 3 to 6 read the block; whether the
+-- block was read in step with a passing check
+pub record Meaning : Type 0 where
+  pub event : Event
+  pub stores : Bool
+  pub data-or-end : Bool
+  pub checked : Bool
+
+abbrev pub meant : Event → Bool → Bool → Bool → Meaning
+meant event stores data-or-end checked =
+    record { event = event; stores = stores; data-or-end = data-or-end; checked = checked }
+
+abbrev pub meaning : Rule → Meaning
+meaning unfinished = meant E.None false false false
+meaning (standing alarm) = meant alarm false false false
+meaning found = meant E.Sync false false false
+meaning sync-block = meant E.Sync false false false
+meaning check-fails = meant E.Bad false false false
+meaning accepts = meant E.Accepted true true true
+meaning previous = meant E.Previous false true true
+meaning out-of-sequence = meant E.SequenceAlarm false true true
+meaning (ends L) = meant (E.Ended L) false true true
+meaning wrong-length = meant E.LengthAlarm false true true
+meaning ends-again = meant E.Previous false true true
+meaning anything-else = meant E.Bad false false true
+
+-- ---- in step, at each n-th bit: k, the items taken and whether the end is, and the row of n bits
+
+-- a letter against the items taken: of item r, of item r - 1, of item r + 1, or of none of these
+pub data Place : Type 0 where
+  expected last next other : Place
+
+unfoldable pub place : ℕ → ℕ → Place
+place r service =
+    cond (eqb service (letter r)) expected
+    (cond (leb 1 r && eqb service (letter (r - 1))) last (cond (eqb service (letter (r + 1))) next other))
+
+-- rules 3, 4, 5 and 7, the end not taken
+abbrev pub letterRule : ℕ → Place → Rule
+letterRule r expected = cond (ltb r mostItems) accepts anything-else
+letterRule r last = previous
+letterRule r next = out-of-sequence
+letterRule r other = anything-else
+
+-- rule 6: the version, L in 1 to the longest order, and L makes r items
+abbrev pub lengthRule : ℕ → ℕ → Bool → ℕ → Rule
+lengthRule k r known L = cond (known && validLength L && eqb (itemCount k L) r) (ends L) wrong-length
+
+unfoldable pub endRule : ℕ → ℕ → Bool → Bits → Rule
+endRule k r ended payload =
+    cond ended ends-again (lengthRule k r (eqb (number (take 8 payload)) version) (number (take 32 (drop 8 payload))))
+
+-- rules 3 to 7: by the service bits of a block that passes
+unfoldable pub serviceRule : ℕ → ℕ → Bool → ℕ → Bits → Rule
+serviceRule k r ended service payload =
+    cond (isLetter service) (cond ended out-of-sequence (letterRule r (place r service)))
+    (cond (eqb service endService) (endRule k r ended payload) anything-else)
+
+-- rule 2
+abbrev pub verdictRule : ℕ → ℕ → Bool → Bits → Verdict → Rule
+verdictRule k r ended row failed = check-fails
+verdictRule k r ended row (passed service) = serviceRule k r ended service (payloadOf k row)
+
+-- rule 1: first four bits 0101 and last sixteen the sequence
+unfoldable pub looksSync : ℕ → Bits → Bool
+looksSync k row =
+    eqb (number (serviceOf row)) (number serviceSync) && eqb (number (drop (k + 4) row)) (number syncSequence)
+
+unfoldable pub judge : ℕ → ℕ → Bool → Bits → Rule
+judge k r ended row = cond (looksSync k row) sync-block (verdictRule k r ended row (verdict row))
+
+-- ---- the state after an event: nothing held
+
+abbrev pub blank : Receiver → ℕ → Bool → ℕ → Bool → Phase → Receiver
+blank s row back taken ended phase =
+    record {
+      setup = s .setup;
+      bits = noBytes;
+      held = 0;
+      row = row;
+      back = back;
+      taken = taken;
+      ended = ended;
+      phase = phase;
+    }
+
+-- in step with return 0, the row cleared
+abbrev pub well : Receiver → ℕ → Bool → Receiver
+well s taken ended = blank s 0 false taken ended P.InStep
+
+-- the eighth bad in a row starts a search, and a search's start clears the row
+abbrev pub lastBad : ℕ
+lastBad = 8
+
+-- after a bad block with return 1: in search, or in step with one more in the row
+abbrev pub badly : Receiver → Bool → Receiver
+badly s search =
+    cond search (blank s 0 true (s .taken) (s .ended) P.Search)
+    (blank s (s .row + 1) true (s .taken) (s .ended) P.InStep)
+
+abbrev pub alarmed : Receiver → Phase → Receiver
+alarmed s alarm = blank s 0 true (s .taken) (s .ended) alarm
+
+abbrev pub after : Receiver → Rule → Receiver
+after s unfinished = s
+after s (standing alarm) = s
+after s found = well s (s .taken) (s .ended)
+after s sync-block = well s (s .taken) (s .ended)
+after s check-fails = badly s (leb lastBad (s .row + 1))
+after s accepts = well s (s .taken + 1) (s .ended)
+after s previous = well s (s .taken) (s .ended)
+after s out-of-sequence = alarmed s P.SequenceAlarm
+after s (ends L) = well s (s .taken) true
+after s wrong-length = alarmed s P.LengthAlarm
+after s ends-again = well s (s .taken) (s .ended)
+after s anything-else = badly s (leb lastBad (s .row + 1) || eqb (s .taken) 0)
+
+-- ---- the bits of a call, up to the next event or to the last
+
+abbrev pub heldBits : Receiver → Bits
+heldBits s = take (s .held) (bitsOf (s .bits))
+
+-- what a call reads: the rule, the row of n bits that it read if any, the bits used, and the state afterwards
+pub record Reading : Type 0 where
+  pub rule : Rule
+  pub row : Bits
+  pub used : ℕ
+  pub state : Receiver
+
+abbrev pub stops : Receiver → Rule → Bits → ℕ → Reading
+stops s rule row used = record { rule = rule; row = row; used = used; state = after s rule }
+
+-- Search: the window is the latest 15 bits at most, received since the search began.
+abbrev pub latest : Bits → Bits
+latest row = drop (length row - 15) row
+
+-- no event: the window in the array's first two bytes, zero bits behind it; return 1
+abbrev pub searching : Receiver → Bits → Receiver
+searching s window =
+    record {
+      setup = s .setup;
+      bits = bytesOf 2 window ++ drop 2 (s .bits);
+      held = length window;
+      row = s .row;
+      back = true;
+      taken = s .taken;
+      ended = s .ended;
+      phase = s .phase;
+    }
+
+abbrev pub isSequence : Bits → Bool
+isSequence row = eqb (length row) 16 && eqb (number row) (number syncSequence)
+
+abbrev pub search : Receiver → Bits → Bits → ℕ → Reading
+search s window [] used = record { rule = unfinished; row = []; used = used; state = searching s window }
+search s window (b ∷ bs) used =
+    cond (isSequence (window ++ (b ∷ []))) (stops s found [] (suc used))
+    (search s (latest (window ++ (b ∷ []))) bs (suc used))
+
+-- In step: the new bits stand behind those held, and no other bit of the array changes.
+abbrev pub overwrite : ℕ → Bits → Bits → Bits
+overwrite at new row = take at row ++ (new ++ drop (at + length new) row)
+
+abbrev pub holding : Receiver → Bits → Receiver
+holding s new =
+    record {
+      setup = s .setup;
+      bits = bytesOf arrayBytes (overwrite (s .held) new (bitsOf (s .bits)));
+      held = s .held + length new;
+      row = s .row;
+      back = s .back;
+      taken = s .taken;
+      ended = s .ended;
+      phase = s .phase;
+    }
+
+abbrev pub missing : Receiver → ℕ
+missing s = blockLength (s .setup .k) - s .held
+
+abbrev pub finishedRow : Receiver → Bits → Bits
+finishedRow s new = heldBits s ++ take (missing s) new
+
+unfoldable pub inStep : Receiver → Bits → Reading
+inStep s new =
+    cond (ltb (length new) (missing s))
+    (record { rule = unfinished; row = []; used = length new; state = holding s new })
+    (stops s (judge (s .setup .k) (s .taken) (s .ended) (finishedRow s new)) (finishedRow s new) (missing s))
+
+-- A standing alarm: return 1, the row cleared, all bits used.
+abbrev pub stands : Receiver → Receiver
+stands s =
+    record {
+      setup = s .setup;
+      bits = s .bits;
+      held = s .held;
+      row = 0;
+      back = true;
+      taken = s .taken;
+      ended = s .ended;
+      phase = s .phase;
+    }
+
+abbrev pub stood : Receiver → Event → ℕ → Reading
+stood s alarm used = record { rule = standing alarm; row = []; used = used; state = stands s }
+
+abbrev pub reading : Receiver → Phase → Bits → Reading
+reading s P.Search new = search s (heldBits s) new 0
+reading s P.InStep new = inStep s new
+reading s P.SequenceAlarm new = stood s E.SequenceAlarm (length new)
+reading s P.LengthAlarm new = stood s E.LengthAlarm (length new)
+
+-- 0 bits: nothing changed, but a standing alarm is reported
+abbrev pub idleRule : Phase → Rule
+idleRule P.Search = unfinished
+idleRule P.InStep = unfinished
+idleRule P.SequenceAlarm = standing E.SequenceAlarm
+idleRule P.LengthAlarm = standing E.LengthAlarm
+
+abbrev pub idle : Receiver → Reading
+idle s = record { rule = idleRule (s .phase); row = []; used = 0; state = s }
+
+unfoldable pub readings : Receiver → Bits → ℕ → Reading
+readings s new count = cond (eqb count 0) (idle s) (reading s (s .phase) new)
+
+-- ---- a receiving call: 7, then 6
+
+-- held bits below n, in search at most 15
+abbrev pub heldInRange : Phase → ℕ → ℕ → Bool
+heldInRange P.Search n held = leb held 15
+heldInRange P.InStep n held = ltb held n
+heldInRange P.SequenceAlarm n held = ltb held n
+heldInRange P.LengthAlarm n held = ltb held n
+
+-- every field within its range
+unfoldable pub receiverInRange : Receiver → Bool
+receiverInRange s =
+    isLength (s .setup .k) && ltb (s .row) lastBad && leb (s .taken) mostItems
+    && heldInRange (s .phase) (blockLength (s .setup .k)) (s .held)
+
+-- the store is judged only where a block would be accepted
+abbrev pub judgeStore : Receiver → List ℕ → Reading → Answer Reading
+judgeStore s store x =
+    refuseIf (meaning (x .rule) .stores && tooShort store (s .taken * s .setup .k + s .setup .k)) A.short (done x)
+
+unfoldable pub receive : Receiver → List ℕ → ℕ → List ℕ → Answer Reading
+receive s line count store =
+    refuseIf (not (receiverInRange s)) A.spoiled
+    (refuseIf (tooShort line count) A.short (judgeStore s store (readings s (take count (bitsOf line)) count)))
+
+abbrev pub receiveState : Receiver → Answer Reading → Receiver
+receiveState s (refused n) = s
+receiveState s (done x) = x .state
+
+-- the k data bits go to the store at bit r times k
+unfoldable pub storeAt : ℕ → Bits → List ℕ → List ℕ
+storeAt at payload store = bytesOf (length store) (overwrite at payload (bitsOf store))
+
+abbrev pub receiveStore : Receiver → List ℕ → Answer Reading → List ℕ
+receiveStore s store (refused n) = store
+receiveStore s store (done x) =
+    cond (meaning (x .rule) .stores) (storeAt (s .taken * s .setup .k) (payloadOf (s .setup .k) (x .row)) store) store
+
+-- what is reported: the event and the number of bits used
+pub record Report : Type 0 where
+  pub event : Event
+  pub used : ℕ
+
+abbrev pub reported : Answer Reading → Answer Report
+reported (refused n) = refused n
+reported (done x) = done (record { event = meaning (x .rule) .event; used = x .used })
+
+abbrev pub receivedAnswer : Received → Answer Report
+receivedAnswer (R.Used event used) = done (record { event = event; used = used })
+receivedAnswer (R.Refused n) = refused n
+
+pub record Receive (s : Receiver) (line : List ℕ) (count : ℕ) (store : List ℕ) (result : Step) (store′ : List ℕ) : Type 0 where
+  pub answers : receivedAnswer (result .answer) ≡ reported (receive s line count store)
+  pub state : result .state ≡ receiveState s (receive s line count store)
+  pub writes : store′ ≡ receiveStore s store (receive s line count store)
