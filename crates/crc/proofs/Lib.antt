@@ -1,2 +1,3 @@
 pub mod Xor
 pub mod Rows
+pub mod Bytes
