@@ -9,7 +9,7 @@ use native.Mathlib.Omega.{arith}
 use lib.Arith.{digits-lt}
 use lib.Bits.{bitXor, differ, xor-shr}
 use lib.Dec.{eqb, lit<}
-use lib.ListN.{length, replicate}
+use lib.ListN.{length, replicate, length-replicate}
 use lib.Pow.{mod-pow-add, pow-pos, field, mod-mod-pow, low, high, shr-shr}
 use Rattle.crc.specs.Bits.{Bits, zeros, bit, odd, binary, numberFrom, number, xor, xorBits, parity}
 use Rattle.crc.proofs.Xor.{xor-odd}
@@ -162,6 +162,14 @@ binary-numberFrom c (b ∷ l) =
 pub binary-number : (bs : Bits) → binary (length bs) (number bs) ≡ bs
 unfolding number
 binary-number bs = binary-numberFrom 0 bs
+
+pub binary-zero : (w : ℕ) → binary w 0 ≡ zeros w
+binary-zero w =
+    ap₂ binary (sym (length-replicate w false)) (sym (number-zeros w)) ∙ binary-number (zeros w)
+
+-- a row whose number is 0 has no ones
+pub number-zero : (bs : Bits) → number bs ≡ 0 → bs ≡ zeros (length bs)
+number-zero bs e = sym (binary-number bs) ∙ ap (binary (length bs)) e ∙ binary-zero (length bs)
 
 odd-mod : (n j : ℕ) → odd (n % 2 ^ (j + 1)) ≡ odd n
 odd-mod n j = ap (λ (x : ℕ). eqb x 1) (mod-mod-pow n j 1)
