@@ -6,3 +6,4 @@ pub mod Division
 pub mod Codeword
 pub mod Detect
 pub mod Register
+pub mod Basis
