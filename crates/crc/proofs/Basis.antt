@@ -19,7 +19,6 @@ use Rattle.crc.proofs.Register.{register-xor}
 infixl 60 _⊕_
 infixl 50 _into_
 infixl 70 _>>_
-
 -- ---- linear functions
 
 -- f takes sums to sums, below 2^k

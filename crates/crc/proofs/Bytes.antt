@@ -1,12 +1,12 @@
 -- Bytes as rows of bits, and rows packed into bytes. Assumes nothing.
 use mathlib.Core.Path.{_≡_, refl, sym, ap, ap₂, _∙_, subst}
-use mathlib.Core.Bool.{Bool, true, false}
+use mathlib.Core.Bool.{false}
 use mathlib.Core.List.{List, [], _∷_, _++_, append-assoc, append-nil}
 use Prim.Native.Nat.{ℕ, zero, suc, _+_, _-_, _*_, _^_, _≤_, _<_}
-use native.Mathlib.Nat.{zero-add, suc-add, add-comm, le-refl, sub-zero, zero-sub, suc-sub-suc}
+use native.Mathlib.Nat.{zero-add, suc-add, add-comm, sub-zero, zero-sub, suc-sub-suc}
 use native.Mathlib.Omega.{arith}
 use lib.Dec.{lit<}
-use lib.ListN.{length, take, drop, getD, replicate, length-append, length-drop, length-replicate, replicate-append-replicate, take-append-drop}
+use lib.ListN.{length, take, drop, getD, length-append, length-drop, length-replicate, replicate-append-replicate, take-append-drop}
 use lib.Seq.{take-nil, drop-nil, take-append-add, drop-append-add, take-append-le, drop-append-le, take-at, drop-at, length-take-le}
 use Rattle.crc.specs.Bits.{Bits, zeros, binary, number, bitsOf, bytesOf}
 use Rattle.crc.proofs.Rows.{length-binary, number-binary, binary-number, number-lt}

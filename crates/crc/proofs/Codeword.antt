@@ -1,5 +1,5 @@
 -- A row's check bits, and rows with check bits behind them. Assumes nothing.
-use mathlib.Core.Path.{_≡_, refl, sym, ap, ap₂, _∙_, subst}
+use mathlib.Core.Path.{_≡_, sym, ap, ap₂, _∙_, subst}
 use mathlib.Core.Logic.{_↔_}
 use mathlib.Core.Bool.{true, false}
 use mathlib.Core.List.{_++_}
@@ -73,9 +73,10 @@ divide-zeros-zero c (suc k) h e = divideBit-zero c h (divide-zeros-zero (divideB
 
 -- a row's check bits are zero exactly where its remainder is
 pub check-zero : (l : Bits) → (check l ≡ 0) ↔ (remainder l ≡ 0)
-check-zero l =
-    (λ e. divide-zeros-zero (remainder l) 16 (remainder-lt l) (sym (check-divide l) ∙ e),
-    λ z. check-divide l ∙ ap (λ (x : ℕ). divide x (zeros 16)) z ∙ divide-zeros 16)
+check-zero l = (
+  λ e. divide-zeros-zero (remainder l) 16 (remainder-lt l) (sym (check-divide l) ∙ e),
+  λ z. check-divide l ∙ ap (λ (x : ℕ). divide x (zeros 16)) z ∙ divide-zeros 16,
+)
 
 pub passes-check : (l : Bits) → (passes l ≡ true) ↔ (check l ≡ 0)
 passes-check l =

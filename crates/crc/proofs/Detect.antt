@@ -1,9 +1,9 @@
 -- What the check finds: an odd number of inverted bits, and inverted bits within 16 adjacent places, at any place of a row
 -- of any length. Assumes nothing.
-use mathlib.Core.Path.{_≡_, refl, sym, ap, ap₂, _∙_, subst}
+use mathlib.Core.Path.{_≡_, refl, sym, ap, ap₂, _∙_}
 use mathlib.Core.Bool.{Bool, true, false, false≢true}
 use mathlib.Core.List.{[], _∷_, _++_}
-use Prim.Native.Nat.{ℕ, zero, suc, _+_, _*_, _/_, _%_, _^_, _≤_, _<_}
+use Prim.Native.Nat.{ℕ, zero, suc, _+_, _*_, _/_, _^_, _≤_, _<_}
 use native.Mathlib.Nat.{lt-of-lt-of-le, div-one, div-eq-of-lt}
 use native.Mathlib.Numerals.{one-add}
 use native.Mathlib.Omega.{arith}
@@ -16,7 +16,7 @@ use Rattle.crc.specs.Polynomial.{generator}
 use Rattle.crc.specs.Check.{reduce, divideBit, divide, remainder, passes}
 use Rattle.crc.specs.Damage.{Damage, nothing, odd-number, burst}
 use Rattle.crc.proofs.Rows.{bit-lt, odd-behind, xor-bits-assoc, xor-bits-false, binary-xor, number-lt, number-zero, length-xorBits, xorBits-none}
-use Rattle.crc.proofs.Linear.{behind-lt, reduce-lt, divideBit-lt, divide-lt, divide-append, divide-zeros, divide-short, remainder-lt, remainder-append, remainder-xor}
+use Rattle.crc.proofs.Linear.{behind-lt, reduce-lt, divideBit-lt, divide-append, divide-zeros, divide-short, remainder-lt, remainder-append, remainder-xor}
 use Rattle.crc.proofs.Division.{passes-remainder}
 use Rattle.crc.proofs.Codeword.{divide-zeros-zero}
 
@@ -94,7 +94,7 @@ unfolding remainder number
 burst-found i j e h z =
     let p : number e < 2 ^ 16 = lt-of-lt-of-le (number-lt e) (pow-mono {j = 16} h) in
     let r : remainder (e ++ zeros j) ≡ 0 =
-        ap (λ (x : ℕ). divide x (e ++ zeros j)) (sym (divide-zeros i)) ∙ sym (divide-append 0 (zeros i) (e ++ zeros j)) ∙ z in
+    ap (λ (x : ℕ). divide x (e ++ zeros j)) (sym (divide-zeros i)) ∙ sym (divide-append 0 (zeros i) (e ++ zeros j)) ∙ z in
     let s : remainder e ≡ 0 = divide-zeros-zero (remainder e) j (remainder-lt e) (sym (remainder-append e (zeros j)) ∙ r) in
     number-zero e (sym (divide-short 0 e p) ∙ s)
 
@@ -105,8 +105,8 @@ damage-found e (nothing n) z = ap zeros (sym (length-replicate n false))
 damage-found e (odd-number h) z = absurd (odd-found e h z)
 damage-found e (burst i b j h) z =
     let m : zeros i ++ (b ++ zeros j) ≡ zeros (i + (length b + j)) =
-        ap (λ (l : Bits). zeros i ++ (l ++ zeros j)) (burst-found i j b h z)
-        ∙ ap (λ (l : Bits). zeros i ++ l) (replicate-append-replicate (length b) j false) ∙ replicate-append-replicate i (length b + j) false in
+    ap (λ (l : Bits). zeros i ++ (l ++ zeros j)) (burst-found i j b h z)
+    ∙ ap (λ (l : Bits). zeros i ++ l) (replicate-append-replicate (length b) j false) ∙ replicate-append-replicate i (length b + j) false in
     m ∙ ap zeros (sym (ap length m ∙ length-replicate (i + (length b + j)) false))
 
 -- a copy of a codeword, damaged so, passes only if it is the codeword
@@ -114,7 +114,7 @@ pub damaged-passes : (copy plain : Bits) → length copy ≡ length plain → Da
     → passes plain ≡ true → passes copy ≡ true → copy ≡ plain
 damaged-passes copy plain h d p q =
     let z : remainder (xorBits copy plain) ≡ 0 =
-        remainder-xor copy plain h ∙ ap₂ bitXor (passes-remainder copy .0 q) (passes-remainder plain .0 p) in
+    remainder-xor copy plain h ∙ ap₂ bitXor (passes-remainder copy .0 q) (passes-remainder plain .0 p) in
     xorBits-none copy plain h (damage-found (xorBits copy plain) d z ∙ ap zeros (length-xorBits copy plain h))
 
 -- ---- such damage exists, and is found: the four bits 0011 with their check bits behind them, two bits inverted, and one

@@ -78,6 +78,7 @@ times-large (b ∷ q) = ⊎-elim (none b (times q generator)) (λ h. inr (some b
     none : (b : Bool) (m : ℕ) → m ≡ 0 → (bitXor (bit b * generator) (m * 2) ≡ 0) ⊎ (2 ^ 16 ≤ bitXor (bit b * generator) (m * 2))
     none false m e = inl (ap (λ (x : ℕ). x * 2) e)
     none true m e = inr (subst (λ (x : ℕ). 2 ^ 16 ≤ bitXor generator (x * 2)) (sym e) (lit≤ tt))
+
     some : (b : Bool) (m : ℕ) → 2 ^ 16 ≤ m → 2 ^ 16 ≤ bitXor (bit b * generator) (m * 2)
     some false m h = omega arith
     some true m h = over (bitXor generator (m * 2)) (m * 2) (xor-shr generator (m * 2) 17) (omega arith)
@@ -99,9 +100,10 @@ remainder-unique {p} {r} {s} a b =
     sym (xor-zero-r r) ∙ ap (bitXor r) (sym z) ∙ xor-cancel r s
 
 pub divides-remainder : (l : Bits) → (remainder l ≡ 0) ↔ Divides (polynomial l)
-divides-remainder l =
-    (λ e. subst Divides (ap (bitXor (polynomial l)) e ∙ xor-zero-r (polynomial l)) (remainder-is l .divides),
-    λ d. divides-small (remainder-lt l) (subst Divides (xor-cancel (polynomial l) (remainder l)) (divides-xor d (remainder-is l .divides))))
+divides-remainder l = (
+  λ e. subst Divides (ap (bitXor (polynomial l)) e ∙ xor-zero-r (polynomial l)) (remainder-is l .divides),
+  λ d. divides-small (remainder-lt l) (subst Divides (xor-cancel (polynomial l) (remainder l)) (divides-xor d (remainder-is l .divides))),
+)
 
 pub passes-remainder : (l : Bits) → (passes l ≡ true) ↔ (remainder l ≡ 0)
 unfolding passes

@@ -2,7 +2,7 @@
 use mathlib.Core.Path.{_≡_, refl, sym, ap, ap₂, _∙_, subst}
 use mathlib.Core.Bool.{Bool, true, false}
 use mathlib.Core.List.{List, [], _∷_, _++_}
-use Prim.Native.Nat.{ℕ, zero, suc, _+_, _*_, _^_, _≤_, _<_}
+use Prim.Native.Nat.{ℕ, _+_, _*_, _^_, _<_}
 use native.Mathlib.Nat.{add-zero}
 use native.Mathlib.Numerals.{add-one}
 use native.Mathlib.Omega.{arith}
@@ -83,9 +83,11 @@ registerBit-ahead r b h =
     bit-small : (b : Bool) → bit b < 2 ^ 16
     bit-small false = lit< tt
     bit-small true = lit< tt
+
     one : (b : Bool) → bit b * x16 ≡ ahead (bit b)
     one false = refl
     one true = refl
+
     split : (r : ℕ) (b : Bool) → r < 2 ^ 16 → divideBit r b ≡ bitXor (divideBit r false) (bit b)
     split r false k = sym (xor-zero-r (divideBit r false))
     split r true k = ap (λ (x : ℕ). divideBit x true) (sym (xor-zero-r r)) ∙ divideBit-xor r 0 false true k (lit< tt)

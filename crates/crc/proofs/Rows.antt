@@ -3,15 +3,15 @@ use mathlib.Core.Path.{_≡_, refl, sym, ap, ap₂, _∙_, subst}
 use mathlib.Core.Bool.{Bool, true, false}
 use mathlib.Core.List.{[], _∷_, _++_}
 use Prim.Native.Nat.{ℕ, zero, suc, _+_, _*_, _/_, _%_, _^_, _≤_, _<_}
-use native.Mathlib.Nat.{mod-one, mod-lt, pow-suc, zero-lt-suc, zero-add, suc-add, add-comm, mod-eq-of-lt, one-mul, le-refl, mul-one, div-one}
+use native.Mathlib.Nat.{mod-one, mod-lt, pow-suc, zero-lt-suc, zero-add, suc-add, add-comm, mod-eq-of-lt, le-refl, mul-one, div-one}
 use native.Mathlib.Numerals.{one-add, add-one}
 use native.Mathlib.Omega.{arith}
 use lib.Arith.{digits-lt}
 use lib.Bits.{bitXor, differ, xor-shr}
 use lib.Dec.{eqb, lit<}
-use lib.ListN.{length, replicate, length-replicate}
-use lib.Pow.{mod-pow-add, pow-pos, field, mod-mod-pow, low, high, shr-shr}
-use Rattle.crc.specs.Bits.{Bits, zeros, bit, odd, binary, numberFrom, number, xor, xorBits, parity}
+use lib.ListN.{length, length-replicate}
+use lib.Pow.{mod-pow-add, field, mod-mod-pow, low, high, shr-shr}
+use Rattle.crc.specs.Bits.{Bits, zeros, bit, odd, binary, numberFrom, number, xor, xorBits}
 use Rattle.crc.proofs.Xor.{xor-odd}
 
 -- ---- bits

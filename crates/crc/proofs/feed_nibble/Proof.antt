@@ -1,5 +1,4 @@
 -- `crc::feed_nibble` meets its contract: both sides are linear, and equal at each power of two. Assumes nothing.
-use native.Mathlib.Omega.{arith}
 use borrow.Author.Needs.{needs}
 use mir.Facts.{fits-mask}
 use Rattle.crc.proofs.Basis.{nibble-feeds}

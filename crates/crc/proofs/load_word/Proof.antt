@@ -71,9 +71,11 @@ loop-again c =
     let e : getD (drop i s) j 0 ≡ getD s (i + j) 0 = getD-drop i s j 0 in
     let l : j < length (drop i s) = omega (arith, length-drop i s) in
     let n : getD s (i + j) 0 < 256 = omega (arith, c .shared-slice-known .given (i + j)) in
-    let v : w < 2 ^ (8 * j) = c .before .before .loop .inv .1 in
-    (omega arith, load-lt (drop i s) j w (getD s (i + j) 0) h e l n v,
-    load-bits (drop i s) j w (getD s (i + j) 0) h e l n v (c .before .before .loop .inv .2))
+    let v : w < 2 ^ (8 * j) = c .before .before .loop .inv .1 in (
+      omega arith,
+      load-lt (drop i s) j w (getD s (i + j) 0) h e l n v,
+      load-bits (drop i s) j w (getD s (i + j) 0) h e l n v (c .before .before .loop .inv .2),
+    )
 
 returns : tie.Need-returns Inv-loop μ-loop
 returns c =
