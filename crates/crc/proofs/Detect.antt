@@ -117,19 +117,25 @@ damaged-passes copy plain h d p q =
     remainder-xor copy plain h ∙ ap₂ bitXor (passes-remainder copy .0 q) (passes-remainder plain .0 p) in
     xorBits-none copy plain h (damage-found (xorBits copy plain) d z ∙ ap zeros (length-xorBits copy plain h))
 
--- ---- such damage exists, and is found: the four bits 0011 with their check bits behind them, two bits inverted, and one
+-- ---- such damage exists, and is found: the bits 0011 with their check bits behind them, four bits inverted within nine
+-- places, and one bit inverted
 
 abbrev plain : Bits
 plain = binary 20 0x33063
 
-plain-passes : passes plain ≡ true
+pub plain-example : passes plain ≡ true
 unfolding passes remainder binary
-plain-passes = refl
+plain-example = refl
 
-burst-example : Damage (xorBits (binary 20 0x33365) plain) × (passes (binary 20 0x33365) ≡ false)
+pub burst-example : Damage (xorBits (binary 20 0x33365) plain) × (passes (binary 20 0x33365) ≡ false)
 unfolding passes remainder binary xorBits
 burst-example = (burst 10 (true ∷ true ∷ false ∷ false ∷ false ∷ false ∷ false ∷ true ∷ true ∷ []) 1 (lit≤ tt), refl)
 
-odd-example : Damage (xorBits (binary 20 0x33067) plain) × (passes (binary 20 0x33067) ≡ false)
+pub odd-example : Damage (xorBits (binary 20 0x33067) plain) × (passes (binary 20 0x33067) ≡ false)
 unfolding passes remainder binary xorBits parity
 odd-example = (odd-number refl, refl)
+
+-- 17 places are too many: the generator itself is not found
+pub burst-of-17 : remainder (binary 17 generator) ≡ 0
+unfolding remainder binary
+burst-of-17 = refl
