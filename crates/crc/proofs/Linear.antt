@@ -87,7 +87,7 @@ remainder-lt l = divide-lt l (lit< tt)
 
 pub remainder-append : (l m : Bits) → remainder (l ++ m) ≡ divide (remainder l) m
 unfolding remainder
-remainder-append l m = divide-append 0 l m
+remainder-append l m = divide-append _ l m
 
 pub remainder-xor : (l m : Bits) → length l ≡ length m → remainder (xorBits l m) ≡ bitXor (remainder l) (remainder m)
 unfolding remainder
