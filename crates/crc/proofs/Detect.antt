@@ -117,21 +117,21 @@ damaged-passes copy plain h d p q =
     remainder-xor copy plain h ∙ ap₂ bitXor (passes-remainder copy .0 q) (passes-remainder plain .0 p) in
     xorBits-none copy plain h (damage-found (xorBits copy plain) d z ∙ ap zeros (length-xorBits copy plain h))
 
--- ---- such damage exists, and is found: the bits 0011 with their check bits behind them, four bits inverted within nine
+-- ---- such damage exists, and is found: the bits 0001 with their check bits behind them, four bits inverted within nine
 -- places, and one bit inverted
 
 abbrev plain : Bits
-plain = binary 20 0x33063
+plain = binary 20 0x11021
 
 pub plain-example : passes plain ≡ true
 unfolding passes remainder binary
 plain-example = refl
 
-pub burst-example : Damage (xorBits (binary 20 0x33365) plain) × (passes (binary 20 0x33365) ≡ false)
+pub burst-example : Damage (xorBits (binary 20 0x11327) plain) × (passes (binary 20 0x11327) ≡ false)
 unfolding passes remainder binary xorBits
 burst-example = (burst 10 (true ∷ true ∷ false ∷ false ∷ false ∷ false ∷ false ∷ true ∷ true ∷ []) 1 (lit≤ tt), refl)
 
-pub odd-example : Damage (xorBits (binary 20 0x33067) plain) × (passes (binary 20 0x33067) ≡ false)
+pub odd-example : Damage (xorBits (binary 20 0x11025) plain) × (passes (binary 20 0x11025) ≡ false)
 unfolding passes remainder binary xorBits parity
 odd-example = (odd-number refl, refl)
 
