@@ -1,5 +1,13 @@
 // The V.41 block: 4 service bits, k data bits, 16 check bits, packed with the earliest bit in the top bit.
-ghost use Rattle.block.specs.Calls.{BuildBlock, ReadBlock, BuildSync, CancelBlock};
+ghost use mathlib.Core.Path.{_≡_};
+ghost use mathlib.Core.List.{_++_};
+ghost use Prim.Native.Nat.{_+_, _*_, _/_, _≤_, _<_};
+ghost use lib.ListN.{length, take, drop};
+ghost use Rattle.crc.specs.Bits.{binary, bitsOf, bytesOf};
+ghost use Rattle.crc.specs.Check.{remainder};
+ghost use Rattle.block.specs.Lengths.{isLength};
+ghost use Rattle.block.specs.Block.{blockBits, syncBlock};
+ghost use Rattle.block.specs.Calls.{overwritten, BuildBlock, ReadBlock, BuildSync, CancelBlock};
 
 // Document 01, "What the ends turn away".
 pub const BLOCK: u8 = 1;
@@ -18,4 +26,157 @@ pub enum Read {
     Passed(u8),
     Failed,
     Refused(u8),
+}
+
+// Whether k is one of the four numbers of data bits.
+pub fn known_length(k: usize) -> bool
+    ensures { λ r. ⌜ r ≡ isLength k ⌝ }
+{
+    match k {
+        240 | 480 | 960 | 3840 => true,
+        _ => false,
+    }
+}
+
+// The first m bytes of to become those of from without its first four bits.
+fn shift_half(m: usize, from: &[u8], to: &mut [u8])
+    requires { ⌜ (m < length (now from)) × (m ≤ length (now to)) ⌝ }
+    ensures { λ _. ⌜ now (to .exit) ≡ bytesOf m (drop 4 (bitsOf (now (from .entry)))) ++ drop m (now (to .entry)) ⌝ }
+{
+    let mut i = 0;
+    while i < m {
+        to[i] = from[i] << 4 | from[i + 1] >> 4;
+        i += 1;
+    }
+}
+
+// The service bits and the data behind them, over the first m bytes of block: all but the last four data bits.
+fn shift_in(m: usize, service: u8, payload: &[u8], block: &mut [u8])
+    requires { ⌜ (0 < m) × (m ≤ length (now payload)) × (m ≤ length (now block)) ⌝ }
+    ensures { λ _. ⌜ now (block .exit) ≡ overwritten m (binary 4 service ++ bitsOf (now (payload .entry))) (now (block .entry)) ⌝ }
+{
+    shift_half(m - 1, payload, &mut block[1..]);
+    block[0] = service << 4 | payload[0] >> 4;
+}
+
+// The last four data bits, the check bits and the four spare bits, over the three bytes from place m on.
+fn put_check(m: usize, last: u8, check: u16, block: &mut [u8])
+    requires { ⌜ m + 3 ≤ length (now block) ⌝ }
+    ensures { λ _. ⌜ now (block .exit) ≡ take m (now (block .entry)) ++ (bytesOf 3 (binary 4 last ++ binary 16 check) ++ drop (m + 3) (now (block .entry))) ⌝ }
+{
+    block[m] = last << 4 | (check >> 12) as u8;
+    block[m + 1] = ((check >> 4) & 255) as u8;
+    block[m + 2] = ((check & 15) as u8) << 4;
+}
+
+// The block of m data bytes, over the first m + 3 bytes of block.
+fn pack_block(m: usize, service: u8, payload: &[u8], block: &mut [u8])
+    requires { ⌜ (0 < m) × (m ≤ length (now payload)) × (m + 3 ≤ length (now block)) ⌝ }
+    ensures { λ _. ⌜ now (block .exit) ≡ overwritten (m + 3) (blockBits (binary 4 service) (take (8 * m) (bitsOf (now (payload .entry))))) (now (block .entry)) ⌝ }
+{
+    let check = crc::feed_bytes(crc::feed_nibble(0, service), &payload[..m]);
+    shift_in(m, service, payload, block);
+    put_check(m, payload[m - 1], check, block);
+}
+
+pub fn build_block(k: usize, service: u8, payload: &[u8], block: &mut [u8]) -> Built
+    ensures { λ r. ⌜ BuildBlock k service (now (payload .entry)) (now (block .entry)) r (now (block .exit)) ⌝ }
+{
+    if !known_length(k) {
+        return Built::Refused(BLOCK);
+    }
+    if 15 < service {
+        return Built::Refused(SPOILED);
+    }
+    let m = k / 8;
+    if payload.len() < m {
+        return Built::Refused(SHORT);
+    }
+    if block.len() < m + 3 {
+        return Built::Refused(SHORT);
+    }
+    pack_block(m, service, payload, block);
+    Built::Done
+}
+
+// The check bits received: the low half of a byte, a byte, and the high half of a third.
+fn received_check(a: u8, b: u8, c: u8) -> u16
+    ensures { λ r. ⌜ binary 16 r ≡ binary 4 a ++ (binary 8 b ++ binary 4 (c / 16)) ⌝ }
+{
+    ((a & 15) as u16) << 12 | (b as u16) << 4 | (c >> 4) as u16
+}
+
+// The remainder of all the bits of a block of m data bytes: the check of its service bits and data, xor the check received.
+fn remainder_of(m: usize, block: &[u8]) -> u16
+    requires { ⌜ m + 3 ≤ length (now block) ⌝ }
+    ensures { λ r. ⌜ r ≡ remainder (take (8 * m + 20) (bitsOf (now (block .entry)))) ⌝ }
+{
+    let check = crc::feed_nibble(crc::feed_bytes(0, &block[..m]), block[m] >> 4);
+    check ^ received_check(block[m], block[m + 1], block[m + 2])
+}
+
+pub fn read_block(k: usize, block: &[u8], payload: &mut [u8]) -> Read
+    ensures { λ r. ⌜ ReadBlock k (now (block .entry)) (now (payload .entry)) r (now (payload .exit)) ⌝ }
+{
+    if !known_length(k) {
+        return Read::Refused(BLOCK);
+    }
+    let m = k / 8;
+    if block.len() < m + 3 {
+        return Read::Refused(SHORT);
+    }
+    if payload.len() < m {
+        return Read::Refused(SHORT);
+    }
+    if remainder_of(m, block) != 0 {
+        return Read::Failed;
+    }
+    shift_half(m, block, payload);
+    let service = block[0] >> 4;
+    Read::Passed(service)
+}
+
+// The synchronising block of m data bytes, over the first m + 3 bytes of block.
+fn fill_sync(m: usize, block: &mut [u8])
+    requires { ⌜ (0 < m) × (m + 3 ≤ length (now block)) ⌝ }
+    ensures { λ _. ⌜ now (block .exit) ≡ overwritten (m + 3) (syncBlock (8 * m)) (now (block .entry)) ⌝ }
+{
+    let mut at = 0;
+    while at < m {
+        block[at] = 0xaa;
+        at += 1;
+    }
+    block[0] = 0x5a;
+    block[m] = 0xa5;
+    block[m + 1] = 0x0a;
+    block[m + 2] = 0x50;
+}
+
+pub fn synchronising_block(k: usize, block: &mut [u8]) -> Built
+    ensures { λ r. ⌜ BuildSync k (now (block .entry)) r (now (block .exit)) ⌝ }
+{
+    if !known_length(k) {
+        return Built::Refused(BLOCK);
+    }
+    let m = k / 8;
+    if block.len() < m + 3 {
+        return Built::Refused(SHORT);
+    }
+    fill_sync(m, block);
+    Built::Done
+}
+
+// The last bit of a packed block inverted; the spare bits stay.
+pub fn cancel_block(k: usize, block: &mut [u8]) -> Built
+    ensures { λ r. ⌜ CancelBlock k (now (block .entry)) r (now (block .exit)) ⌝ }
+{
+    if !known_length(k) {
+        return Built::Refused(BLOCK);
+    }
+    let last = k / 8 + 2;
+    if block.len() <= last {
+        return Built::Refused(SHORT);
+    }
+    block[last] = block[last] ^ 0x10;
+    Built::Done
 }

@@ -1,0 +1,187 @@
+-- Rows packed into bytes half a byte at a time: what a byte joined of two halves holds, and a row's first bytes and the
+-- others. Assumes nothing.
+use mathlib.Core.Path.{_≡_, refl, sym, ap, ap₂, _∙_}
+use mathlib.Core.List.{List, [], _∷_, _++_, append-assoc, append-nil}
+use Prim.Native.Nat.{ℕ, zero, suc, _+_, _-_, _*_, _/_, _%_, _^_, _≤_, _<_}
+use native.Mathlib.Nat.{zero-add, suc-add, add-suc, mod-lt, le-of-lt}
+use native.Mathlib.Numerals.{add-one, add-two}
+use native.Mathlib.Omega.{arith}
+use lib.Bits.{bitOr, bitAnd, or-shifted, and-mask}
+use lib.ListN.{length, take, drop, getD, set, length-append, length-drop, take-append-drop}
+use lib.Seq.{take-append-le, drop-append-le, take-at, drop-at, take-suc, drop-cons, drop-drop, take-add, length-take-le, sets-eq}
+use lib.Pow.{split, pow-pos}
+use Rattle.crc.specs.Bits.{Bits, zeros, binary, number, bitsOf, bytesOf}
+use Rattle.crc.proofs.Rows.{length-binary, number-binary, binary-mod, binary-join}
+use Rattle.crc.proofs.Bytes.{length-bitsOf, take-bitsOf, drop-bitsOf, bitsOf-last, bytesOf-zeros}
+
+-- ---- halves of a byte
+
+-- two halves side by side
+pub binary-halves : (a b : ℕ) → b < 16 → binary 8 (a * 16 + b) ≡ binary 4 a ++ binary 4 b
+binary-halves a b h = binary-join 4 4 a b h
+
+-- a number taken apart
+pub binary-split : (a b n : ℕ) → binary (a + b) n ≡ binary a (n / 2 ^ b) ++ binary b n
+binary-split a b n =
+    ap (binary (a + b)) (sym (split n b)) ∙ binary-join a b (n / 2 ^ b) (n % 2 ^ b) (mod-lt n (pow-pos b))
+    ∙ ap (λ (l : Bits). binary a (n / 2 ^ b) ++ l) (binary-mod b n)
+
+pub drop-half : (x : ℕ) (r : Bits) → drop 4 (binary 8 x ++ r) ≡ binary 4 x ++ r
+unfolding binary
+drop-half x r = refl
+
+-- ---- the first bytes of a row
+
+byte-first : (m x : ℕ) (r : Bits) → x < 256 → bytesOf (suc m) (binary 8 x ++ r) ≡ x ∷ bytesOf m r
+unfolding bytesOf
+byte-first m x r h =
+    ap₂ (λ (y : ℕ) (l : Bits). y ∷ bytesOf m l)
+    (ap (λ (l : Bits). number (take 8 l)) (append-assoc (binary 8 x) r (zeros 8))
+    ∙ ap number (take-at (binary 8 x) (r ++ zeros 8) 8 (length-binary 8 x)) ∙ number-binary 8 x h)
+    (drop-at (binary 8 x) r 8 (length-binary 8 x))
+
+pub halves-first : (m a b : ℕ) (r : Bits) → a < 16 → b < 16 → bytesOf (suc m) (binary 4 a ++ (binary 4 b ++ r)) ≡ (a * 16 + b) ∷ bytesOf m r
+halves-first m a b r ha hb =
+    ap (bytesOf (suc m)) (sym (append-assoc (binary 4 a) (binary 4 b) r) ∙ ap (λ (l : Bits). l ++ r) (sym (binary-halves a b hb)))
+    ∙ byte-first m (a * 16 + b) r (omega arith)
+
+-- a half and a byte: the first byte of them, and the half that is left
+pub half-byte-first : (m c x : ℕ) (r : Bits) → x < 256
+    → bytesOf (suc m) (binary 4 c ++ (binary 8 x ++ r)) ≡ (c % 16 * 16 + x / 16) ∷ bytesOf m (binary 4 x ++ r)
+half-byte-first m c x r h =
+    ap (bytesOf (suc m))
+    (ap₂ (λ (l t : Bits). l ++ t) (sym (binary-mod 4 c))
+    (ap (λ (l : Bits). l ++ r) (binary-split 4 4 x) ∙ append-assoc (binary 4 (x / 16)) (binary 4 x) r))
+    ∙ halves-first m (c % 16) (x / 16) (binary 4 x ++ r) (omega arith) (omega arith)
+
+-- as the code joins them
+pub joined : (c h : ℕ) → h < 16 → bitOr ((c * 2 ^ 4) % 2 ^ 8) h ≡ c % 16 * 16 + h
+joined c h b =
+    let e : (c * 2 ^ 4) % 2 ^ 8 ≡ c % 16 * 2 ^ 4 = omega arith in
+    rw e (or-shifted (c % 16) 4 h b)
+
+-- ---- a row's first bytes and the others
+
+pub bytesOf-add : (i n : ℕ) (bs : Bits) → bytesOf (i + n) bs ≡ bytesOf i bs ++ bytesOf n (drop (8 * i) bs)
+unfolding bytesOf
+bytesOf-add zero n bs = ap (λ (x : ℕ). bytesOf x bs) (zero-add n)
+bytesOf-add (suc i) n bs =
+    let e : 8 + 8 * i ≡ 8 * suc i = omega arith in
+    ap (λ (x : ℕ). bytesOf x bs) (suc-add i n)
+    ∙ ap (λ (l : List ℕ). number (take 8 (bs ++ zeros 8)) ∷ l)
+    (bytesOf-add i n (drop 8 bs)
+    ∙ ap (λ (l : Bits). bytesOf i (drop 8 bs) ++ bytesOf n l) (drop-drop (8 * i) 8 bs ∙ ap (λ (x : ℕ). drop x bs) e))
+
+-- what stands behind the first bytes does not matter
+pub bytesOf-front : (m : ℕ) (x y : Bits) → 8 * m ≤ length x → bytesOf m (x ++ y) ≡ bytesOf m x
+unfolding bytesOf
+bytesOf-front zero x y h = refl
+bytesOf-front (suc m) x y h =
+    let k : 8 ≤ length x = omega arith in
+    let r : 8 * m ≤ length (drop 8 x) = omega (arith, length-drop 8 x) in
+    ap₂ (λ (l : Bits) (t : List ℕ). number l ∷ t)
+    (ap (take 8) (append-assoc x y (zeros 8)) ∙ take-append-le 8 x (y ++ zeros 8) k ∙ sym (take-append-le 8 x (zeros 8) k))
+    (ap (bytesOf m) (drop-append-le 8 x y k) ∙ bytesOf-front m (drop 8 x) y r)
+
+pub bytesOf-take : (m : ℕ) (bs : Bits) → 8 * m ≤ length bs → bytesOf m (take (8 * m) bs) ≡ bytesOf m bs
+bytesOf-take m bs h =
+    sym (bytesOf-front m (take (8 * m) bs) (drop (8 * m) bs) (omega (arith, length-take-le (8 * m) bs h)))
+    ∙ ap (bytesOf m) (take-append-drop (8 * m) bs)
+
+-- ---- bytes shifted by half a byte
+
+-- one byte more
+pub shifted-first : (m c : ℕ) (p : List ℕ) (i : ℕ) → i < length p → getD p i 0 < 256
+    → bytesOf (suc m) (binary 4 c ++ bitsOf (drop i p))
+    ≡ bitOr ((c * 2 ^ 4) % 2 ^ 8) (getD p i 0 / 2 ^ 4) ∷ bytesOf m (binary 4 (getD p i 0) ++ bitsOf (drop (suc i) p))
+unfolding bitsOf
+shifted-first m c p i h b =
+    ap (λ (l : List ℕ). bytesOf (suc m) (binary 4 c ++ bitsOf l)) (drop-cons p i 0 h)
+    ∙ half-byte-first m c (getD p i 0) (bitsOf (drop (suc i) p)) b
+    ∙ ap (λ (x : ℕ). x ∷ bytesOf m (binary 4 (getD p i 0) ++ bitsOf (drop (suc i) p))) (sym (joined c (getD p i 0 / 16) (omega arith)))
+
+-- where the bytes start
+pub drop-half-first : (p : List ℕ) → 0 < length p → drop 4 (bitsOf p) ≡ binary 4 (getD p 0 0) ++ bitsOf (drop 1 p)
+unfolding bitsOf
+drop-half-first [] h = absurd (omega arith)
+drop-half-first (x ∷ p) h = drop-half x (bitsOf p)
+
+-- and where they end: the half that has no byte yet
+pub shifted-rest : (c j : ℕ) (p : List ℕ) → j < length p → drop (8 * suc j) (binary 4 c ++ bitsOf (take (suc j) p)) ≡ binary 4 (getD p j 0)
+shifted-rest c j p h =
+    let x : ℕ = getD p j 0 in
+    let front : Bits = binary 4 c ++ (bitsOf (take j p) ++ binary 4 (x / 16)) in
+    let e : bitsOf (take (suc j) p) ≡ (bitsOf (take j p) ++ binary 4 (x / 16)) ++ binary 4 x =
+    ap bitsOf (take-suc p j 0 h) ∙ bitsOf-last (take j p) x ∙ ap (λ (l : Bits). bitsOf (take j p) ++ l) (binary-split 4 4 x)
+    ∙ sym (append-assoc (bitsOf (take j p)) (binary 4 (x / 16)) (binary 4 x)) in
+    let n : length front ≡ 8 * suc j =
+    length-append (binary 4 c) (bitsOf (take j p) ++ binary 4 (x / 16))
+    ∙ ap₂ (λ (u v : ℕ). u + v) (length-binary 4 c)
+    (length-append (bitsOf (take j p)) (binary 4 (x / 16))
+    ∙ ap₂ (λ (u v : ℕ). u + v) (length-bitsOf (take j p) ∙ ap (λ (u : ℕ). 8 * u) (length-take-le j p (le-of-lt h))) (length-binary 4 (x / 16)))
+    ∙ omega arith in
+    ap (λ (l : Bits). drop (8 * suc j) (binary 4 c ++ l)) e
+    ∙ ap (drop (8 * suc j)) (sym (append-assoc (binary 4 c) (bitsOf (take j p) ++ binary 4 (x / 16)) (binary 4 x)))
+    ∙ drop-at front (binary 4 x) (8 * suc j) n
+
+-- ---- a packed block taken apart
+
+head-parts : (x y z : ℕ) (r : List ℕ) → take 20 (bitsOf (x ∷ y ∷ z ∷ r)) ≡ binary 4 (x / 16) ++ (binary 4 x ++ (binary 8 y ++ binary 4 (z / 16)))
+unfolding binary bitsOf
+head-parts x y z r =
+    ap₂ (λ (a c : Bits). take 20 (a ++ (binary 8 y ++ (c ++ bitsOf r)))) (binary-split 4 4 x) (binary-split 4 4 z)
+
+-- its service bits and data, and its check bits
+pub block-parts : (m : ℕ) (s : List ℕ) → m + 3 ≤ length s
+    → take (8 * m + 20) (bitsOf s)
+    ≡ (bitsOf (take m s) ++ binary 4 (getD s m 0 / 16)) ++ (binary 4 (getD s m 0) ++ (binary 8 (getD s (m + 1) 0) ++ binary 4 (getD s (m + 2) 0 / 16)))
+block-parts m s h =
+    let x : ℕ = getD s m 0 in
+    let y : ℕ = getD s (m + 1) 0 in
+    let z : ℕ = getD s (m + 2) 0 in
+    let b : m + 1 < length s = omega arith in
+    let c : m + 2 < length s = omega arith in
+    let e : drop m s ≡ x ∷ y ∷ z ∷ drop (m + 3) s =
+    drop-cons s m 0 (omega arith)
+    ∙ ap (λ (l : List ℕ). x ∷ l) (ap (λ (n : ℕ). drop n s) (sym (add-one m)) ∙ drop-cons s (m + 1) 0 b)
+    ∙ ap (λ (l : List ℕ). x ∷ y ∷ l) (ap (λ (n : ℕ). drop n s) (sym (add-suc m 1)) ∙ drop-cons s (m + 2) 0 c)
+    ∙ ap (λ (n : ℕ). x ∷ y ∷ z ∷ drop n s) (sym (add-suc m 2)) in
+    take-add (8 * m) 20 (bitsOf s)
+    ∙ ap₂ (λ (l t : Bits). l ++ take 20 t) (take-bitsOf m s) (drop-bitsOf m s ∙ ap bitsOf e)
+    ∙ ap (λ (l : Bits). bitsOf (take m s) ++ l) (head-parts x y z (drop (m + 3) s))
+    ∙ sym (append-assoc (bitsOf (take m s)) (binary 4 (x / 16)) (binary 4 x ++ (binary 8 y ++ binary 4 (z / 16))))
+
+pub service-first : (s : List ℕ) → 0 < length s → take 4 (bitsOf s) ≡ binary 4 (getD s 0 0 / 16)
+unfolding binary bitsOf
+service-first [] h = absurd (omega arith)
+service-first (x ∷ s) h = ap (λ (l : Bits). take 4 (l ++ bitsOf s)) (binary-split 4 4 x)
+
+-- ---- the last three bytes of a block: four data bits, the check, four spare bits
+
+last-half : (c : ℕ) → bytesOf 1 (binary 4 c) ≡ (c % 16 * 16) ∷ []
+unfolding binary bytesOf
+last-half c =
+    sym (bytesOf-zeros 1 (binary 4 c) 4)
+    ∙ ap (λ (l : Bits). bytesOf 1 (l ++ zeros 4)) (sym (binary-mod 4 c))
+    ∙ halves-first 0 (c % 16) 0 [] (omega arith) (omega arith)
+    ∙ ap (λ (x : ℕ). x ∷ []) (omega arith)
+
+pub check-bytes : (x c : ℕ) → c < 2 ^ 16
+    → bytesOf 3 (binary 4 x ++ binary 16 c)
+    ≡ bitOr ((x * 2 ^ 4) % 2 ^ 8) (c / 2 ^ 12) ∷ bitAnd (c / 2 ^ 4) 255 ∷ (bitAnd c 15 * 2 ^ 4) % 2 ^ 8 ∷ []
+check-bytes x c h =
+    let e : (bitAnd c 15 * 2 ^ 4) % 2 ^ 8 ≡ c % 16 * 16 = rw (and-mask c 4) (omega arith) in
+    let g : c / 4096 < 16 = omega arith in
+    ap (bytesOf 3) (ap₂ (λ (l t : Bits). l ++ t) (sym (binary-mod 4 x)) (binary-split 4 12 c))
+    ∙ halves-first 2 (x % 16) (c / 4096) (binary 12 c) (omega arith) (omega arith)
+    ∙ ap (λ (l : List ℕ). (x % 16 * 16 + c / 4096) ∷ l)
+    (ap (bytesOf 2) (binary-split 8 4 c ∙ ap (λ (l : Bits). l ++ binary 4 c) (sym (binary-mod 8 (c / 16))))
+    ∙ byte-first 1 (c / 16 % 256) (binary 4 c) (omega arith)
+    ∙ ap (λ (l : List ℕ). (c / 16 % 256) ∷ l) (last-half c))
+    ∙ rw (joined x (c / 4096), and-mask (c / 16) 8, e)
+
+-- three stores in a row
+pub three-stores : (l : List ℕ) (m a b c : ℕ) → m + 3 ≤ length l
+    → set (set (set l m a) (m + 1) b) (m + 2) c ≡ take m l ++ ((a ∷ b ∷ c ∷ []) ++ drop (m + 3) l)
+three-stores l m a b c h =
+    rw (add-one, add-two) (sets-eq (a ∷ b ∷ c ∷ []) l m h ∙ append-assoc (take m l) (a ∷ b ∷ c ∷ []) (drop (m + 3) l))

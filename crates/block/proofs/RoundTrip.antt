@@ -1,0 +1,151 @@
+-- Reading what building wrote gives the service bits and the data back. Assumes nothing.
+use mathlib.Core.Path.{_≡_, refl, sym, ap, ap₂, subst, _∙_}
+use mathlib.Core.Bool.{Bool, true, false, not, _||_}
+use mathlib.Core.List.{List, [], _∷_, _++_, append-assoc}
+use Prim.Native.Nat.{ℕ, zero, suc, _+_, _-_, _*_, _/_, _≤_, _<_}
+use native.Mathlib.Omega.{arith}
+use borrow.Author.Tests.{not-false, ltb-false}
+use lib.Dec.{ltb, lit<}
+use lib.ListN.{length, getD, take, drop, length-append, length-drop, replicate}
+use lib.Seq.{take-at, take-append-le, drop-append-le, length-take-le}
+use Rattle.crc.specs.Bits.{Bits, zeros, binary, number, bitsOf, bytesOf}
+use Rattle.crc.specs.Check.{passes}
+use Rattle.crc.proofs.Rows.{length-binary, number-binary}
+use Rattle.crc.proofs.Bytes.{length-bitsOf, bitsOf-append, take-bitsOf, length-bytesOf, bitsOf-bytesOf, bytesOf-bitsOf}
+use Rattle.block.specs.Answer as A
+use Rattle.block.specs.Answer.{Answer, refused, done, refuseIf}
+use Rattle.block.specs.Lengths.{isLength, blockLength, payloadBytes, blockBytes}
+use Rattle.block.specs.Block.{blockBits, serviceOf, payloadOf, Verdict, passed, failed, verdict}
+use Rattle.block.specs.Calls.{tooShort, overwritten, buildBlock, builtBytes, BuildBlock, readAnswer, readBlock, readBytes, ReadBlock}
+use Rattle.block.specs.declared.Built.the-variants as B
+use Rattle.block.specs.declared.Read.{Read}
+use Rattle.block.specs.declared.Read.the-variants as R
+use Rattle.block.proofs.Lengths.{length-facts, length-bytes}
+use Rattle.block.proofs.Block.{length-blockBits, passes-blockBits, service-blockBits, payload-blockBits}
+use Rattle.block.proofs.Refusals.{read-done}
+
+-- a part of bytes is bytes
+take-lt : (n : ℕ) (s : List ℕ) → ((i : ℕ) → getD s i 0 < 256) → (i : ℕ) → getD (take n s) i 0 < 256
+take-lt zero s b i = lit< tt
+take-lt (suc n) [] b i = b i
+take-lt (suc n) (x ∷ s) b zero = b 0
+take-lt (suc n) (x ∷ s) b (suc i) = take-lt n s (λ j. b (suc j)) i
+
+module _ (k service : ℕ) (payload slice room : List ℕ) (known : isLength k ≡ true) (small : service ≤ 15)
+    (held : k ≤ 8 * length payload) (wide : blockLength k ≤ 8 * length slice) (space : k ≤ 8 * length room) where
+  -- the block's bits, and the slice that holds them
+  abbrev row : Bits
+  row = blockBits (binary 4 service) (take k (bitsOf payload))
+
+  abbrev written : List ℕ
+  written = builtBytes k service payload slice (done tt)
+
+  length-data : length (take k (bitsOf payload)) ≡ k
+  length-data = length-take-le k (bitsOf payload) (omega (arith, length-bitsOf payload))
+
+  length-row : length row ≡ blockLength k
+  length-row =
+      length-blockBits (binary 4 service) (take k (bitsOf payload))
+      ∙ ap₂ (λ (x y : ℕ). x + y + 16) (length-binary 4 service) length-data ∙ omega arith
+
+  length-written : length written ≡ length slice
+  length-written =
+      let f = length-facts k known in
+      length-append (bytesOf (blockBytes k) row) (drop (blockBytes k) slice)
+      ∙ ap₂ (λ (x y : ℕ). x + y) (length-bytesOf (blockBytes k) row) (length-drop (blockBytes k) slice) ∙ omega arith
+
+  -- what stands in the slice behind the block
+  abbrev behind : Bits
+  behind = zeros (8 * blockBytes k - length row) ++ bitsOf (drop (blockBytes k) slice)
+
+  bits-written : bitsOf written ≡ row ++ behind
+  bits-written =
+      let f = length-facts k known in
+      let n : length row ≤ 8 * blockBytes k = omega (arith, length-row) in
+      bitsOf-append (bytesOf (blockBytes k) row) (drop (blockBytes k) slice)
+      ∙ ap (λ (l : Bits). l ++ bitsOf (drop (blockBytes k) slice)) (bitsOf-bytesOf (blockBytes k) row n)
+      ∙ append-assoc row (zeros (8 * blockBytes k - length row)) (bitsOf (drop (blockBytes k) slice))
+
+  row-written : take (blockLength k) (bitsOf written) ≡ row
+  row-written = ap (take (blockLength k)) bits-written ∙ take-at row behind (blockLength k) length-row
+
+  verdict-row : verdict row ≡ passed service
+  unfolding verdict
+  verdict-row =
+      rw (passes-blockBits (binary 4 service) (take k (bitsOf payload)))
+      (ap passed
+      (ap number (service-blockBits (binary 4 service) (take k (bitsOf payload)) (length-binary 4 service))
+      ∙ number-binary 4 service (omega arith)))
+
+  -- the block passes, with its service bits
+  pub read-built : readBlock k (builtBytes k service payload slice (done tt)) room ≡ done (passed service)
+  read-built =
+      let f = length-facts k known in
+      read-done k written room known (omega (arith, length-written)) (omega arith)
+      ∙ ap (λ (l : Bits). done (verdict l)) row-written ∙ ap done verdict-row
+
+  payload-written : payloadOf k (bitsOf written) ≡ take k (bitsOf payload)
+  payload-written =
+      let n : 4 ≤ length row = omega (arith, length-row) in
+      let g : k ≤ length (drop 4 row) = omega (arith, length-row, length-drop 4 row) in
+      ap (payloadOf k) bits-written ∙ ap (take k) (drop-append-le 4 row behind n) ∙ take-append-le k (drop 4 row) behind g
+      ∙ payload-blockBits k (binary 4 service) (take k (bitsOf payload)) (length-binary 4 service) length-data
+
+  -- the data bits are those that were built in
+  pub data-built : readBytes k (builtBytes k service payload slice (done tt)) room (readBlock k (builtBytes k service payload slice (done tt)) room)
+      ≡ overwritten (payloadBytes k) (take k (bitsOf payload)) room
+  data-built =
+      ap (readBytes k written room) read-built ∙ ap (λ (l : Bits). overwritten (payloadBytes k) l room) payload-written
+
+  -- and, of bytes, the bytes
+  pub bytes-built : ((i : ℕ) → getD payload i 0 < 256)
+      → readBytes k (builtBytes k service payload slice (done tt)) room (readBlock k (builtBytes k service payload slice (done tt)) room)
+      ≡ take (payloadBytes k) payload ++ drop (payloadBytes k) room
+  bytes-built b =
+      let f = length-facts k known in
+      let m : ℕ = payloadBytes k in
+      let n : length (take m payload) ≡ m = length-take-le m payload (omega arith) in
+      let e : bytesOf m (take k (bitsOf payload)) ≡ take m payload =
+      ap (λ (x : ℕ). bytesOf m (take x (bitsOf payload))) (sym (length-bytes k known))
+      ∙ ap (bytesOf m) (take-bitsOf m payload)
+      ∙ ap (λ (x : ℕ). bytesOf x (bitsOf (take m payload))) (sym n)
+      ∙ bytesOf-bitsOf (take m payload) (take-lt m payload b) in
+      data-built ∙ ap (λ (l : List ℕ). l ++ drop m room) e
+
+-- ---- the same on the promises of the two calls
+
+or-false : (a b : Bool) → a || b ≡ false → (a ≡ false) × (b ≡ false)
+or-false true b h = absurd (let z : _≡_ {A = ℕ} 0 1 = cc in omega arith)
+or-false false b h = (refl, h)
+
+-- a call that is done passed its test
+pub refuseIf-done : {X : Type 0} (t : Bool) (n : ℕ) (next : Answer X) (x : X) → refuseIf t n next ≡ done x → (t ≡ false) × (next ≡ done x)
+refuseIf-done true n next x h = absurd (let z : _≡_ {A = ℕ} 0 1 = cc in omega arith)
+refuseIf-done false n next x h = (refl, h)
+
+passed-answer : (answer : Read) (s : ℕ) → readAnswer answer ≡ done (passed s) → answer ≡ R.Passed s
+passed-answer (R.Passed x) s h = cc
+passed-answer R.Failed s h = absurd (let z : _≡_ {A = ℕ} 0 1 = cc in omega arith)
+passed-answer (R.Refused n) s h = absurd (let z : _≡_ {A = ℕ} 0 1 = cc in omega arith)
+
+-- a block that was built is read with its service bits and its data, wherever the data have room
+pub built-read : (k service : ℕ) (payload slice slice′ room room′ : List ℕ) (answer : Read) → ((i : ℕ) → getD payload i 0 < 256)
+    → BuildBlock k service payload slice B.Done slice′ → ReadBlock k slice′ room answer room′ → k ≤ 8 * length room
+    → (answer ≡ R.Passed service) × (room′ ≡ take (payloadBytes k) payload ++ drop (payloadBytes k) room)
+unfolding buildBlock
+built-read k service payload slice slice′ room room′ answer b built read space =
+    let d : buildBlock k service payload slice ≡ done tt = sym (built .answers) in
+    let t1 = refuseIf-done (not (isLength k)) A.block _ tt d in
+    let t2 = refuseIf-done (ltb 15 service) A.spoiled _ tt (t1 .1) in
+    let t3 = refuseIf-done (tooShort payload k || tooShort slice (blockLength k)) A.short (done tt) tt (t2 .1) in
+    let t4 = or-false (tooShort payload k) (tooShort slice (blockLength k)) (t3 .0) in
+    let known : isLength k ≡ true = not-false (isLength k) (t1 .0) in
+    let small : service ≤ 15 = ltb-false 15 service (t2 .0) in
+    let held : k ≤ 8 * length payload = ltb-false (8 * length payload) k (t4 .0) in
+    let wide : blockLength k ≤ 8 * length slice = ltb-false (8 * length slice) (blockLength k) (t4 .1) in
+    let w : slice′ ≡ builtBytes k service payload slice (done tt) = built .writes ∙ ap (builtBytes k service payload slice) d in (
+      passed-answer answer service
+          (read .answers ∙ ap (λ (l : List ℕ). readBlock k l room) w ∙ read-built k service payload slice room known small held wide space),
+      read .writes ∙ ap (λ (l : List ℕ). readBytes k l room (readBlock k l room)) w
+          ∙ bytes-built k service payload slice room known small held wide space b,
+    )

@@ -1,0 +1,78 @@
+-- The theorems with hypotheses, each at a case that meets them: k = 240. Assumes nothing.
+use mathlib.Core.Path.{_≡_, refl, sym}
+use mathlib.Core.Bool.{true, false}
+use mathlib.Core.List.{List, [], _∷_, _++_}
+use mathlib.Core.Logic.{_↔_}
+use Prim.Native.Nat.{ℕ, zero, suc, _-_, _%_, _≤_, _<_}
+use native.Mathlib.Omega.{arith}
+use lib.Dec.{lit<, lit≤}
+use lib.ListN.{length, getD, take, drop, replicate}
+use Rattle.crc.specs.Bits.{Bits, zeros, binary, number, bitsOf, bytesOf, xorBits}
+use Rattle.crc.specs.Polynomial.{polynomial, Divides}
+use Rattle.crc.specs.Check.{remainder, passes}
+use Rattle.block.specs.Answer.{done}
+use Rattle.block.specs.Lengths.{isLength, blockLength}
+use Rattle.block.specs.Block.{passed, verdict, syncBlock, cancelled}
+use Rattle.block.specs.Calls.{buildBlock, builtBytes, BuildBlock, readBlock, ReadBlock}
+use Rattle.block.specs.declared.Built.the-variants as B
+use Rattle.block.specs.declared.Read.the-variants as R
+use Rattle.block.proofs.Lengths.{length-facts}
+use Rattle.block.proofs.Block.{length-syncBlock, sync-fails, cancelled-last}
+use Rattle.block.proofs.RoundTrip.{read-built, bytes-built, built-read}
+use Rattle.block.proofs.Passing.{passing}
+
+known : isLength 240 ≡ true
+unfolding isLength
+known = refl
+
+facts : (240 % 8 ≡ 0) × (240 ≤ 240) × (240 ≤ 3840)
+facts = length-facts 240 known
+
+length-sync : length (syncBlock 240) ≡ 260
+length-sync = length-syncBlock 240 known
+
+fails-sync : passes (syncBlock 240) ≡ false
+fails-sync = sync-fails 240 known
+
+last-of-sync : xorBits (cancelled (syncBlock 240)) (syncBlock 240) ≡ zeros (length (syncBlock 240) - 1) ++ true ∷ []
+last-of-sync = cancelled-last (syncBlock 240) (omega (arith, length-sync))
+
+-- thirty bytes of data, a slice for the block and room for the data read
+sample : List ℕ
+sample = replicate 30 0x41
+
+sample-lt : (n i : ℕ) → getD (replicate n 0x41) i 0 < 256
+sample-lt zero i = lit< tt
+sample-lt (suc n) zero = lit< tt
+sample-lt (suc n) (suc i) = sample-lt n i
+
+empty : ℕ → List ℕ
+empty n = replicate n 0
+
+read-back : readBlock 240 (builtBytes 240 5 sample (empty 33) (done tt)) (empty 30) ≡ done (passed 5)
+unfolding sample empty
+read-back = read-built 240 5 sample (empty 33) (empty 30) known (lit≤ tt) (lit≤ tt) (lit≤ tt) (lit≤ tt)
+
+built : BuildBlock 240 5 sample (empty 33) B.Done (builtBytes 240 5 sample (empty 33) (done tt))
+unfolding sample empty buildBlock isLength
+built = record { answers = refl; writes = refl }
+
+read : ReadBlock 240 (builtBytes 240 5 sample (empty 33) (done tt)) (empty 30) (R.Passed 5) sample
+unfolding sample empty
+read = record {
+  answers = sym read-back;
+  writes = sym (bytes-built 240 5 sample (empty 33) (empty 30) known (lit≤ tt) (lit≤ tt) (lit≤ tt) (lit≤ tt) (sample-lt 30));
+}
+
+built-and-read : (R.Passed 5 ≡ R.Passed 5) × (sample ≡ take 30 sample ++ drop 30 (empty 30))
+unfolding sample empty
+built-and-read = built-read 240 5 sample (empty 33) _ (empty 30) sample (R.Passed 5) (sample-lt 30) built read (lit≤ tt)
+
+-- a block that is read: all zeros, which passes
+zero-read : ReadBlock 240 (empty 33) (empty 30) (R.Passed 0) (empty 30)
+unfolding empty readBlock verdict isLength bitsOf bytesOf binary number passes remainder
+zero-read = record { answers = refl; writes = refl }
+
+zero-divides : Divides (polynomial (take 260 (bitsOf (empty 33))))
+zero-divides =
+    passing 240 (empty 33) (empty 30) (empty 30) (R.Passed 0) zero-read (λ n e. absurd (let z : _≡_ {A = ℕ} 0 1 = cc in omega arith)) .0 (0, refl)
