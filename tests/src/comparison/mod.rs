@@ -1,0 +1,100 @@
+//! Comparison of an implementation with the second one: a module for each group of cases.
+//!
+//! Every group stops at the first difference and describes the case; otherwise it counts what it
+//! has seen, so that a reader can tell that no kind of answer went untried.
+
+pub mod block;
+pub mod both_ends;
+pub mod lockstep;
+pub mod orders;
+pub mod receiver;
+pub mod sender;
+pub mod session;
+mod spoil;
+
+use crate::rng::Rng;
+use std::collections::BTreeMap;
+use std::fmt;
+
+/// A description of the case on which the two differ.
+pub type Difference = String;
+
+/// How often each kind of answer came.
+#[derive(Default)]
+pub struct Tally(BTreeMap<&'static str, usize>);
+
+impl Tally {
+    pub fn count(&mut self, kind: &'static str) {
+        *self.0.entry(kind).or_default() += 1;
+    }
+
+    pub fn of(&self, kind: &str) -> usize {
+        self.0.get(kind).copied().unwrap_or(0)
+    }
+
+    pub fn add(&mut self, other: &Tally) {
+        for (kind, number) in &other.0 {
+            *self.0.entry(kind).or_default() += number;
+        }
+    }
+}
+
+impl fmt::Display for Tally {
+    fn fmt(&self, f: &mut fmt::Formatter) -> fmt::Result {
+        let kinds: Vec<String> = self
+            .0
+            .iter()
+            .map(|(kind, number)| format!("{kind} {number}"))
+            .collect();
+        f.write_str(&kinds.join(", "))
+    }
+}
+
+/// A slice to lend, with bytes before and behind it that no call may touch.
+#[derive(Clone, Debug, PartialEq, Eq)]
+pub struct Lent {
+    bytes: Vec<u8>,
+}
+
+const GUARD: usize = 8;
+
+impl Lent {
+    pub fn random(rng: &mut Rng, length: usize) -> Lent {
+        let bytes = rng.bytes(length + 2 * GUARD);
+        Lent { bytes }
+    }
+
+    /// Every byte the same, guards included: cheap, for long slices.
+    pub fn filled(byte: u8, length: usize) -> Lent {
+        let bytes = vec![byte; length + 2 * GUARD];
+        Lent { bytes }
+    }
+
+    pub fn slice(&self) -> &[u8] {
+        &self.bytes[GUARD..self.bytes.len() - GUARD]
+    }
+
+    pub fn slice_mut(&mut self) -> &mut [u8] {
+        let end = self.bytes.len() - GUARD;
+        &mut self.bytes[GUARD..end]
+    }
+}
+
+/// An error unless what was expected is what came; `case` describes the call.
+pub fn same<T: PartialEq + fmt::Debug>(
+    case: &dyn Fn() -> String,
+    expected: &T,
+    got: &T,
+) -> Result<(), Difference> {
+    if expected == got {
+        return Ok(());
+    }
+    let case = case();
+    Err(format!(
+        "{case}\n  expected {expected:x?}\n  but got  {got:x?}"
+    ))
+}
+
+pub fn hex(bytes: &[u8]) -> String {
+    bytes.iter().map(|byte| format!("{byte:02x}")).collect()
+}

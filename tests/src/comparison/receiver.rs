@@ -1,0 +1,229 @@
+//! Single receiving calls on states of every kind: each rule at each edge, a search at each point
+//! of the sequence, and states out of range.
+
+use super::block::REFUSED_LENGTHS;
+use super::both_ends::event_kind;
+use super::lockstep::{Lockstep, Twin};
+use super::sender::refused_word;
+use super::{spoil, Difference, Lent, Tally};
+use crate::calls::ReceivingEnd;
+use crate::damage::{invert, Damage};
+use crate::reference::bits::{bits_of, pack, set_bit, unpack, Bits};
+use crate::reference::block::{assemble, block_bits, cancel, synchronising_block};
+use crate::reference::block::{END, LENGTHS, SEQUENCE};
+use crate::reference::order::{end_payload, letter, LONGEST, MOST_ITEMS};
+use crate::reference::receiver::{self, Alarm, Received, Receiver};
+use crate::rng::Rng;
+
+/// Runs the whole group.
+pub fn compare(tested: &impl ReceivingEnd, seed: u64, cases: usize) -> Result<Tally, Difference> {
+    let ends = Lockstep {
+        sending: &(),
+        receiving: tested,
+    };
+    let mut tally = Tally::default();
+    for k in LENGTHS.into_iter().chain(REFUSED_LENGTHS) {
+        tally.count(match ends.open_receiver(k)? {
+            Ok(_) => "opened",
+            Err(_) => "opening refused",
+        });
+    }
+    for number in 0..cases {
+        let mut case = Case::random(Rng::for_case(seed, number));
+        let received = case.call(&ends);
+        let received = received.map_err(|difference| format!("case {number}: {difference}"))?;
+        tally.count(match received {
+            Received::Heard { event, .. } => event_kind(event),
+            Received::Refused(number) => refused_word(number),
+        });
+    }
+    Ok(tally)
+}
+
+/// A state, and the bits that come next on the line.
+struct Case {
+    rng: Rng,
+    state: Receiver,
+    line: Bits,
+}
+
+impl Case {
+    fn random(mut rng: Rng) -> Case {
+        let k = rng.pick(&[240, 240, 240, 480, 480, 960, 3840]);
+        let mut state = receiver::open(k).expect("one of the four");
+        state.taken = taken(&mut rng);
+        state.row = rng.pick(&[0, 0, 1, 6, 7, 7]);
+        state.return_bit = rng.bit();
+        state.end_taken = rng.chance(25);
+        state.alarm = match rng.below(20) {
+            0 => Some(Alarm::Sequence),
+            1 => Some(Alarm::Length),
+            _ => None,
+        };
+        rng.fill(&mut state.array);
+        state.search = rng.chance(25);
+        let coming = match state.search {
+            true => near_sequence(&mut rng),
+            false => block(&mut rng, &state),
+        };
+        let most = if state.search { 15 } else { block_bits(k) - 1 };
+        hold(&mut rng, &mut state, &coming, most);
+        let mut line = coming[state.held..].to_vec();
+        let garbage = rng.bytes(12);
+        line.extend(unpack(&garbage, 0, 96));
+        if rng.chance(10) {
+            state = spoil::receiver(&mut rng, &state);
+        }
+        Case { rng, state, line }
+    }
+
+    /// One call with some number of bits, a line of some length and some part of the store.
+    fn call<R: ReceivingEnd>(&mut self, ends: &Lockstep<(), R>) -> Result<Received, Difference> {
+        let rng = &mut self.rng;
+        let whole = self.line.len() - 96;
+        let bits = match rng.below(12) {
+            0 => 0,
+            1 => 1,
+            2 => whole - 1,
+            3 => rng.below(self.line.len() + 1),
+            4 => self.line.len(),
+            5 => rng.pick(&[self.line.len() + 8, usize::MAX]),
+            _ => whole,
+        };
+        let mut line = pack(&self.line);
+        match rng.below(10) {
+            0 => line.truncate(bits.div_ceil(8).saturating_sub(1)),
+            1 => line.truncate(bits.div_ceil(8)),
+            _ => {}
+        }
+        let k = self.state.k.min(3840);
+        let right = (self.state.taken.min(MOST_ITEMS) + 1) * k / 8;
+        let byte = rng.below(256) as u8;
+        let mut store = Twin::new(Lent::filled(byte, right + 3));
+        let short = right.saturating_sub(1);
+        let lent = rng.pick(&[right, right, right, right, right, right + 3, short, 0]);
+        let (_, received) = ends.receive(&self.state, &line, bits, &mut store, lent)?;
+        Ok(received)
+    }
+}
+
+/// r: small, near the most, or between. Seldom large, since the store is as long.
+fn taken(rng: &mut Rng) -> usize {
+    match rng.below(10) {
+        0 => rng.pick(&[MOST_ITEMS - 1, MOST_ITEMS, MOST_ITEMS - 2]),
+        1 => rng.below(MOST_ITEMS),
+        2..=4 => 0,
+        _ => rng.between(1, 7),
+    }
+}
+
+/// Makes the state hold the first of the coming bits, and garbage behind them.
+fn hold(rng: &mut Rng, state: &mut Receiver, coming: &[bool], most: usize) {
+    let most = most.min(coming.len() - 1);
+    state.held = match rng.below(4) {
+        0 => 0,
+        1 => most,
+        _ => rng.between(0, most),
+    };
+    for (i, &bit) in coming[..state.held].iter().enumerate() {
+        set_bit(&mut state.array, i, bit);
+    }
+}
+
+/// Bits in which the sequence may be found, once, twice or never. Its last fifteen bits alone
+/// are not enough: all sixteen must come since the search began.
+fn near_sequence(rng: &mut Rng) -> Bits {
+    if rng.chance(15) {
+        return bits_of(SEQUENCE, 15);
+    }
+    let before = rng.bytes(8);
+    let count = rng.below(60);
+    let mut bits = unpack(&before, 0, count);
+    let mut sequence = bits_of(SEQUENCE, 16);
+    if rng.chance(30) {
+        let place = rng.below(16);
+        sequence[place] ^= true;
+    }
+    bits.extend(&sequence);
+    if rng.chance(30) {
+        bits.extend(bits_of(SEQUENCE, 16));
+    }
+    bits
+}
+
+/// A whole block that some rule is about, now and then damaged.
+fn block(rng: &mut Rng, state: &Receiver) -> Bits {
+    let (k, taken) = (state.k, state.taken);
+    let data = rng.bytes(k / 8);
+    let payload = unpack(&data, 0, k);
+    let mut bits = match rng.below(12) {
+        0 => synchronising_block(k),
+        1 => assemble(rng.below(16) as u8, &payload),
+        2..=4 => assemble(END, &end_data(rng, k, taken)),
+        _ => assemble(letter(rng.between(taken, taken + 2)), &payload),
+    };
+    match rng.below(10) {
+        0 => cancel(&mut bits),
+        1 => invert(&mut bits, &Damage::Burst.pattern(rng, k + 20)),
+        2 => invert(&mut bits, &Damage::Undetected.pattern(rng, k + 20)),
+        _ => {}
+    }
+    bits
+}
+
+/// An end block's data: a length that makes r items, or one at or across a border.
+fn end_data(rng: &mut Rng, k: usize, taken: usize) -> Bits {
+    let last = taken * k;
+    let first = last.saturating_sub(k);
+    let within = rng.between(first, last);
+    let choices = [
+        within,
+        within,
+        within,
+        first,
+        first + 1,
+        last,
+        last + 1,
+        0,
+        1,
+        LONGEST,
+        LONGEST + 1,
+        u32::MAX as usize,
+    ];
+    let mut payload = end_payload(k, rng.pick(&choices));
+    if rng.chance(10) {
+        let place = rng.below(8);
+        payload[place] ^= true;
+    }
+    if rng.chance(10) {
+        payload[k - 1] = true;
+    }
+    payload
+}
+
+#[cfg(test)]
+mod tests {
+    use super::*;
+    use crate::calls::TableDriven;
+
+    #[test]
+    fn the_table_driven_receiver_agrees() {
+        let tally =
+            compare(&TableDriven, 8, 20_000).unwrap_or_else(|difference| panic!("{difference}"));
+        let kinds = [
+            "none",
+            "sync",
+            "bad",
+            "accepted",
+            "previous",
+            "ended",
+            "sequence alarm",
+            "length alarm",
+            "refused 6",
+            "refused 7",
+        ];
+        for kind in kinds {
+            assert!(tally.of(kind) > 100, "{kind}: {tally}");
+        }
+    }
+}

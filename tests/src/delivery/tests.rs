@@ -1,0 +1,175 @@
+//! That each supposition can break and each claim can fail.
+
+use super::*;
+use crate::reference::bits::unpack;
+use crate::reference::receiver;
+use crate::reference::sender;
+
+const K: usize = 240;
+const N: usize = 260;
+
+/// Both ends, with the list of their calls so far.
+struct Ends {
+    order: Vec<u8>,
+    sender: Sender,
+    receiver: Receiver,
+    store: Vec<u8>,
+    list: Delivery,
+}
+
+impl Ends {
+    fn open(items: usize) -> Ends {
+        let order: Vec<u8> = (0..items * K / 8).map(|i| i as u8).collect();
+        let store = vec![0xEE; order.len()];
+        Ends {
+            sender: sender::open(K, 200, 0, 8 * order.len(), &order).unwrap(),
+            receiver: receiver::open(K).unwrap(),
+            list: Delivery::new(K, 8 * order.len(), &order, &store),
+            order,
+            store,
+        }
+    }
+
+    /// A sending call with this reading, its block damaged in these places.
+    fn send(&mut self, reading: u8, damage: &[usize]) -> (Bits, Result<(), Failure>) {
+        let reading = reading == 1;
+        let mut packed = vec![0; block_bytes(K)];
+        let before = self.sender.clone();
+        let (after, sent) = before.clone().send(&self.order, reading, &mut packed);
+        let block = unpack(&packed, 0, N);
+        let mut arrives = block.clone();
+        for &place in damage {
+            arrives[place] ^= true;
+        }
+        let held = self.list.sent(&Sending {
+            before: &before,
+            after: &after,
+            sent,
+            order_bytes: self.order.len(),
+            block_bytes: packed.len(),
+            reading,
+            receiver: &self.receiver,
+            block: &block,
+            arrives: &arrives,
+        });
+        self.sender = after;
+        (arrives, held)
+    }
+
+    /// A whole period.
+    fn period(&mut self, reading: u8, damage: &[usize]) -> Result<(), Failure> {
+        let (arrives, held) = self.send(reading, damage);
+        held?;
+        let receiver = self.receiver.clone();
+        let (receiver, received) = receiver.receive(&pack(&arrives), N, &mut self.store);
+        self.receiver = receiver;
+        self.report(received)
+    }
+
+    /// A period in which the machine says something of its own.
+    fn pretend(&mut self, reading: u8, event: Event) -> Result<(), Failure> {
+        self.send(reading, &[]).1?;
+        self.report(Received::Heard { event, used: N })
+    }
+
+    fn report(&mut self, received: Received) -> Result<(), Failure> {
+        self.list.received(&Receiving {
+            received,
+            bits: N,
+            line_bytes: block_bytes(K),
+            store: &self.store,
+        })
+    }
+}
+
+#[test]
+fn two_losses_with_no_good_block_between_break_that_clause() {
+    let mut ends = Ends::open(5);
+    let script: [(u8, &[usize]); 4] = [(1, &[]), (0, &[]), (0, &[0]), (0, &[0])];
+    for (reading, damage) in script {
+        ends.period(reading, damage).unwrap();
+        assert_eq!(ends.list.broken(), None);
+    }
+    ends.period(0, &[]).unwrap();
+    assert_eq!(ends.list.broken(), Some(Supposition::GoodBlock));
+    assert_eq!(ends.list.lost(), 2);
+}
+
+#[test]
+fn suppositions_on_damage() {
+    let broken = |reading, damage: &[usize]| {
+        let mut ends = Ends::open(5);
+        ends.period(1, &[]).unwrap();
+        ends.period(0, &[]).unwrap();
+        ends.send(reading, damage).1.unwrap();
+        ends.list.broken()
+    };
+    assert_eq!((broken(0, &[]), broken(1, &[])), (None, None));
+    assert_eq!(broken(0, &[3, 18]), None);
+    assert_eq!(broken(0, &[3, 19]), Some(Supposition::Damage));
+    assert_eq!(broken(1, &[N - 1]), Some(Supposition::CancelledWhole));
+    assert_eq!(broken(1, &[N - 16]), None);
+    assert_eq!(broken(1, &[N - 17]), Some(Supposition::Damage));
+}
+
+#[test]
+fn false_reports_fail_their_claims() {
+    let fails = |event| {
+        let mut ends = Ends::open(2);
+        ends.period(1, &[]).unwrap();
+        ends.pretend(0, event).unwrap_err()
+    };
+    assert!(fails(Event::Accepted).contains("beginning of the order"));
+    assert!(fails(Event::Ended(480)).contains("r is N"));
+    assert!(fails(Event::SequenceAlarm).contains("request was lost"));
+    assert!(fails(Event::LengthAlarm).contains("request was lost"));
+}
+
+#[test]
+fn a_touched_store_fails_its_claim() {
+    let mut ends = Ends::open(2);
+    ends.period(1, &[]).unwrap();
+    ends.store[59] = 0;
+    let failure = ends.period(0, &[]).unwrap_err();
+    assert!(failure.contains("as first lent"), "{failure}");
+}
+
+#[test]
+fn a_machine_that_never_accepts_fails_after_six_periods() {
+    let mut ends = Ends::open(2);
+    for _ in 0..5 {
+        ends.pretend(1, Event::None).unwrap();
+    }
+    let failure = ends.pretend(1, Event::None).unwrap_err();
+    assert!(failure.contains("six undisturbed"), "{failure}");
+}
+
+#[test]
+fn a_finished_sender_without_the_end_fails() {
+    let mut ends = Ends::open(1);
+    ends.period(1, &[]).unwrap();
+    ends.period(0, &[]).unwrap();
+    ends.pretend(0, Event::Bad).unwrap();
+    let failure = ends.pretend(0, Event::Bad).unwrap_err();
+    assert!(failure.contains("reported the end"), "{failure}");
+}
+
+#[test]
+fn refusals_are_for_short_slices_alone() {
+    let mut ends = Ends::open(1);
+    let failure = ends.report(Received::Refused(7)).unwrap_err();
+    assert!(failure.contains("short slice"), "{failure}");
+    ends.sender.run = 70;
+    assert!(ends.send(0, &[]).1.is_err());
+}
+
+#[test]
+fn a_sync_inside_a_data_block_breaks_its_clause() {
+    let mut ends = Ends::open(2);
+    ends.period(1, &[]).unwrap();
+    ends.pretend(0, Event::Sync).unwrap();
+    assert_eq!(ends.list.broken(), Some(Supposition::OnlySynchronising));
+    let mut ends = Ends::open(2);
+    ends.pretend(1, Event::Previous).unwrap();
+    assert_eq!(ends.list.broken(), Some(Supposition::NeverData));
+}

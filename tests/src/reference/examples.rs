@@ -1,0 +1,163 @@
+//! Every example of document 01, run on the second implementation.
+
+use super::bits::{bits_of, number, pack, unpack};
+use super::block::{block_bytes, build_block, check_bits, passes, read_block, Read};
+use super::block::{cancel, synchronising_block, A, B, C, END, LENGTHS, SYNCHRONISING};
+use super::loop_time::{longest_loop, test_loop, SPEEDS};
+use super::order::{end_payload, item_block, items};
+use super::receiver::{self, Event, Received};
+use super::sender::{self, Sent};
+use super::session::run;
+
+#[test]
+fn check_words_of_four_service_bits_alone() {
+    let rows = [
+        (A, 0x3063),
+        (B, 0x9129),
+        (C, 0xC18C),
+        (SYNCHRONISING, 0x50A5),
+        (END, 0x8108),
+    ];
+    for (service, word) in rows {
+        let check = check_bits(&bits_of(usize::from(service), 4));
+        assert_eq!(number(&check), word, "service bits {service:04b}");
+    }
+}
+
+#[test]
+fn orders_make_their_items() {
+    let rows = [(1, 1), (240, 1), (241, 2), (262_144, 1_093)];
+    for (length, number) in rows {
+        assert_eq!(items(240, length), number, "L {length}");
+    }
+}
+
+#[test]
+fn loop_times_on_either_side() {
+    assert_eq!(test_loop(240, 1200, 127), Ok(()));
+    assert_eq!(test_loop(240, 1200, 128), Err(3));
+    assert_eq!(test_loop(240, 4800, 0), Err(3));
+}
+
+#[test]
+fn longest_loops_are_the_table_of_the_recommendation() {
+    let table = [
+        [Some(1210), Some(343), Some(127), Some(18), None, None],
+        [2410, 743, 327, 118, 49, 14].map(Some),
+        [4810, 1543, 727, 318, 182, 114].map(Some),
+        [19210, 6343, 3127, 1518, 982, 714].map(Some),
+    ];
+    for (k, row) in LENGTHS.into_iter().zip(table) {
+        for (speed, entry) in SPEEDS.into_iter().zip(row) {
+            assert_eq!(longest_loop(k, speed), entry, "k {k}, speed {speed}");
+        }
+    }
+}
+
+#[test]
+fn the_shortest_session() {
+    let expected = "\
+period sent read event back
+0 S - sync 0
+1 0 - accepted 0
+2 E 0 ended 0
+3 E 0 previous 0
+";
+    assert_eq!(text(run(b"240 8 a5\nt\nt\nt\nt\n")), expected);
+}
+
+#[test]
+fn a_lost_request_brings_the_sequence_alarm() {
+    let order = "00".repeat(31);
+    let input = format!("240 241 {order}\nt\nd\nf\n");
+    let expected = "\
+period sent read event back
+0 S - sync 0
+1 0 - bad 1
+2 1 0 sequence alarm 1
+";
+    assert_eq!(text(run(input.as_bytes())), expected);
+}
+
+/// "Why one good block between losses is needed".
+#[test]
+fn two_losses_with_no_good_block_between() {
+    let order: Vec<u8> = (1..=150).collect();
+    let mut sender = sender::open(240, 200, 0, 1200, &order).unwrap();
+    let mut receiver = receiver::open(240).unwrap();
+    let mut store = [0; 150];
+    let mut events = Vec::new();
+    // The reading and whether the block is damaged: S, 0, 1, then 2 and 3 on lost readings, 4.
+    let script = [(1, 0), (0, 0), (0, 1), (0, 1), (0, 0), (0, 0)];
+    for (reading, damaged) in script {
+        let mut block = [0; 33];
+        let (next, sent) = sender.send(&order, reading == 1, &mut block);
+        assert!(!matches!(sent, Sent::Refused(_)));
+        sender = next;
+        block[0] ^= damaged << 7;
+        let (next, received) = receiver.receive(&block, 260, &mut store);
+        receiver = next;
+        if let Received::Heard { event, used: 260 } = received {
+            events.push(event);
+        }
+    }
+    use Event::{Accepted, Bad, Previous, Sync};
+    let expected = [Sync, Accepted, Bad, Bad, Previous, Accepted];
+    assert_eq!(events, expected);
+    assert_eq!(store[..30], order[..30], "item 0 in its place");
+    assert_eq!(store[30..60], order[120..150], "item 4 stored as item 1");
+}
+
+#[test]
+fn blocks_read_back_and_cancelled_ones_fail() {
+    for k in LENGTHS {
+        let payload: Vec<u8> = (0..k / 8).map(|i| (7 * i + 3) as u8).collect();
+        let mut block = vec![0; block_bytes(k)];
+        assert_eq!(build_block(k, C, &payload, &mut block), Ok(()));
+        assert_eq!(block[k / 8 + 2] & 0x0F, 0, "spare bits are zero");
+        let mut back = vec![0; k / 8];
+        assert_eq!(read_block(k, &block, &mut back), Read::Passed(C));
+        assert_eq!(back, payload);
+        block[k / 8 + 2] ^= 0x10;
+        assert_eq!(read_block(k, &block, &mut back), Read::Failed);
+    }
+}
+
+/// "Wrong turnings": powers 16, 12 and 5 with the inverted last bit are the polynomial itself.
+#[test]
+fn sixteen_damaged_places_on_a_cancelled_block_can_pass() {
+    let mut block = item_block(240, 8, &[0xA5], 0);
+    cancel(&mut block);
+    assert!(!passes(&block));
+    for power in [16, 12, 5] {
+        let place = block.len() - 1 - power;
+        block[place] = !block[place];
+    }
+    assert!(passes(&block));
+}
+
+#[test]
+fn synchronising_and_end_blocks_as_written() {
+    let block = pack(&synchronising_block(240));
+    assert_eq!(block[..2], [0x5A, 0xAA]);
+    assert_eq!(block[29..], [0xAA, 0xA5, 0x0A, 0x50]);
+    for k in LENGTHS {
+        assert!(!passes(&synchronising_block(k)), "k {k}");
+    }
+    let end = pack(&end_payload(240, 0x12345));
+    assert_eq!(end[..6], [1, 0, 1, 0x23, 0x45, 0]);
+    assert_eq!(item_block(240, 8, &[0], 1), item_block(240, 8, &[0], 2));
+}
+
+#[test]
+fn filling_is_zero_behind_the_order() {
+    let item = item_block(240, 4, &[0xFF], 0);
+    let payload = pack(&item[4..244]);
+    assert_eq!(payload[0], 0xF0);
+    assert_eq!(payload[1..], [0; 29]);
+    assert_eq!(unpack(&[0xFF], 0, 4), [true; 4]);
+}
+
+fn text(output: Vec<u8>) -> String {
+    String::from_utf8(output).unwrap()
+}

@@ -1,0 +1,253 @@
+//! Document 01, "Receiving": opening a receiver and one receiving call, bit by bit.
+
+use super::bits::{bit_at, bits_of, number, pack, set_bit, unpack};
+use super::block::{block_bits, is_length, is_synchronising, passes};
+use super::block::{CHECK_BITS, END, SEQUENCE, SERVICE_BITS};
+use super::order::{end_fields, fits_end, is_letter, letter, MOST_ITEMS};
+use super::refusal::{Refusal, BLOCK, SHORT, SPOILED};
+
+/// The bytes that hold one unfinished block, at most 3,860 bits.
+pub const HOLD_BYTES: usize = 483;
+/// The *bad* in a row that starts a search.
+pub const BAD_ROW: usize = 8;
+
+#[derive(Clone, Copy, Debug, PartialEq, Eq)]
+pub enum Alarm {
+    Sequence,
+    Length,
+}
+
+/// A receiver's state.
+#[derive(Clone, Debug, PartialEq, Eq)]
+pub struct Receiver {
+    pub k: usize,
+    pub search: bool,
+    /// The bits held come first in the array.
+    pub array: [u8; HOLD_BYTES],
+    pub held: usize,
+    /// The number of *bad* in a row.
+    pub row: usize,
+    pub return_bit: bool,
+    /// r, the number of items taken so far.
+    pub taken: usize,
+    pub end_taken: bool,
+    pub alarm: Option<Alarm>,
+}
+
+#[derive(Clone, Copy, Debug, PartialEq, Eq)]
+pub enum Event {
+    None,
+    Sync,
+    Bad,
+    Accepted,
+    Previous,
+    /// The end, with the L reported.
+    Ended(usize),
+    SequenceAlarm,
+    LengthAlarm,
+}
+
+/// What a receiving call answers.
+#[derive(Clone, Copy, Debug, PartialEq, Eq)]
+pub enum Received {
+    Heard { event: Event, used: usize },
+    Refused(Refusal),
+}
+
+/// Opens a receiver, which takes k alone.
+pub fn open(k: usize) -> Result<Receiver, Refusal> {
+    if !is_length(k) {
+        return Err(BLOCK);
+    }
+    Ok(Receiver {
+        k,
+        search: true,
+        array: [0; HOLD_BYTES],
+        held: 0,
+        row: 0,
+        return_bit: true,
+        taken: 0,
+        end_taken: false,
+        alarm: None,
+    })
+}
+
+impl Receiver {
+    /// Takes in line bits up to the next event or to the last; refusals in the order 7, 6.
+    pub fn receive(self, line: &[u8], bits: usize, store: &mut [u8]) -> (Receiver, Received) {
+        if self.is_spoiled() {
+            return (self, Received::Refused(SPOILED));
+        }
+        if 8 * line.len() < bits {
+            return (self, Received::Refused(SHORT));
+        }
+        if bits == 0 || self.alarm.is_some() {
+            return self.stand(bits);
+        }
+        let mut state = self.clone();
+        for i in 0..bits {
+            match state.take_bit(bit_at(line, i), store) {
+                Ok(Event::None) => {}
+                Ok(event) => return (state, Received::Heard { event, used: i + 1 }),
+                Err(refusal) => return (self, Received::Refused(refusal)),
+            }
+        }
+        let event = Event::None;
+        (state, Received::Heard { event, used: bits })
+    }
+
+    fn is_spoiled(&self) -> bool {
+        !is_length(self.k)
+            || self.row >= BAD_ROW
+            || self.held >= block_bits(self.k)
+            || (self.search && self.held >= CHECK_BITS)
+            || self.taken > MOST_ITEMS
+    }
+
+    /// No bits, or a standing alarm, under which all bits are used and the return bit is 1.
+    fn stand(mut self, bits: usize) -> (Receiver, Received) {
+        let event = match self.alarm {
+            None => Event::None,
+            Some(Alarm::Sequence) => Event::SequenceAlarm,
+            Some(Alarm::Length) => Event::LengthAlarm,
+        };
+        if bits > 0 {
+            self.return_bit = true;
+            self.row = 0;
+        }
+        (self, Received::Heard { event, used: bits })
+    }
+
+    /// One bit, with no alarm standing. A refusal leaves a state that is given up.
+    fn take_bit(&mut self, bit: bool, store: &mut [u8]) -> Result<Event, Refusal> {
+        if self.search {
+            return Ok(self.search_bit(bit));
+        }
+        set_bit(&mut self.array, self.held, bit);
+        self.held += 1;
+        if self.held < block_bits(self.k) {
+            return Ok(Event::None);
+        }
+        self.read(store)
+    }
+
+    /// *Search:* the latest bits, at most 15, are held at the array's start, zero behind them.
+    fn search_bit(&mut self, bit: bool) -> Event {
+        let mut latest = unpack(&self.array, 0, self.held);
+        latest.push(bit);
+        if latest == bits_of(SEQUENCE, CHECK_BITS) {
+            return self.synchronise();
+        }
+        if latest.len() == CHECK_BITS {
+            latest.remove(0);
+        }
+        self.held = latest.len();
+        latest.resize(CHECK_BITS, false);
+        self.array[..2].copy_from_slice(&pack(&latest));
+        self.return_bit = true;
+        Event::None
+    }
+
+    /// *In step,* at the n-th bit: rules 1 to 7.
+    fn read(&mut self, store: &mut [u8]) -> Result<Event, Refusal> {
+        let block = unpack(&self.array, 0, block_bits(self.k));
+        let service = number(&block[..SERVICE_BITS]) as u8;
+        let payload = &block[SERVICE_BITS..SERVICE_BITS + self.k];
+        let next = self.taken < MOST_ITEMS && !self.end_taken;
+        let again = self.taken >= 1 && !self.end_taken;
+        Ok(if is_synchronising(&block) {
+            self.synchronise()
+        } else if !passes(&block) {
+            self.bad()
+        } else if next && service == letter(self.taken) {
+            return self.accept(payload, store);
+        } else if again && service == letter(self.taken - 1) {
+            self.calm(Event::Previous)
+        } else if service == letter(self.taken + 1) || self.end_taken && is_letter(service) {
+            self.raise(Alarm::Sequence, Event::SequenceAlarm)
+        } else if service == END {
+            self.end(payload)
+        } else {
+            self.other()
+        })
+    }
+
+    /// Rule 1, and the end of a search.
+    fn synchronise(&mut self) -> Event {
+        self.search = false;
+        self.calm(Event::Sync)
+    }
+
+    /// Rule 2, and the first half of rule 7.
+    fn bad(&mut self) -> Event {
+        self.forget();
+        self.return_bit = true;
+        self.row += 1;
+        if self.row == BAD_ROW {
+            self.start_search();
+        }
+        Event::Bad
+    }
+
+    /// Rule 3. The store is judged here and nowhere else.
+    fn accept(&mut self, payload: &[bool], store: &mut [u8]) -> Result<Event, Refusal> {
+        let first = self.taken * self.k;
+        if 8 * store.len() < first + self.k {
+            return Err(SHORT);
+        }
+        for (i, &bit) in payload.iter().enumerate() {
+            set_bit(store, first + i, bit);
+        }
+        self.taken += 1;
+        Ok(self.calm(Event::Accepted))
+    }
+
+    /// Rule 6.
+    fn end(&mut self, payload: &[bool]) -> Event {
+        if self.end_taken {
+            return self.calm(Event::Previous);
+        }
+        let (version, length) = end_fields(payload);
+        if !fits_end(self.k, version, length, self.taken) {
+            return self.raise(Alarm::Length, Event::LengthAlarm);
+        }
+        self.end_taken = true;
+        self.calm(Event::Ended(length))
+    }
+
+    /// Rule 7.
+    fn other(&mut self) -> Event {
+        let event = self.bad();
+        if self.taken == 0 {
+            self.start_search();
+        }
+        event
+    }
+
+    fn start_search(&mut self) {
+        self.search = true;
+        self.row = 0;
+    }
+
+    /// An event with return bit 0.
+    fn calm(&mut self, event: Event) -> Event {
+        self.forget();
+        self.row = 0;
+        self.return_bit = false;
+        event
+    }
+
+    fn raise(&mut self, alarm: Alarm, event: Event) -> Event {
+        self.forget();
+        self.row = 0;
+        self.return_bit = true;
+        self.alarm = Some(alarm);
+        event
+    }
+
+    /// The block is read: nothing is held.
+    fn forget(&mut self) {
+        self.array = [0; HOLD_BYTES];
+        self.held = 0;
+    }
+}

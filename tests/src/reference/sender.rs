@@ -1,0 +1,175 @@
+//! Document 01, "Sending": opening a sender and one sending call.
+
+use super::bits::pack;
+use super::block::{block_bytes, cancel, is_length, synchronising_block};
+use super::loop_time::test_loop;
+use super::order::{is_order_length, item_block, items, LONGEST};
+use super::refusal::{Refusal, EMPTY, LONG, REST, SHORT, SPOILED};
+
+/// The run of cancels at which the sender gives up.
+pub const GIVE_UP: usize = 64;
+/// The run of cancels from which on a synchronising block comes next.
+pub const RESYNCHRONISE: usize = 4;
+
+/// What the next call sends, if anything.
+#[derive(Clone, Copy, Debug, PartialEq, Eq)]
+pub enum Next {
+    Synchronising,
+    Older,
+    Newer,
+    Finished,
+    GivenUp,
+}
+
+/// A sender's state. The older item is the one before `newer`.
+#[derive(Clone, Debug, PartialEq, Eq)]
+pub struct Sender {
+    pub k: usize,
+    pub length: usize,
+    pub newer: usize,
+    /// The run of cancels, 64 exactly when given up.
+    pub run: usize,
+    pub opening: bool,
+    pub next: Next,
+}
+
+/// What a sending call answers.
+#[derive(Clone, Copy, Debug, PartialEq, Eq)]
+pub enum Sent {
+    Synchronising,
+    Item {
+        item: usize,
+        end: bool,
+        /// Whether the reading was used.
+        used: bool,
+        cancelled: bool,
+    },
+    Refused(Refusal),
+}
+
+/// Opens a sender; refusals in the order 1, 2, 3, 4, 5, 6.
+pub fn open(
+    k: usize,
+    speed: usize,
+    loop_ms: usize,
+    length: usize,
+    order: &[u8],
+) -> Result<Sender, Refusal> {
+    test_loop(k, speed, loop_ms)?;
+    if length == 0 {
+        return Err(EMPTY);
+    }
+    if length > LONGEST {
+        return Err(LONG);
+    }
+    if 8 * order.len() < length {
+        return Err(SHORT);
+    }
+    Ok(Sender {
+        k,
+        length,
+        newer: 1,
+        run: 0,
+        opening: true,
+        next: Next::Synchronising,
+    })
+}
+
+impl Sender {
+    /// Sends one block; refusals in the order 7, 8, 6.
+    pub fn send(mut self, order: &[u8], reading: bool, block: &mut [u8]) -> (Sender, Sent) {
+        if let Err(refusal) = self.judge(order, block) {
+            return (self, Sent::Refused(refusal));
+        }
+        let (k, length) = (self.k, self.length);
+        let item = match self.next {
+            Next::Older => self.newer - 1,
+            _ => self.newer,
+        };
+        let sent = self.step(item, reading);
+        let mut bits = match sent {
+            Sent::Synchronising => synchronising_block(k),
+            _ => item_block(k, length, order, item),
+        };
+        if let Sent::Item {
+            cancelled: true, ..
+        } = sent
+        {
+            cancel(&mut bits);
+        }
+        block[..block_bytes(k)].copy_from_slice(&pack(&bits));
+        (self, sent)
+    }
+
+    /// Whether no further block will be sent.
+    pub fn rests(&self) -> bool {
+        matches!(self.next, Next::Finished | Next::GivenUp)
+    }
+
+    fn judge(&self, order: &[u8], block: &[u8]) -> Result<(), Refusal> {
+        if self.is_spoiled() {
+            return Err(SPOILED);
+        }
+        if self.rests() {
+            return Err(REST);
+        }
+        if 8 * order.len() < self.length || block.len() < block_bytes(self.k) {
+            return Err(SHORT);
+        }
+        Ok(())
+    }
+
+    fn is_spoiled(&self) -> bool {
+        !is_length(self.k)
+            || !is_order_length(self.length)
+            || self.newer < 1
+            || self.newer > items(self.k, self.length) + 1
+            || self.run > GIVE_UP
+            || (self.run == GIVE_UP) != (self.next == Next::GivenUp)
+    }
+
+    /// One step of the sender, whose next block is a synchronising one or `item`.
+    fn step(&mut self, item: usize, reading: bool) -> Sent {
+        let used = self.next == Next::Newer;
+        if self.next == Next::Synchronising {
+            self.next = Next::Older;
+            return Sent::Synchronising;
+        }
+        let end = item >= items(self.k, self.length);
+        match (used, reading) {
+            (false, _) => self.next = Next::Newer,
+            (true, false) => self.move_up(),
+            (true, true) => self.repeat(),
+        }
+        Sent::Item {
+            item,
+            end,
+            used,
+            cancelled: used && reading,
+        }
+    }
+
+    /// Newer, reading 0.
+    fn move_up(&mut self) {
+        self.run = 0;
+        self.opening = false;
+        if self.newer == items(self.k, self.length) + 1 {
+            self.next = Next::Finished;
+        } else {
+            self.newer += 1;
+            self.next = Next::Newer;
+        }
+    }
+
+    /// Newer, reading 1.
+    fn repeat(&mut self) {
+        self.run += 1;
+        self.next = if self.run == GIVE_UP {
+            Next::GivenUp
+        } else if self.opening || self.run >= RESYNCHRONISE {
+            Next::Synchronising
+        } else {
+            Next::Older
+        };
+    }
+}

@@ -1,0 +1,207 @@
+//! Document 01, the run program ("Examples, on either side"): a session's text in, its course out.
+
+use super::bits::{pack, unpack, Bits};
+use super::block::{block_bits, block_bytes};
+use super::order::items;
+use super::receiver::{self, Event, Received, Receiver};
+use super::refusal::Refusal;
+use super::sender::{self, Sender, Sent};
+
+const HEADING: &str = "period sent read event back\n";
+const SPEED: usize = 200;
+const LOOP_MS: usize = 0;
+
+/// Line one: k, L and the order. Numbers too large to hold stand as the largest.
+#[derive(Debug, PartialEq, Eq)]
+pub struct Opening {
+    pub k: usize,
+    pub length: usize,
+    pub order: Vec<u8>,
+}
+
+/// Both ends of a session and what lies between them.
+struct Session {
+    order: Vec<u8>,
+    store: Vec<u8>,
+    sender: Sender,
+    receiver: Receiver,
+}
+
+/// One period as it is written.
+struct Period {
+    sent: Sent,
+    reading: bool,
+    event: Event,
+    back: bool,
+}
+
+/// What the run program writes for this standard input.
+pub fn run(input: &[u8]) -> Vec<u8> {
+    let mut output = String::from(HEADING);
+    let mut lines = lines(input);
+    if let Some(opening) = lines.next().and_then(read_opening) {
+        if let Err(refusal) = run_session(opening, lines, &mut output) {
+            output += &format!("refused {refusal}\n");
+        }
+    }
+    output.into_bytes()
+}
+
+fn run_session<'a>(
+    opening: Opening,
+    lines: impl Iterator<Item = &'a [u8]>,
+    output: &mut String,
+) -> Result<(), Refusal> {
+    let mut session = Session::open(opening)?;
+    for (number, line) in lines.enumerate() {
+        let (turned, damaged) = match line {
+            b"t" => (false, false),
+            b"f" => (true, false),
+            b"d" => (false, true),
+            _ => break,
+        };
+        let period = session.period(turned, damaged)?;
+        *output += &written(number, &period);
+    }
+    Ok(())
+}
+
+/// The lines of a text; the last one may lack its newline.
+fn lines(input: &[u8]) -> impl Iterator<Item = &[u8]> {
+    let body = input.strip_suffix(b"\n").unwrap_or(input);
+    let any = !input.is_empty();
+    body.split(|&byte| byte == b'\n').filter(move |_| any)
+}
+
+/// Reads line one: fields parted by one blank, the order may be missing, a blank may trail.
+pub fn read_opening(line: &[u8]) -> Option<Opening> {
+    let line = line.strip_suffix(b" ").unwrap_or(line);
+    let fields: Vec<&[u8]> = line.split(|&byte| byte == b' ').collect();
+    let (k, length, order) = match fields[..] {
+        [k, length] => (k, length, None),
+        [k, length, order] => (k, length, Some(order)),
+        _ => return None,
+    };
+    Some(Opening {
+        k: decimal(k)?,
+        length: decimal(length)?,
+        order: order.map_or(Some(Vec::new()), hexadecimal)?,
+    })
+}
+
+fn decimal(field: &[u8]) -> Option<usize> {
+    if field.is_empty() {
+        return None;
+    }
+    field.iter().try_fold(0usize, |value, &byte| {
+        let digit = char::from(byte).to_digit(10)?;
+        Some(value.saturating_mul(10).saturating_add(digit as usize))
+    })
+}
+
+fn hexadecimal(field: &[u8]) -> Option<Vec<u8>> {
+    if field.is_empty() || !field.len().is_multiple_of(2) {
+        return None;
+    }
+    let digit = |byte: u8| char::from(byte).to_digit(16);
+    field
+        .chunks(2)
+        .map(|pair| Some((16 * digit(pair[0])? + digit(pair[1])?) as u8))
+        .collect()
+}
+
+impl Session {
+    fn open(opening: Opening) -> Result<Session, Refusal> {
+        let Opening { k, length, order } = opening;
+        let sender = sender::open(k, SPEED, LOOP_MS, length, &order)?;
+        let receiver = receiver::open(k)?;
+        let store = vec![0; items(k, length) * k / 8];
+        Ok(Session {
+            order,
+            store,
+            sender,
+            receiver,
+        })
+    }
+
+    /// One period: a sending call, and receiving calls until the block's bits are used.
+    fn period(&mut self, turned: bool, damaged: bool) -> Result<Period, Refusal> {
+        let k = self.sender.k;
+        let reading = self.receiver.return_bit != turned;
+        let mut block = vec![0; block_bytes(k)];
+        let (sender, sent) = self.sender.clone().send(&self.order, reading, &mut block);
+        if let Sent::Refused(refusal) = sent {
+            return Err(refusal);
+        }
+        self.sender = sender;
+        let mut bits = unpack(&block, 0, block_bits(k));
+        bits[0] ^= damaged;
+        let event = self.deliver(bits)?;
+        let back = self.receiver.return_bit;
+        Ok(Period {
+            sent,
+            reading,
+            event,
+            back,
+        })
+    }
+
+    /// Lends a block's bits until all are used; the last event other than *none*, else *none*.
+    fn deliver(&mut self, mut bits: Bits) -> Result<Event, Refusal> {
+        let mut last = Event::None;
+        while !bits.is_empty() {
+            let receiver = self.receiver.clone();
+            let line = pack(&bits);
+            let (receiver, received) = receiver.receive(&line, bits.len(), &mut self.store);
+            self.receiver = receiver;
+            match received {
+                Received::Refused(refusal) => return Err(refusal),
+                Received::Heard { event, used } => {
+                    bits.drain(..used);
+                    if event != Event::None {
+                        last = event;
+                    }
+                }
+            }
+        }
+        Ok(last)
+    }
+}
+
+fn written(number: usize, period: &Period) -> String {
+    let reading = u8::from(period.reading);
+    let (sent, read) = match period.sent {
+        Sent::Item {
+            item,
+            end,
+            used,
+            cancelled,
+        } => {
+            let mark = if cancelled { "!" } else { "" };
+            let name = if end { "E".into() } else { item.to_string() };
+            let read = if used {
+                reading.to_string()
+            } else {
+                "-".into()
+            };
+            (format!("{mark}{name}"), read)
+        }
+        _ => ("S".into(), "-".into()),
+    };
+    let event = event_word(period.event);
+    let back = u8::from(period.back);
+    format!("{number} {sent} {read} {event} {back}\n")
+}
+
+fn event_word(event: Event) -> &'static str {
+    match event {
+        Event::None => "none",
+        Event::Sync => "sync",
+        Event::Bad => "bad",
+        Event::Accepted => "accepted",
+        Event::Previous => "previous",
+        Event::Ended(_) => "ended",
+        Event::SequenceAlarm => "sequence alarm",
+        Event::LengthAlarm => "length alarm",
+    }
+}

@@ -1,0 +1,111 @@
+//! The table-driven sibling: the same calls written for speed in the usual way, with the
+//! 256-entry table of the cyclic check. The benchmark measures the library against it.
+
+pub mod receiver;
+
+use crate::reference::block::Read;
+
+const BLOCK: u8 = 1;
+const SHORT: u8 = 6;
+const SPOILED: u8 = 7;
+
+/// For each byte, the remainder of that byte times x to the 16th.
+static TABLE: [u16; 256] = table();
+
+const fn table() -> [u16; 256] {
+    let mut table = [0; 256];
+    let mut byte = 0;
+    while byte < 256 {
+        let mut register = (byte as u16) << 8;
+        let mut step = 0;
+        while step < 8 {
+            let carry = register >> 15;
+            register = (register << 1) ^ (carry * 0x1021);
+            step += 1;
+        }
+        table[byte] = register;
+        byte += 1;
+    }
+    table
+}
+
+#[inline]
+fn feed(register: u16, byte: u8) -> u16 {
+    register << 8 ^ TABLE[usize::from((register >> 8) as u8 ^ byte)]
+}
+
+#[inline]
+fn is_length(k: usize) -> bool {
+    matches!(k, 240 | 480 | 960 | 3840)
+}
+
+/// Builds one block; refusals in the order 1, 7, 6.
+#[inline(never)]
+pub fn build_block(k: usize, service: u8, payload: &[u8], block: &mut [u8]) -> Result<(), u8> {
+    if !is_length(k) {
+        return Err(BLOCK);
+    }
+    if service > 15 {
+        return Err(SPOILED);
+    }
+    let bytes = k / 8;
+    if payload.len() < bytes || block.len() < bytes + 3 {
+        return Err(SHORT);
+    }
+    let (payload, block) = (&payload[..bytes], &mut block[..bytes + 3]);
+    let mut register = feed(0, service);
+    let mut last = service;
+    for (out, &byte) in block.iter_mut().zip(payload) {
+        *out = last << 4 | byte >> 4;
+        register = feed(register, byte);
+        last = byte;
+    }
+    block[bytes] = last << 4 | (register >> 12) as u8;
+    block[bytes + 1] = (register >> 4) as u8;
+    block[bytes + 2] = (register << 4) as u8;
+    Ok(())
+}
+
+/// Reads one block; refusals in the order 1, 6.
+#[inline(never)]
+pub fn read_block(k: usize, block: &[u8], payload: &mut [u8]) -> Read {
+    if !is_length(k) {
+        return Read::Refused(BLOCK);
+    }
+    let bytes = k / 8;
+    if block.len() < bytes + 3 || payload.len() < bytes {
+        return Read::Refused(SHORT);
+    }
+    let block = &block[..bytes + 3];
+    if register(block) != check_word(block) {
+        return Read::Failed;
+    }
+    copy_payload(block, &mut payload[..bytes]);
+    Read::Passed(block[0] >> 4)
+}
+
+/// The register over the service bits and data of a packed block.
+#[inline]
+fn register(block: &[u8]) -> u16 {
+    let message = &block[..block.len() - 2];
+    let mut register = feed(0, message[0] >> 4);
+    for pair in message.windows(2) {
+        register = feed(register, pair[0] << 4 | pair[1] >> 4);
+    }
+    register
+}
+
+/// The last sixteen bits of a packed block, before its spare ones.
+#[inline]
+fn check_word(block: &[u8]) -> u16 {
+    let tail = &block[block.len() - 3..];
+    u16::from(tail[0]) << 12 | u16::from(tail[1]) << 4 | u16::from(tail[2]) >> 4
+}
+
+/// Copies the data of a packed block, which stand half a byte late.
+#[inline]
+fn copy_payload(block: &[u8], payload: &mut [u8]) {
+    for (out, pair) in payload.iter_mut().zip(block.windows(2)) {
+        *out = pair[0] << 4 | pair[1] >> 4;
+    }
+}

@@ -1,0 +1,253 @@
+//! The table-driven sibling of the receiving call: bytes are moved, not bits, while it is in step.
+
+use super::{check_word, copy_payload, is_length, register, BLOCK, SHORT, SPOILED};
+use crate::reference::receiver::{Alarm, Event, Received};
+
+const HOLD_BYTES: usize = 483;
+const MOST_ITEMS: usize = 1093;
+const LONGEST: usize = 262_144;
+const LETTERS: [u8; 3] = [0b0011, 0b1001, 0b1100];
+const SYNCHRONISING: u8 = 0b0101;
+const END: u8 = 0b1000;
+const SEQUENCE: u16 = 0x50A5;
+
+#[derive(Clone, Copy, Debug, PartialEq, Eq)]
+pub struct Receiver {
+    pub k: usize,
+    pub held: usize,
+    pub row: usize,
+    pub taken: usize,
+    pub search: bool,
+    pub return_bit: bool,
+    pub end_taken: bool,
+    pub alarm: Option<Alarm>,
+    pub array: [u8; HOLD_BYTES],
+}
+
+/// Opens a receiver in search.
+pub fn open(k: usize) -> Result<Receiver, u8> {
+    if !is_length(k) {
+        return Err(BLOCK);
+    }
+    Ok(Receiver {
+        k,
+        held: 0,
+        row: 0,
+        taken: 0,
+        search: true,
+        return_bit: true,
+        end_taken: false,
+        alarm: None,
+        array: [0; HOLD_BYTES],
+    })
+}
+
+impl Receiver {
+    /// Takes in line bits up to the next event or to the last; refusals in the order 7, 6.
+    #[inline(never)]
+    pub fn receive(mut self, line: &[u8], bits: usize, store: &mut [u8]) -> (Receiver, Received) {
+        if self.is_spoiled() {
+            return (self, Received::Refused(SPOILED));
+        }
+        if line.len() < bits.div_ceil(8) {
+            return (self, Received::Refused(SHORT));
+        }
+        if bits == 0 || self.alarm.is_some() {
+            return self.stand(bits);
+        }
+        if self.search {
+            return self.look_for_sequence(line, bits);
+        }
+        let missing = self.k + 20 - self.held;
+        if bits < missing {
+            copy_bits(&mut self.array, self.held, line, bits);
+            self.held += bits;
+            return (self, heard(Event::None, bits));
+        }
+        let mut block = self.array;
+        copy_bits(&mut block, self.held, line, missing);
+        match self.judge(&block[..self.k / 8 + 3], store) {
+            Ok(event) => (self, heard(event, missing)),
+            Err(refusal) => (self, Received::Refused(refusal)),
+        }
+    }
+
+    fn is_spoiled(&self) -> bool {
+        let limit = if self.search { 16 } else { self.k + 20 };
+        !is_length(self.k) || self.held >= limit || self.row >= 8 || self.taken > MOST_ITEMS
+    }
+
+    /// No bits, or an alarm that stands.
+    fn stand(mut self, bits: usize) -> (Receiver, Received) {
+        let event = match self.alarm {
+            None => Event::None,
+            Some(Alarm::Sequence) => Event::SequenceAlarm,
+            Some(Alarm::Length) => Event::LengthAlarm,
+        };
+        if bits > 0 {
+            self.return_bit = true;
+            self.row = 0;
+        }
+        (self, heard(event, bits))
+    }
+
+    /// Search over a 16-bit window.
+    fn look_for_sequence(mut self, line: &[u8], bits: usize) -> (Receiver, Received) {
+        let start = u32::from(self.array[0]) << 8 | u32::from(self.array[1]);
+        let mut window = (start >> (16 - self.held)) as u16;
+        let mut count = self.held;
+        for i in 0..bits {
+            window = window << 1 | u16::from(line[i / 8] >> (7 - i % 8) & 1);
+            count += 1;
+            if count >= 16 && window == SEQUENCE {
+                self.search = false;
+                let event = self.settle(Event::Sync);
+                return (self, heard(event, i + 1));
+            }
+        }
+        self.held = count.min(15);
+        let latest = window << (16 - self.held);
+        self.array[..2].copy_from_slice(&latest.to_be_bytes());
+        self.return_bit = true;
+        (self, heard(Event::None, bits))
+    }
+
+    /// Rules 1 to 7 on a whole packed block. A refusal leaves the state as it was.
+    fn judge(&mut self, block: &[u8], store: &mut [u8]) -> Result<Event, u8> {
+        let service = block[0] >> 4;
+        let check = check_word(block);
+        if service == SYNCHRONISING && check == SEQUENCE {
+            return Ok(self.settle(Event::Sync));
+        }
+        if register(block) != check {
+            return Ok(self.bad());
+        }
+        if self.end_taken && LETTERS.contains(&service) {
+            return Ok(self.raise(Alarm::Sequence));
+        }
+        if service == LETTERS[self.taken % 3] && self.taken < MOST_ITEMS {
+            return self.accept(block, store);
+        }
+        if service == LETTERS[(self.taken + 2) % 3] && self.taken >= 1 {
+            return Ok(self.settle(Event::Previous));
+        }
+        if service == LETTERS[(self.taken + 1) % 3] {
+            return Ok(self.raise(Alarm::Sequence));
+        }
+        if service == END {
+            return Ok(self.end(block));
+        }
+        let event = self.bad();
+        if self.taken == 0 {
+            (self.search, self.row) = (true, 0);
+        }
+        Ok(event)
+    }
+
+    fn accept(&mut self, block: &[u8], store: &mut [u8]) -> Result<Event, u8> {
+        let bytes = self.k / 8;
+        let first = self.taken * bytes;
+        let Some(place) = store.get_mut(first..first + bytes) else {
+            return Err(SHORT);
+        };
+        copy_payload(block, place);
+        self.taken += 1;
+        Ok(self.settle(Event::Accepted))
+    }
+
+    fn end(&mut self, block: &[u8]) -> Event {
+        if self.end_taken {
+            return self.settle(Event::Previous);
+        }
+        let mut fields = [0; 5];
+        copy_payload(block, &mut fields);
+        let [version, a, b, c, d] = fields;
+        let length = u32::from_be_bytes([a, b, c, d]) as usize;
+        let fits = (1..=LONGEST).contains(&length) && length.div_ceil(self.k) == self.taken;
+        if version != 1 || !fits {
+            return self.raise(Alarm::Length);
+        }
+        self.end_taken = true;
+        self.settle(Event::Ended(length))
+    }
+
+    fn bad(&mut self) -> Event {
+        self.forget();
+        self.return_bit = true;
+        self.row += 1;
+        if self.row == 8 {
+            (self.search, self.row) = (true, 0);
+        }
+        Event::Bad
+    }
+
+    /// An event with return bit 0.
+    fn settle(&mut self, event: Event) -> Event {
+        self.forget();
+        self.row = 0;
+        self.return_bit = false;
+        event
+    }
+
+    fn raise(&mut self, alarm: Alarm) -> Event {
+        self.forget();
+        self.row = 0;
+        self.return_bit = true;
+        self.alarm = Some(alarm);
+        match alarm {
+            Alarm::Sequence => Event::SequenceAlarm,
+            Alarm::Length => Event::LengthAlarm,
+        }
+    }
+
+    fn forget(&mut self) {
+        self.array = [0; HOLD_BYTES];
+        self.held = 0;
+    }
+}
+
+#[inline]
+fn heard(event: Event, used: usize) -> Received {
+    Received::Heard { event, used }
+}
+
+/// Writes the first `count` bits of `line` over the bits of `array` from `at` on.
+#[inline]
+fn copy_bits(array: &mut [u8], at: usize, line: &[u8], count: usize) {
+    let (whole, rest) = (count / 8, count % 8);
+    let (first, shift) = (at / 8, at % 8);
+    if shift == 0 {
+        array[first..first + whole].copy_from_slice(&line[..whole]);
+    } else if whole > 0 {
+        copy_shifted(&mut array[first..=first + whole], shift, &line[..whole]);
+    }
+    if rest > 0 {
+        copy_rest(array, at + 8 * whole, line[whole], rest);
+    }
+}
+
+/// Writes bytes from bit `shift`, 1 to 7, on; the target has one byte more than they.
+#[inline]
+fn copy_shifted(target: &mut [u8], shift: usize, bytes: &[u8]) {
+    let below = 0xFF >> shift;
+    let mut above = target[0] & !below;
+    for (out, &byte) in target.iter_mut().zip(bytes) {
+        *out = above | byte >> shift;
+        above = byte << (8 - shift);
+    }
+    let last = &mut target[bytes.len()];
+    *last = above | *last & below;
+}
+
+/// Writes the first `count` bits, 1 to 7, of a byte over the bits from `at` on.
+#[inline]
+fn copy_rest(array: &mut [u8], at: usize, byte: u8, count: usize) {
+    let (place, shift) = (at / 8, at % 8);
+    let mask = 0xFFFF << (16 - count) >> shift;
+    let bits = u16::from(byte) << 8 >> shift & mask;
+    let ([near, far], [high, low]) = (mask.to_be_bytes(), bits.to_be_bytes());
+    array[place] = array[place] & !near | high;
+    if far != 0 {
+        array[place + 1] = array[place + 1] & !far | low;
+    }
+}
