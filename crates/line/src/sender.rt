@@ -1,4 +1,11 @@
 // The sending end.
+ghost use Rattle.line.specs.Sending.{OpenSender};
+use crate::EMPTY;
+use crate::LONG;
+use crate::loop_time::LoopTime;
+use crate::loop_time::loop_time;
+use crate::order::LONGEST_ORDER;
+use crate::order::too_short;
 
 // What goes out at the next call.
 pub enum Next {
@@ -46,4 +53,32 @@ pub enum Sent {
 pub struct Step {
     pub state: Sender,
     pub answer: Sent,
+}
+
+impl Sender {
+    // The pair is 0 and 1, opening lasts, and the first block is a synchronising block.
+    pub fn open(k: usize, speed: u32, loop_ms: u32, length: usize, order: &[u8]) -> Opened
+        ensures { λ r. ⌜ OpenSender k speed «loop_ms» length (now (order .entry)) r ⌝ }
+    {
+        if let LoopTime::Refused(number) = loop_time(k, speed, loop_ms) {
+            return Opened::Refused(number);
+        }
+        if length == 0 {
+            return Opened::Refused(EMPTY);
+        }
+        if LONGEST_ORDER < length {
+            return Opened::Refused(LONG);
+        }
+        if too_short(order, length) {
+            return Opened::Refused(block::SHORT);
+        }
+        Opened::Opened(Sender {
+            setup: Setup { k, length },
+            newer: 1,
+            run: 0,
+            opening: true,
+            next: Next::Sync,
+            finished: false,
+        })
+    }
 }

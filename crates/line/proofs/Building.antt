@@ -1,0 +1,152 @@
+-- The block calls on lengths, services and slices that they do not turn away, and an item's data as rows of the order.
+-- Assumes nothing.
+use mathlib.Core.Path.{_≡_, ap, ap₂, sym, _∙_}
+use mathlib.Core.Bool.{true}
+use mathlib.Core.List.{List, _++_}
+use Prim.Native.Nat.{ℕ, _+_, _-_, _*_, _/_, _≤_, _<_}
+use native.Mathlib.Nat.{mul-left-comm, mul-le-mul-right, div-mul-le-self, lt-div-mul-add}
+use native.Mathlib.Omega.{arith}
+use borrow.Author.Tests.{le-ltb}
+use lib.ListN.{length, take, drop, length-append, length-drop}
+use lib.Seq.{take-take, take-append-le, drop-append-le}
+use Rattle.crc.specs.Bits.{Bits, binary, bitsOf, bytesOf, zeros}
+use Rattle.crc.proofs.Rows.{length-binary}
+use Rattle.crc.proofs.Bytes.{length-bitsOf, take-bitsOf, drop-bitsOf, bitsOf-bytesOf}
+use Rattle.block.specs.Answer.{done}
+use Rattle.block.specs.Lengths.{isLength, blockLength, blockBytes}
+use Rattle.block.specs.Block.{blockBits, syncBlock}
+use Rattle.block.specs.Calls.{overwritten, buildBlock, builtBytes, BuildBlock, buildSync, syncBytes, BuildSync, cancelBlock, cancelBytes, CancelBlock}
+use Rattle.block.specs.declared.Built.{Built}
+use Rattle.block.proofs.Lengths.{length-facts, length-bytes}
+use Rattle.line.specs.Order.{itemCount, letter, filled, orderBits, version, endPayload, itemBits}
+use Rattle.line.proofs.Items.{itemCount-least, item-within, length-orderBits, itemService-data, itemPayload-data}
+use Rattle.line.proofs.Filling.{take-zeros, drop-take}
+
+-- ---- the calls
+
+module _ (k : ℕ) (slice : List ℕ) (answer : Built) (slice′ : List ℕ) (h : isLength k ≡ true)
+    (room : blockLength k ≤ 8 * length slice) where
+  pub built : (service : ℕ) (payload : List ℕ) → service < 16 → k ≤ 8 * length payload
+      → BuildBlock k service payload slice answer slice′
+      → slice′ ≡ overwritten (blockBytes k) (blockBits (binary 4 service) (take k (bitsOf payload))) slice
+  unfolding buildBlock
+  built service payload s l p =
+      let e : buildBlock k service payload slice ≡ done tt =
+      simp
+      (h, le-ltb 15 service (omega arith), le-ltb (8 * length payload) k l, le-ltb (8 * length slice) (blockLength k) room)
+      in
+      p .writes ∙ ap (builtBytes k service payload slice) e
+
+  pub synchronised : BuildSync k slice answer slice′ → slice′ ≡ overwritten (blockBytes k) (syncBlock k) slice
+  unfolding buildSync
+  synchronised p =
+      let e : buildSync k slice ≡ done tt = simp (h, le-ltb (8 * length slice) (blockLength k) room) in
+      p .writes ∙ ap (syncBytes k slice) e
+
+  pub cancels : CancelBlock k slice answer slice′ → slice′ ≡ cancelBytes k slice (done tt)
+  unfolding cancelBlock
+  cancels p =
+      let e : cancelBlock k slice ≡ done tt = simp (h, le-ltb (8 * length slice) (blockLength k) room) in
+      p .writes ∙ ap (cancelBytes k slice) e
+
+-- ---- an end block's data
+
+pub end-data : (k L : ℕ) → 40 ≤ k → k ≤ 3840 → (payload : List ℕ) → bitsOf payload ≡ endPayload 3840 L
+    → take k (bitsOf payload) ≡ endPayload k L
+unfolding endPayload
+end-data k L h g payload e =
+    let row : Bits = binary 8 version ++ binary 32 L in
+    let n : length row ≡ 40 = omega (arith, length-append (binary 8 version) (binary 32 L), length-binary 8 version, length-binary 32 L) in
+    ap (take k) e ∙ take-zeros k 3800 row (omega arith) (omega arith) ∙ ap (λ (j : ℕ). row ++ zeros (k - j)) n
+
+-- ---- item i of an order, in bytes
+
+pub item-byte : (i k : ℕ) → isLength k ≡ true → 8 * (i * (k / 8)) ≡ i * k
+item-byte i k h = mul-left-comm 8 i (k / 8) ∙ ap (λ (j : ℕ). i * j) (length-bytes k h)
+
+pub whole-data : (i k : ℕ) (order : List ℕ) → isLength k ≡ true
+    → take k (bitsOf (take (k / 8) (drop (i * (k / 8)) order))) ≡ take k (drop (i * k) (bitsOf order))
+whole-data i k order h =
+    ap (take k) (sym (take-bitsOf (k / 8) (drop (i * (k / 8)) order)) ∙ ap (take (8 * (k / 8))) (sym (drop-bitsOf (i * (k / 8)) order)))
+    ∙ ap₂ (λ (m a : ℕ). take k (take m (drop a (bitsOf order)))) (length-bytes k h) (item-byte i k h)
+    ∙ take-take k k (drop (i * k) (bitsOf order)) (omega arith)
+
+pub last-data : (i k bits : ℕ) (order payload : List ℕ) → isLength k ≡ true → i * k ≤ bits → bits ≤ i * k + k
+    → bits ≤ 8 * length order
+    → payload ≡ bytesOf 480 (drop (8 * (i * (k / 8))) (orderBits bits order))
+    → take k (bitsOf payload) ≡ drop (i * k) (orderBits bits order) ++ zeros (i * k + k - bits)
+last-data i k bits order payload h from to lent e =
+    let f = length-facts k h in
+    let row : Bits = drop (i * k) (orderBits bits order) in
+    let n : length row ≡ bits - i * k =
+    length-drop (i * k) (orderBits bits order) ∙ ap (λ (j : ℕ). j - i * k) (length-orderBits bits order lent)
+    in
+    let m : k - length row ≡ i * k + k - bits = omega arith in
+    ap (λ (l : List ℕ). take k (bitsOf l)) (e ∙ ap (λ (j : ℕ). bytesOf 480 (drop j (orderBits bits order))) (item-byte i k h))
+    ∙ ap (take k) (bitsOf-bytesOf 480 row (omega arith))
+    ∙ take-zeros k (8 * 480 - length row) row (omega arith) (omega arith)
+    ∙ ap (λ (j : ℕ). row ++ zeros j) m
+
+-- ---- item i of the order with its filling
+
+-- a data item starts within the order
+pub item-start : (k L i : ℕ) → 0 < k → i < itemCount k L → i * k < L
+item-start k L i pos h =
+    let w = item-within i (itemCount k L) k h in
+    let l = itemCount-least k L pos in
+    omega arith
+
+-- the order fills the items before L / k
+pub filled-item : (k L i : ℕ) → i < L / k → i * k + k ≤ L
+filled-item k L i h =
+    let w = item-within i (L / k) k h in
+    let l = div-mul-le-self L k in
+    omega arith
+
+pub unfilled-item : (k L i : ℕ) → 0 < k → L / k ≤ i → L < i * k + k
+unfilled-item k L i pos h =
+    let w : L / k * k ≤ i * k = mul-le-mul-right k h in
+    let l = lt-div-mul-add {a = L} {b = k} pos in
+    omega arith
+
+module _ (k L : ℕ) (order : List ℕ) (pos : 0 < k) (lent : L ≤ 8 * length order) where
+  -- an item that the order fills
+  pub whole-item : (i : ℕ) → i * k + k ≤ L
+      → take k (drop (i * k) (bitsOf order)) ≡ take k (drop (i * k) (filled k L (orderBits L order)))
+  unfolding filled
+  whole-item i h =
+      let n = length-orderBits L order lent in
+      let m : length (drop (i * k) (orderBits L order)) ≡ L - i * k =
+      length-drop (i * k) (orderBits L order) ∙ ap (λ (j : ℕ). j - i * k) n
+      in
+      sym
+      (ap (take k) (drop-append-le (i * k) (orderBits L order) (zeros (itemCount k L * k - L)) (omega arith))
+      ∙ take-append-le k (drop (i * k) (orderBits L order)) (zeros (itemCount k L * k - L)) (omega arith)
+      ∙ ap (take k) (drop-take (i * k) L (bitsOf order) (omega arith) (omega (arith, length-bitsOf order)))
+      ∙ take-take k (L - i * k) (drop (i * k) (bitsOf order)) (omega arith))
+
+  -- the last item
+  pub last-item : (i : ℕ) → i < itemCount k L → L < i * k + k
+      → drop (i * k) (orderBits L order) ++ zeros (i * k + k - L) ≡ take k (drop (i * k) (filled k L (orderBits L order)))
+  unfolding filled
+  last-item i h g =
+      let row : Bits = drop (i * k) (orderBits L order) in
+      let z : ℕ = itemCount k L * k - L in
+      let from = item-start k L i pos h in
+      let n : length row ≡ L - i * k =
+      length-drop (i * k) (orderBits L order) ∙ ap (λ (j : ℕ). j - i * k) (length-orderBits L order lent)
+      in
+      let m : k - length row ≡ i * k + k - L = omega arith in
+      let w = item-within i (itemCount k L) k h in
+      sym
+      (ap (take k) (drop-append-le (i * k) (orderBits L order) (zeros z) (omega (arith, length-orderBits L order lent)))
+      ∙ take-zeros k z row (omega arith) (omega arith) ∙ ap (λ (j : ℕ). row ++ zeros j) m)
+
+-- a data item from its letter and its data
+pub data-item : (k L : ℕ) (content payload : Bits) (i : ℕ) → i < itemCount k L
+    → payload ≡ take k (drop (i * k) (filled k L content))
+    → blockBits (binary 4 (letter i)) payload ≡ itemBits k L content i
+unfolding itemBits
+data-item k L content payload i h e =
+    ap₂ (λ (s : ℕ) (p : Bits). blockBits (binary 4 s) p) (sym (itemService-data k L i h))
+    (e ∙ sym (itemPayload-data k L i content h))

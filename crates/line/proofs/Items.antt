@@ -1,0 +1,245 @@
+-- Laws of the order as items: the number of items, the lengths of their parts, and their service bits. Assumes nothing.
+use mathlib.Core.Path.{_≡_, refl, ap, ap₂, sym, _∙_}
+use mathlib.Core.Logic.{_≢_}
+use mathlib.Core.Bool.{Bool, true, false, cond, not, _&&_, _||_}
+use mathlib.Core.List.{List, _++_}
+use Prim.Native.Nat.{ℕ, zero, suc, _+_, _-_, _*_, _%_, _≤_, _<_}
+use native.Mathlib.Nat.{div-mul-le-self, lt-div-mul-add, mul-le-mul, mul-le-mul-right, le-div-iff-mul-le}
+use native.Mathlib.Omega.{arith}
+use borrow.Author.Tests.{leb-true, ltb-true, lt-ltb, le-ltb, eq-eqb}
+use lib.Dec.{eqb, eqb→eq, leb}
+use lib.ListN.{length, take, drop, length-append, length-drop, length-replicate}
+use lib.Seq.{length-take-le, take-add}
+use Rattle.crc.specs.Bits.{Bits, binary, bitsOf, number, zeros}
+use Rattle.crc.specs.Check.{passes}
+use Rattle.crc.proofs.Rows.{length-binary, number-binary}
+use Rattle.crc.proofs.Bytes.{length-bitsOf}
+use Rattle.block.specs.Lengths.{isLength, blockLength}
+use Rattle.block.specs.Block.{blockBits, serviceOf, payloadOf}
+use Rattle.block.proofs.Lengths.{length-facts}
+use Rattle.block.proofs.Block.{length-blockBits, passes-blockBits, service-blockBits, payload-blockBits}
+use Rattle.line.proofs.Table.{at-cell}
+use Rattle.line.specs.Order.{longestOrder, mostItems, validLength, itemCount, letter, third, endService, isLetter, orderBits, filled, version, endPayload, isData, itemService, itemPayload, itemBits}
+
+-- ---- tests
+
+pub and-left : (a b : Bool) → a && b ≡ true → a ≡ true
+and-left true b h = refl
+and-left false b h = h
+
+pub and-right : (a b : Bool) → a && b ≡ true → b ≡ true
+and-right true b h = h
+and-right false b h = absurd (let z : _≡_ {A = ℕ} 0 1 = cc in omega arith)
+
+-- ---- the number of items
+
+pub valid-length : (L : ℕ) → validLength L ≡ true → (1 ≤ L) × (L ≤ longestOrder)
+unfolding validLength
+valid-length L h = (
+  leb-true 1 L (and-left (leb 1 L) (leb L longestOrder) h),
+  leb-true L longestOrder (and-right (leb 1 L) (leb L longestOrder) h),
+)
+
+-- the items hold the order, and one item fewer would not
+pub itemCount-holds : (k L : ℕ) → 0 < k → L ≤ itemCount k L * k
+unfolding itemCount
+itemCount-holds k L h = let d = lt-div-mul-add {a = L + k - 1} {b = k} h in omega arith
+
+pub itemCount-least : (k L : ℕ) → 0 < k → itemCount k L * k < L + k
+unfolding itemCount
+itemCount-least k L h = let d = div-mul-le-self (L + k - 1) k in omega arith
+
+pub itemCount-pos : (k L : ℕ) → 0 < k → 1 ≤ L → 1 ≤ itemCount k L
+unfolding itemCount
+itemCount-pos k L h g = le-div-iff-mul-le {k = k} {x = 1} {y = L + k - 1} h .1 (omega arith)
+
+-- item i of the data items ends within them
+pub item-within : (i n k : ℕ) → i < n → i * k + k ≤ n * k
+item-within i n k h = let d : suc i * k ≤ n * k = mul-le-mul-right k h in omega arith
+
+-- a row of n items of 240 bits or more that is shorter than the longest order and one item
+most : (n k : ℕ) → 240 ≤ k → n * k < longestOrder + k → n ≤ mostItems
+most zero k h g = omega arith
+most (suc n) k h g = let d : n * 240 ≤ n * k = mul-le-mul (omega arith) h in omega arith
+
+pub itemCount-fits : (k L : ℕ) → isLength k ≡ true → validLength L ≡ true → itemCount k L ≤ mostItems
+itemCount-fits k L h v =
+    let f = length-facts k h in
+    let d = itemCount-least k L (omega arith) in
+    let w = valid-length L v in
+    most (itemCount k L) k (f .1) (omega arith)
+
+-- ---- lengths
+
+pub length-orderBits : (L : ℕ) (order : List ℕ) → L ≤ 8 * length order → length (orderBits L order) ≡ L
+length-orderBits L order h = length-take-le L (bitsOf order) (omega (arith, length-bitsOf order))
+
+pub length-filled : (k L : ℕ) (content : Bits) → 0 < k → length content ≡ L → length (filled k L content) ≡ itemCount k L * k
+unfolding filled
+length-filled k L content h e =
+    omega (
+      arith,
+      length-append content (zeros (itemCount k L * k - L)),
+      length-replicate (itemCount k L * k - L) false,
+      itemCount-holds k L h,
+    )
+
+pub length-endPayload : (k L : ℕ) → 40 ≤ k → length (endPayload k L) ≡ k
+unfolding endPayload
+length-endPayload k L h =
+    omega (
+      arith,
+      length-append (binary 8 version ++ binary 32 L) (zeros (k - 40)),
+      length-append (binary 8 version) (binary 32 L),
+      length-binary 8 version,
+      length-binary 32 L,
+      length-replicate (k - 40) false,
+    )
+
+module _ (k L : ℕ) (content : Bits) (h : isLength k ≡ true) (e : length content ≡ L) where
+  length-data : (i : ℕ) → i < itemCount k L → length (take k (drop (i * k) (filled k L content))) ≡ k
+  length-data i g =
+      let f = length-facts k h in
+      length-take-le k (drop (i * k) (filled k L content))
+      (omega (
+        arith,
+        length-drop (i * k) (filled k L content),
+        length-filled k L content (omega arith) e,
+        item-within i (itemCount k L) k g,
+      ))
+
+  length-payload : (i : ℕ) (t : Bool) → isData k L i ≡ t
+      → length (cond t (take k (drop (i * k) (filled k L content))) (endPayload k L)) ≡ k
+  length-payload i true d = length-data i (ltb-true i (itemCount k L) d)
+  length-payload i false d = let f = length-facts k h in length-endPayload k L (omega arith)
+
+  pub length-itemPayload : (i : ℕ) → length (itemPayload k L content i) ≡ k
+  unfolding itemPayload
+  length-itemPayload i = length-payload i (isData k L i) refl
+
+  pub length-itemBits : (i : ℕ) → length (itemBits k L content i) ≡ blockLength k
+  unfolding itemBits
+  length-itemBits i =
+      omega (
+        arith,
+        length-blockBits (binary 4 (itemService k L i)) (itemPayload k L content i),
+        length-binary 4 (itemService k L i),
+        length-itemPayload i,
+      )
+
+  pub payload-itemBits : (i : ℕ) → payloadOf k (itemBits k L content i) ≡ itemPayload k L content i
+  unfolding itemBits
+  payload-itemBits i =
+      payload-blockBits k (binary 4 (itemService k L i)) (itemPayload k L content i) (length-binary 4 (itemService k L i))
+      (length-itemPayload i)
+
+pub passes-itemBits : (k L : ℕ) (content : Bits) (i : ℕ) → passes (itemBits k L content i) ≡ true
+unfolding itemBits
+passes-itemBits k L content i = passes-blockBits (binary 4 (itemService k L i)) (itemPayload k L content i)
+
+-- ---- service bits
+
+-- what holds of A, B and C holds of every letter
+third-law : (P : ℕ → Type 0) → P (third 0) → P (third 1) → P (third 2) → (n : ℕ) → P (third n)
+third-law P a b c zero = a
+third-law P a b c (suc zero) = b
+third-law P a b c (suc (suc n)) = c
+
+pub letter-law : (P : ℕ → Type 0) → P (third 0) → P (third 1) → P (third 2) → (i : ℕ) → P (letter i)
+unfolding letter
+letter-law P a b c i = third-law P a b c (i % 3)
+
+pub letter-lt16 : (i : ℕ) → letter i < 16
+letter-lt16 i = letter-law (λ (s : ℕ). s < 16) (omega arith) (omega arith) (omega arith) i
+
+pub letter-isLetter : (i : ℕ) → isLetter (letter i) ≡ true
+unfolding isLetter
+letter-isLetter i = letter-law (λ (s : ℕ). isLetter s ≡ true) refl refl refl i
+
+pub letter-not-end : (i : ℕ) → letter i ≡ endService → ⊥
+letter-not-end i = letter-law (λ (s : ℕ). s ≡ endService → ⊥) (λ e. omega arith) (λ e. omega arith) (λ e. omega arith) i
+
+pub letter-not-sync : (i : ℕ) → letter i ≡ 0b0101 → ⊥
+letter-not-sync i = letter-law (λ (s : ℕ). s ≡ 0b0101 → ⊥) (λ e. omega arith) (λ e. omega arith) (λ e. omega arith) i
+
+distinct-test : ℕ → ℕ → Bool
+distinct-test a b = not (eqb (third a) (third b)) || eqb a b
+
+distinct-thirds : (a b : ℕ) → a < 3 → b < 3 → third a ≡ third b → a ≡ b
+unfolding distinct-test
+distinct-thirds a b ha hb e =
+    eqb→eq a b (rw (eq-eqb (third a) (third b) e) at (at-cell distinct-test 3 3 tt a b ha hb))
+
+-- two items have the same letter exactly if their numbers leave the same when divided by 3
+pub letter-same : (i j : ℕ) → i % 3 ≡ j % 3 → letter i ≡ letter j
+unfolding letter
+letter-same i j e = ap third e
+
+pub same-letter : (i j : ℕ) → letter i ≡ letter j → i % 3 ≡ j % 3
+unfolding letter
+same-letter i j e = distinct-thirds (i % 3) (j % 3) (omega arith) (omega arith) e
+
+pub letter-next : (i : ℕ) → letter (i + 1) ≢ letter i
+letter-next i e = let d = same-letter (i + 1) i e in omega arith
+
+pub letter-next-but-one : (i : ℕ) → letter (i + 2) ≢ letter i
+letter-next-but-one i e = let d = same-letter (i + 2) i e in omega arith
+
+-- the letters of three items in a row are three
+pub letter-three : (i : ℕ) → 1 ≤ i → (letter (i - 1) ≢ letter i) × (letter i ≢ letter (i + 1)) × (letter (i - 1) ≢ letter (i + 1))
+letter-three i h = (
+  (λ e. let d = same-letter (i - 1) i e in omega arith),
+  (λ e. let d = same-letter i (i + 1) e in omega arith),
+  (λ e. let d = same-letter (i - 1) (i + 1) e in omega arith),
+)
+
+module _ (k L i : ℕ) where
+  pub itemService-data : i < itemCount k L → itemService k L i ≡ letter i
+  unfolding itemService
+  itemService-data h = simp (lt-ltb i (itemCount k L) h)
+
+  pub itemService-end : itemCount k L ≤ i → itemService k L i ≡ endService
+  unfolding itemService
+  itemService-end h = simp (le-ltb i (itemCount k L) h)
+
+  service-lt16 : (t : Bool) → cond t (letter i) endService < 16
+  service-lt16 true = letter-lt16 i
+  service-lt16 false = omega arith
+
+  pub itemService-lt16 : itemService k L i < 16
+  unfolding itemService
+  itemService-lt16 = service-lt16 (isData k L i)
+
+  pub itemPayload-data : (content : Bits) → i < itemCount k L
+      → itemPayload k L content i ≡ take k (drop (i * k) (filled k L content))
+  unfolding itemPayload
+  itemPayload-data content h = simp (lt-ltb i (itemCount k L) h)
+
+  pub itemPayload-end : (content : Bits) → itemCount k L ≤ i → itemPayload k L content i ≡ endPayload k L
+  unfolding itemPayload
+  itemPayload-end content h = simp (le-ltb i (itemCount k L) h)
+
+  pub service-itemBits : (content : Bits) → number (serviceOf (itemBits k L content i)) ≡ itemService k L i
+  unfolding itemBits
+  service-itemBits content =
+      ap number
+      (service-blockBits (binary 4 (itemService k L i)) (itemPayload k L content i) (length-binary 4 (itemService k L i)))
+      ∙ number-binary 4 (itemService k L i) itemService-lt16
+
+-- the two end blocks are equal
+pub itemBits-end : (k L : ℕ) (content : Bits) (i : ℕ) → itemCount k L ≤ i
+    → itemBits k L content i ≡ blockBits (binary 4 endService) (endPayload k L)
+unfolding itemBits
+itemBits-end k L content i h =
+    ap₂ (λ (s : ℕ) (p : Bits). blockBits (binary 4 s) p) (itemService-end k L i h) (itemPayload-end k L i content h)
+
+-- ---- the items are the order
+
+-- the first r items, one after the other, are the first r times k bits of the order with its filling
+pub filled-next : (k L : ℕ) (content : Bits) (r : ℕ) → r < itemCount k L
+    → take (r * k) (filled k L content) ++ itemPayload k L content r ≡ take (suc r * k) (filled k L content)
+filled-next k L content r h =
+    let e : suc r * k ≡ r * k + k = omega arith in
+    ap (λ (p : Bits). take (r * k) (filled k L content) ++ p) (itemPayload-data k L r content h)
+    ∙ sym (take-add (r * k) k (filled k L content))
+    ∙ ap (λ (n : ℕ). take n (filled k L content)) (sym e)

@@ -1,0 +1,5 @@
+pub mod Table
+pub mod Items
+pub mod Filling
+pub mod Building
+pub mod Sending
