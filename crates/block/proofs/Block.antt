@@ -3,16 +3,16 @@
 use mathlib.Core.Path.{_≡_, refl, sym, ap, ap₂, _∙_}
 use mathlib.Core.Bool.{Bool, true, false, not}
 use mathlib.Core.List.{[], _∷_, _++_, append-assoc}
-use Prim.Native.Nat.{ℕ, zero, suc, _+_, _-_, _*_, _/_, _<_, _≤_}
+use Prim.Native.Nat.{ℕ, zero, suc, _+_, _-_, _*_, _/_, _<_}
 use native.Mathlib.Omega.{arith}
 use borrow.Author.Tests.{not-true}
 use lib.ListN.{length, take, drop, length-append}
 use lib.Seq.{take-at, drop-at}
 use Rattle.crc.specs.Bits.{Bits, zeros, binary, xor, xorBits}
-use Rattle.crc.specs.Check.{check, divide, remainder, passes}
+use Rattle.crc.specs.Check.{check, remainder, passes}
 use Rattle.crc.proofs.Rows.{length-binary}
 use Rattle.crc.proofs.Codeword.{passes-checked}
-use Rattle.block.specs.Lengths.{lengths, isLength, blockLength}
+use Rattle.block.specs.Lengths.{isLength, blockLength}
 use Rattle.block.specs.Block.{blockBits, serviceOf, payloadOf, tens, serviceSync, syncSequence, syncBlock, cancelled}
 use Rattle.block.proofs.Lengths.{of-length, length-facts}
 

@@ -1,6 +1,6 @@
 -- A block that is read passes if and only if the generator divides the polynomial of all its n bits: on the promise of the
 -- call itself. Assumes nothing.
-use mathlib.Core.Path.{_≡_, refl, sym, ap, _∙_}
+use mathlib.Core.Path.{_≡_, refl, sym}
 use mathlib.Core.Bool.{Bool, true, false, not, _||_, cond}
 use mathlib.Core.List.{List}
 use mathlib.Core.Logic.{_↔_}
@@ -15,7 +15,7 @@ use Rattle.block.specs.Answer as A
 use Rattle.block.specs.Answer.{done}
 use Rattle.block.specs.Lengths.{isLength, blockLength}
 use Rattle.block.specs.Block.{serviceOf, Verdict, passed, failed, verdict}
-use Rattle.block.specs.Calls.{tooShort, readAnswer, readBlock, ReadBlock}
+use Rattle.block.specs.Calls.{tooShort, readBlock, ReadBlock}
 use Rattle.block.specs.declared.Read.{Read}
 use Rattle.block.specs.declared.Read.the-variants as R
 use Rattle.block.proofs.RoundTrip.{refuseIf-done}

@@ -2,20 +2,20 @@
 use mathlib.Core.Path.{_≡_, refl, sym, ap, _∙_}
 use mathlib.Core.Bool.{true, false}
 use mathlib.Core.List.{List, _++_}
-use Prim.Native.Nat.{ℕ, _+_, _*_, _/_, _%_, _≤_, _<_}
+use Prim.Native.Nat.{ℕ, _+_, _*_, _/_, _≤_, _<_}
 use native.Mathlib.Omega.{arith}
 use borrow.Author.Tests.{lt-ltb, le-ltb, eq-eqb, ne-eqb}
 use lib.ListN.{length, getD, take, drop, length-drop}
 use lib.Seq.{take-take}
-use Rattle.crc.specs.Bits.{Bits, binary, number, bitsOf, bytesOf}
+use Rattle.crc.specs.Bits.{binary, number, bitsOf, bytesOf}
 use Rattle.crc.specs.Check.{remainder, passes}
 use Rattle.crc.proofs.Rows.{number-binary}
 use Rattle.crc.proofs.Bytes.{length-bitsOf}
 use Rattle.block.specs.Answer as A
 use Rattle.block.specs.Answer.{refused, done}
-use Rattle.block.specs.Lengths.{isLength, blockLength, payloadBytes, blockBytes}
+use Rattle.block.specs.Lengths.{isLength, blockLength, blockBytes}
 use Rattle.block.specs.Block.{blockBits, serviceOf, payloadOf, passed, failed, verdict, syncBlock, cancelled}
-use Rattle.block.specs.Calls.{tooShort, overwritten, buildBlock, BuildBlock, readBlock, readBytes, ReadBlock, buildSync, BuildSync, cancelBlock, CancelBlock}
+use Rattle.block.specs.Calls.{tooShort, overwritten, buildBlock, BuildBlock, readBlock, ReadBlock, buildSync, BuildSync, cancelBlock, CancelBlock}
 use Rattle.block.specs.declared.Built.the-variants as B
 use Rattle.block.specs.declared.Read.the-variants as R
 use Rattle.block.proofs.Lengths.{length-facts, length-bytes}

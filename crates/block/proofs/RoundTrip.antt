@@ -1,21 +1,20 @@
 -- Reading what building wrote gives the service bits and the data back. Assumes nothing.
-use mathlib.Core.Path.{_≡_, refl, sym, ap, ap₂, subst, _∙_}
+use mathlib.Core.Path.{_≡_, refl, sym, ap, ap₂, _∙_}
 use mathlib.Core.Bool.{Bool, true, false, not, _||_}
 use mathlib.Core.List.{List, [], _∷_, _++_, append-assoc}
-use Prim.Native.Nat.{ℕ, zero, suc, _+_, _-_, _*_, _/_, _≤_, _<_}
+use Prim.Native.Nat.{ℕ, zero, suc, _+_, _-_, _*_, _≤_, _<_}
 use native.Mathlib.Omega.{arith}
 use borrow.Author.Tests.{not-false, ltb-false}
 use lib.Dec.{ltb, lit<}
-use lib.ListN.{length, getD, take, drop, length-append, length-drop, replicate}
+use lib.ListN.{length, getD, take, drop, length-append, length-drop}
 use lib.Seq.{take-at, take-append-le, drop-append-le, length-take-le}
 use Rattle.crc.specs.Bits.{Bits, zeros, binary, number, bitsOf, bytesOf}
-use Rattle.crc.specs.Check.{passes}
 use Rattle.crc.proofs.Rows.{length-binary, number-binary}
 use Rattle.crc.proofs.Bytes.{length-bitsOf, bitsOf-append, take-bitsOf, length-bytesOf, bitsOf-bytesOf, bytesOf-bitsOf}
 use Rattle.block.specs.Answer as A
-use Rattle.block.specs.Answer.{Answer, refused, done, refuseIf}
+use Rattle.block.specs.Answer.{Answer, done, refuseIf}
 use Rattle.block.specs.Lengths.{isLength, blockLength, payloadBytes, blockBytes}
-use Rattle.block.specs.Block.{blockBits, serviceOf, payloadOf, Verdict, passed, failed, verdict}
+use Rattle.block.specs.Block.{blockBits, payloadOf, passed, verdict}
 use Rattle.block.specs.Calls.{tooShort, overwritten, buildBlock, builtBytes, BuildBlock, readAnswer, readBlock, readBytes, ReadBlock}
 use Rattle.block.specs.declared.Built.the-variants as B
 use Rattle.block.specs.declared.Read.{Read}

@@ -2,16 +2,15 @@
 use mathlib.Core.Path.{_≡_, refl, sym}
 use mathlib.Core.Bool.{true, false}
 use mathlib.Core.List.{List, [], _∷_, _++_}
-use mathlib.Core.Logic.{_↔_}
 use Prim.Native.Nat.{ℕ, zero, suc, _-_, _%_, _≤_, _<_}
 use native.Mathlib.Omega.{arith}
 use lib.Dec.{lit<, lit≤}
 use lib.ListN.{length, getD, take, drop, replicate}
-use Rattle.crc.specs.Bits.{Bits, zeros, binary, number, bitsOf, bytesOf, xorBits}
+use Rattle.crc.specs.Bits.{zeros, binary, number, bitsOf, bytesOf, xorBits}
 use Rattle.crc.specs.Polynomial.{polynomial, Divides}
 use Rattle.crc.specs.Check.{remainder, passes}
 use Rattle.block.specs.Answer.{done}
-use Rattle.block.specs.Lengths.{isLength, blockLength}
+use Rattle.block.specs.Lengths.{isLength}
 use Rattle.block.specs.Block.{passed, verdict, syncBlock, cancelled}
 use Rattle.block.specs.Calls.{buildBlock, builtBytes, BuildBlock, readBlock, ReadBlock}
 use Rattle.block.specs.declared.Built.the-variants as B

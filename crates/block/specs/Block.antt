@@ -1,7 +1,7 @@
 -- The block as a row of bits. Assumes nothing.
 use mathlib.Core.Bool.{true, false, cond, not}
 use mathlib.Core.List.{[], _∷_, _++_}
-use Prim.Native.Nat.{ℕ, zero, suc, _+_, _/_}
+use Prim.Native.Nat.{ℕ, zero, suc, _/_}
 use lib.ListN.{take, drop}
 use Rattle.crc.specs.Bits.{Bits, binary, number}
 use Rattle.crc.specs.Check.{check, passes}

@@ -79,6 +79,7 @@ fn pack_block(m: usize, service: u8, payload: &[u8], block: &mut [u8])
     put_check(m, payload[m - 1], check, block);
 }
 
+// One block built: service bits, k data bits and their check. Refused in the order 1, 7, 6.
 pub fn build_block(k: usize, service: u8, payload: &[u8], block: &mut [u8]) -> Built
     ensures { λ r. ⌜ BuildBlock k service (now (payload .entry)) (now (block .entry)) r (now (block .exit)) ⌝ }
 {
@@ -115,6 +116,7 @@ fn remainder_of(m: usize, block: &[u8]) -> u16
     check ^ received_check(block[m], block[m + 1], block[m + 2])
 }
 
+// One block read: both slices judged, then the check; the data are moved if it passes. Refused in the order 1, 6.
 pub fn read_block(k: usize, block: &[u8], payload: &mut [u8]) -> Read
     ensures { λ r. ⌜ ReadBlock k (now (block .entry)) (now (payload .entry)) r (now (payload .exit)) ⌝ }
 {
@@ -152,6 +154,7 @@ fn fill_sync(m: usize, block: &mut [u8])
     block[m + 2] = 0x50;
 }
 
+// The synchronising block. Refused in the order 1, 6.
 pub fn synchronising_block(k: usize, block: &mut [u8]) -> Built
     ensures { λ r. ⌜ BuildSync k (now (block .entry)) r (now (block .exit)) ⌝ }
 {
@@ -166,7 +169,7 @@ pub fn synchronising_block(k: usize, block: &mut [u8]) -> Built
     Built::Done
 }
 
-// The last bit of a packed block inverted; the spare bits stay.
+// A packed block cancelled: its last bit inverted, the spare bits as they were. Refused in the order 1, 6.
 pub fn cancel_block(k: usize, block: &mut [u8]) -> Built
     ensures { λ r. ⌜ CancelBlock k (now (block .entry)) r (now (block .exit)) ⌝ }
 {

@@ -1,13 +1,12 @@
 -- `build_block` keeps its promise: each refusal by its tests, in their order, and the block packed. Assumes nothing.
 use borrow.Author.Needs.{needs}
 use borrow.Author.Tests.{not-true, not-false}
-use mathlib.Core.Bool.{true, false}
-use mathlib.Core.List.{List}
+use mathlib.Core.Bool.{true}
 use mathlib.Core.Path.{_≡_, sym, ap, _∙_}
 use native.Mathlib.Omega.{arith}
-use Prim.Native.Nat.{ℕ, _*_, _/_, _+_}
+use Prim.Native.Nat.{ℕ, _/_, _+_}
 use lib.ListN.{take}
-use Rattle.crc.specs.Bits.{Bits, binary, bitsOf}
+use Rattle.crc.specs.Bits.{binary, bitsOf}
 use Rattle.block.specs.Block.{blockBits}
 use Rattle.block.specs.Calls.{overwritten}
 use Rattle.block.specs.Lengths.{isLength}

@@ -1,17 +1,17 @@
 -- `cancel_block` keeps its promise: the one store inverts the last bit of the block. Assumes nothing.
 use borrow.Author.Needs.{needs}
 use borrow.Author.Tests.{not-true, not-false}
-use mathlib.Core.Bool.{Bool, true, false, not}
+use mathlib.Core.Bool.{Bool, true, false}
 use mathlib.Core.List.{List, [], _∷_, _++_, append-assoc}
-use mathlib.Core.Path.{_≡_, refl, sym, ap, ap₂, subst, _∙_}
+use mathlib.Core.Path.{_≡_, sym, ap, ap₂, _∙_}
 use native.Mathlib.Nat.{le-of-lt}
 use native.Mathlib.Omega.{arith}
 use Prim.Native.Nat.{ℕ, zero, suc, _/_, _+_, _*_, _<_}
 use lib.Bits.{bitXor, xor-shr, xor-lt}
 use lib.Dec.{lit<}
 use lib.ListN.{length, getD, take, drop, set, length-append, length-set}
-use lib.Seq.{set-split, split-at, take-at, drop-at, length-take-le, getD-set-same, getD-set-other}
-use Rattle.crc.specs.Bits.{Bits, zeros, binary, xor, xorBits, bitsOf, bytesOf}
+use lib.Seq.{set-split, split-at, take-at, drop-at, length-take-le}
+use Rattle.crc.specs.Bits.{Bits, binary, xorBits, bitsOf, bytesOf}
 use Rattle.crc.proofs.Rows.{length-binary, binary-xor, xor-bits-false, xor-bits-comm, xorBits-zeros}
 use Rattle.crc.proofs.Bytes.{length-bitsOf, bitsOf-append, bytesOf-bitsOf}
 use Rattle.block.specs.Block.{cancelled}

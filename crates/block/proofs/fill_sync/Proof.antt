@@ -7,9 +7,9 @@ use mathlib.Core.Path.{_≡_, refl, sym, ap, ap₂, _∙_}
 use native.Mathlib.Omega.{arith}
 use Prim.Native.Nat.{ℕ, zero, suc, _+_, _-_, _*_, _/_, _≤_, _<_}
 use native.Mathlib.Nat.{suc-add}
-use lib.ListN.{length, take, drop, set, replicate, length-set, length-append, length-drop, length-replicate}
+use lib.ListN.{length, drop, set, replicate, length-set, length-append, length-drop, length-replicate}
 use lib.Seq.{take-at, drop-append-add, drop-drop}
-use Rattle.crc.specs.Bits.{Bits, number, bytesOf}
+use Rattle.crc.specs.Bits.{number, bytesOf}
 use Rattle.block.specs.Block.{tens, serviceSync, syncSequence, syncBlock}
 use Rattle.block.specs.Calls.{overwritten}
 use Rattle.block.proofs.Packing.{three-stores}

@@ -7,7 +7,7 @@ use Prim.Native.Nat.{ℕ}
 use borrow.Author.Tests.{eq-eqb, ne-eqb}
 use lib.Dec.{eqb}
 use types.Run.{OneOf}
-use Rattle.block.specs.Lengths.{lengths, among, isLength}
+use Rattle.block.specs.Lengths.{among, isLength}
 use Rattle.block.proofs.known_length.Statement.{statement}
 use Rattle.block.proofs.known_length.Tie as tie
 

@@ -1,15 +1,11 @@
 -- The three stores of `put_check` are the last three bytes of a packed block. Assumes nothing.
 use borrow.Author.Needs.{needs}
-use mathlib.Core.List.{List, [], _∷_, _++_, append-assoc}
-use mathlib.Core.Path.{_≡_, sym, ap, _∙_}
+use mathlib.Core.List.{List, _++_}
+use mathlib.Core.Path.{sym, ap, _∙_}
 use mir.Facts.{fits-mask}
-use native.Mathlib.Numerals.{add-one, add-two}
 use native.Mathlib.Omega.{arith}
-use Prim.Native.Nat.{ℕ, suc, _+_, _*_, _/_, _%_, _^_, _≤_, _<_}
-use lib.Bits.{bitOr, bitAnd}
-use lib.ListN.{length, take, drop, set, length-set}
-use lib.Seq.{sets-eq}
-use Rattle.crc.specs.Bits.{Bits, binary, bytesOf}
+use Prim.Native.Nat.{ℕ, _+_, _/_}
+use lib.ListN.{take, drop, length-set}
 use Rattle.block.proofs.Packing.{check-bytes, three-stores}
 use Rattle.block.proofs.put_check.Statement.{statement}
 use Rattle.block.proofs.put_check.Tie as tie

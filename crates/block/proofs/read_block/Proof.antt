@@ -1,11 +1,11 @@
 -- `read_block` keeps its promise: each refusal by its tests, both slices first, then the check, then the data moved.
 -- Assumes nothing.
 use borrow.Author.Needs.{needs}
-use borrow.Author.Tests.{not-true, not-false, eqb-true, eqb-false}
-use mathlib.Core.Bool.{true, false}
+use borrow.Author.Tests.{not-true, not-false}
+use mathlib.Core.Bool.{true}
 use mathlib.Core.Path.{_≡_, sym, ap, _∙_}
 use native.Mathlib.Omega.{arith}
-use Prim.Native.Nat.{ℕ, _*_, _/_, _+_}
+use Prim.Native.Nat.{ℕ, _+_}
 use lib.ListN.{take}
 use Rattle.crc.specs.Bits.{bitsOf}
 use Rattle.crc.specs.Check.{remainder}

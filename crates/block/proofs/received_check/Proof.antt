@@ -1,7 +1,7 @@
 -- `received_check`: three numbers side by side. Assumes nothing.
 use borrow.Author.Needs.{needs}
 use mathlib.Core.List.{_++_, append-assoc}
-use mathlib.Core.Path.{_≡_, refl, sym, ap, ap₂, _∙_}
+use mathlib.Core.Path.{_≡_, ap, _∙_}
 use mir.Facts.{fits-mask}
 use native.Mathlib.Omega.{arith}
 use Prim.Native.Nat.{ℕ, _+_, _*_, _/_, _%_, _^_, _<_}

@@ -1,13 +1,13 @@
 -- `remainder_of`: what the register and the check received leave of the whole block. Assumes nothing.
 use borrow.Author.Needs.{needs}
 use mathlib.Core.List.{List, _++_}
-use mathlib.Core.Path.{_≡_, refl, sym, ap, ap₂, _∙_}
+use mathlib.Core.Path.{_≡_, sym, ap, ap₂, _∙_}
 use native.Mathlib.Omega.{arith}
 use Prim.Native.Nat.{ℕ, _+_, _*_, _/_, _^_, _≤_, _<_}
 use lib.Bits.{bitXor}
 use lib.ListN.{length, getD, take}
 use lib.Seq.{length-take-le}
-use Rattle.crc.specs.Bits.{Bits, binary, number, bitsOf}
+use Rattle.crc.specs.Bits.{Bits, binary, bitsOf}
 use Rattle.crc.specs.Check.{check, register, remainder}
 use Rattle.crc.proofs.Rows.{length-binary, number-binary}
 use Rattle.crc.proofs.Codeword.{remainder-behind}
