@@ -2,25 +2,26 @@
 -- Assumes nothing.
 use mathlib.Core.Path.{_≡_, ap, ap₂, sym, _∙_}
 use mathlib.Core.Bool.{true}
-use mathlib.Core.List.{List, _++_}
+use mathlib.Core.List.{List, _++_, append-assoc}
 use Prim.Native.Nat.{ℕ, _+_, _-_, _*_, _/_, _≤_, _<_}
 use native.Mathlib.Nat.{mul-left-comm, mul-le-mul-right, div-mul-le-self, lt-div-mul-add}
 use native.Mathlib.Omega.{arith}
 use borrow.Author.Tests.{le-ltb}
-use lib.ListN.{length, take, drop, length-append, length-drop}
-use lib.Seq.{take-take, take-append-le, drop-append-le}
+use lib.ListN.{length, getD, take, drop, length-append, length-drop}
+use lib.Seq.{take-at, drop-at, take-take, take-append-le, drop-append-le}
 use Rattle.crc.specs.Bits.{Bits, binary, bitsOf, bytesOf, zeros}
 use Rattle.crc.proofs.Rows.{length-binary}
-use Rattle.crc.proofs.Bytes.{length-bitsOf, take-bitsOf, drop-bitsOf, bitsOf-bytesOf}
+use Rattle.crc.proofs.Bytes.{length-bitsOf, bitsOf-append, take-bitsOf, drop-bitsOf, length-bytesOf, bytesOf-zeros, bitsOf-bytesOf, bytesOf-bitsOf, bytesOf-append}
 use Rattle.block.specs.Answer.{done}
 use Rattle.block.specs.Lengths.{isLength, blockLength, blockBytes}
-use Rattle.block.specs.Block.{blockBits, syncBlock}
+use Rattle.block.specs.Block.{blockBits, syncBlock, cancelled}
 use Rattle.block.specs.Calls.{overwritten, buildBlock, builtBytes, BuildBlock, buildSync, syncBytes, BuildSync, cancelBlock, cancelBytes, CancelBlock}
 use Rattle.block.specs.declared.Built.{Built}
 use Rattle.block.proofs.Lengths.{length-facts, length-bytes}
+use Rattle.block.proofs.Block.{length-cancelled}
 use Rattle.line.specs.Order.{itemCount, letter, filled, orderBits, version, endPayload, itemBits}
 use Rattle.line.proofs.Items.{itemCount-least, item-within, length-orderBits, itemService-data, itemPayload-data}
-use Rattle.line.proofs.Filling.{take-zeros, drop-take}
+use Rattle.line.proofs.Filling.{take-zeros, drop-take, drop-bytes}
 
 -- ---- the calls
 
@@ -48,6 +49,45 @@ module _ (k : ℕ) (slice : List ℕ) (answer : Built) (slice′ : List ℕ) (h 
   cancels p =
       let e : cancelBlock k slice ≡ done tt = simp (h, le-ltb (8 * length slice) (blockLength k) room) in
       p .writes ∙ ap (cancelBytes k slice) e
+
+-- the bits of a slice over which a block was written
+module _ (k : ℕ) (row : Bits) (slice : List ℕ) (h : isLength k ≡ true) (n : length row ≡ blockLength k) where
+  abbrev behind : List ℕ
+  behind = drop (blockBytes k) slice
+
+  bits-overwritten : bitsOf (overwritten (blockBytes k) row slice) ≡ row ++ (zeros 4 ++ bitsOf behind)
+  bits-overwritten =
+      let f = length-facts k h in
+      let e : 8 * blockBytes k - length row ≡ 4 = omega arith in
+      bitsOf-append (bytesOf (blockBytes k) row) behind
+      ∙ ap (λ (l : Bits). l ++ bitsOf behind)
+      (bitsOf-bytesOf (blockBytes k) row (omega arith) ∙ ap (λ (j : ℕ). row ++ zeros j) e)
+      ∙ append-assoc row (zeros 4) (bitsOf behind)
+
+  -- cancelled there, it is the cancelled block written
+  pub cancel-overwritten : ((i : ℕ) → getD slice i 0 < 256)
+      → cancelBytes k (overwritten (blockBytes k) row slice) (done tt) ≡ overwritten (blockBytes k) (cancelled row) slice
+  cancel-overwritten bytes =
+      let f = length-facts k h in
+      let m : ℕ = blockBytes k in
+      let s : List ℕ = overwritten m row slice in
+      let l : length s ≡ m + length behind =
+      length-append (bytesOf m row) behind ∙ ap (λ (j : ℕ). j + length behind) (length-bytesOf m row)
+      in
+      let t : take (blockLength k) (bitsOf s) ≡ row =
+      ap (take (blockLength k)) bits-overwritten ∙ take-at row (zeros 4 ++ bitsOf behind) (blockLength k) n
+      in
+      let d : drop (blockLength k) (bitsOf s) ≡ zeros 4 ++ bitsOf behind =
+      ap (drop (blockLength k)) bits-overwritten ∙ drop-at row (zeros 4 ++ bitsOf behind) (blockLength k) n
+      in
+      let w : length (cancelled row ++ zeros 4) ≡ 8 * m =
+      omega (arith, length-append (cancelled row) (zeros 4), length-cancelled row)
+      in
+      ap₂ (λ (x y : Bits). bytesOf (length s) (cancelled x ++ y)) t d
+      ∙ ap₂ (λ (j : ℕ) (x : Bits). bytesOf j x) l (sym (append-assoc (cancelled row) (zeros 4) (bitsOf behind)))
+      ∙ bytesOf-append m (length behind) (cancelled row ++ zeros 4) (bitsOf behind) w
+      ∙ ap₂ (λ (x y : List ℕ). x ++ y) (bytesOf-zeros m (cancelled row) 4)
+      (bytesOf-bitsOf behind (drop-bytes m slice bytes))
 
 -- ---- an end block's data
 

@@ -3,3 +3,5 @@ pub mod Items
 pub mod Filling
 pub mod Building
 pub mod Sending
+pub mod Delivery
+pub mod Examples

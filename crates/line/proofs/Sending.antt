@@ -1,6 +1,6 @@
 -- The sending end stays in range: an opened sender is in range, every sending call keeps it so, and so no call from an
 -- opened sender is refused for a spoiled state. Assumes nothing.
-use mathlib.Core.Path.{_≡_, refl, ap, sym, _∙_}
+use mathlib.Core.Path.{_≡_, refl, ap, sym, subst, _∙_}
 use mathlib.Core.Logic.{_≢_, _⊎_, inl, inr, ⊎-elim}
 use mathlib.Core.Bool.{Bool, true, false, cond, not, _&&_, _||_}
 use mathlib.Core.List.{List}
@@ -15,8 +15,9 @@ use Rattle.block.specs.Lengths.{isLength, blockLength}
 use Rattle.block.specs.Calls.{tooShort}
 use Rattle.line.specs.LoopTime.{loopTime}
 use Rattle.line.specs.Order.{longestOrder, validLength, itemCount}
-use Rattle.line.specs.Sending.{freshSender, unless-refused, openSender, OpenSender, Block, transmit, senderItems, atLast, lastRun, senderInRange, gaveUp, send, sendState, sentAnswer, Send}
+use Rattle.line.specs.Sending.{freshSender, unless-refused, openSender, OpenSender, Block, transmit, senderItems, atLast, lastRun, senderInRange, gaveUp, send, sendState, sendBytes, sentAnswer, Send}
 use Rattle.line.specs.SendCalls.{SendCalls, none, call}
+use Rattle.line.specs.SendSteps.{Ready, Sends}
 use Rattle.line.specs.declared.sender.Sender.{Sender}
 use Rattle.line.specs.declared.sender.Next.{Next}
 use Rattle.line.specs.declared.sender.Next.the-variants.{Sync, Older, Newer}
@@ -220,3 +221,53 @@ pub send-never-spoiled : (k speed loop-ms L : ℕ) (order : List ℕ) (s t : Sen
 send-never-spoiled k speed loop-ms L order s t o calls lent reading slice result slice′ p =
     not-spoiled t lent reading slice result slice′ p
     (calls-in-range calls (opened-in-range k speed loop-ms L order s o))
+
+-- ---- the answers of a call, refused or not
+
+module _ (s : Sender) (order : List ℕ) (reading : Bool) (slice : List ℕ) where
+  pub refused-call : (n : ℕ) → send s order reading slice ≡ refused n
+      → Send s order reading slice (record { state = s; answer = W.Refused n }) slice
+  refused-call n e =
+      record { answers = sym e; state = ap (sendState s reading) (sym e); writes = ap (sendBytes s order slice) (sym e) }
+
+  pub sent-call : (next : Next) → s .next ≡ next → send s order reading slice ≡ done (transmit s (s .next) reading .block)
+      → (result : Step) (slice′ : List ℕ) → Sends s next reading order slice result slice′
+      → Send s order reading slice result slice′
+  sent-call next h e result slice′ p =
+      let q : Sends s (s .next) reading order slice result slice′ =
+      subst (λ (n : Next). Sends s n reading order slice result slice′) (sym h) p
+      in
+      record {
+        answers = q .answers ∙ sym e;
+        state = q .state ∙ ap (sendState s reading) (sym e);
+        writes = q .writes ∙ ap (sendBytes s order slice) (sym e);
+      }
+
+  pub spoiled-call : senderInRange s ≡ false → send s order reading slice ≡ refused A.spoiled
+  unfolding send
+  spoiled-call h = simp h
+
+  module _ (h : senderInRange s ≡ true) where
+    pub rest-call : s .finished || gaveUp s ≡ true → send s order reading slice ≡ refused A.rest
+    unfolding send
+    rest-call r = simp (h, r)
+
+    module _ (r : s .finished || gaveUp s ≡ false) where
+      pub ready : Ready s
+      ready =
+          let n = eqb-false (s .run) lastRun (or-false (s .finished) (gaveUp s) r .1) in
+          record { range = h; going-on = omega (arith, in-range s h .cancels) }
+
+      pub order-call : tooShort order (s .setup .length) ≡ true → send s order reading slice ≡ refused A.short
+      unfolding send
+      order-call t = simp (h, r, t)
+
+      pub slice-call : tooShort order (s .setup .length) ≡ false → tooShort slice (blockLength (s .setup .k)) ≡ true
+          → send s order reading slice ≡ refused A.short
+      unfolding send
+      slice-call t u = simp (h, r, t, u)
+
+      pub going-call : tooShort order (s .setup .length) ≡ false → tooShort slice (blockLength (s .setup .k)) ≡ false
+          → send s order reading slice ≡ done (transmit s (s .next) reading .block)
+      unfolding send
+      going-call t u = simp (h, r, t, u)

@@ -2,7 +2,9 @@ pub mod Table
 pub mod LoopTime
 pub mod Order
 pub mod Sending
-pub mod SendCalls
 pub mod Receiving
 pub mod Course
 pub mod Delivery
+pub mod SendCalls
+pub mod SendSteps
+pub mod Examples

@@ -15,6 +15,9 @@ pub const LONGEST_ORDER: usize = 262144;
 
 pub const MOST_ITEMS: usize = 1093;
 
+// A block's service and check bits.
+pub const OVERHEAD: usize = 20;
+
 const LETTER_A: u8 = 0b0011;
 
 const LETTER_B: u8 = 0b1001;

@@ -1,0 +1,229 @@
+-- A receiving call while a block is on the line: the bits go by, or they are the last of the block. Assumes nothing.
+use mathlib.Core.Path.{_≡_, refl, ap, ap₂, sym, _∙_, subst, subst₂}
+use mathlib.Core.Logic.{_⊎_, inl, inr, ⊎-elim}
+use mathlib.Core.Bool.{Bool, true, false, cond, _&&_, _||_, false≢true}
+use mathlib.Core.List.{List, [], _∷_, _++_, append-assoc}
+use Prim.Native.Nat.{ℕ, _+_, _*_, _<_}
+use native.Mathlib.Omega.{arith}
+use lib.ListN.{length, drop}
+use lib.Seq.{drop-at, drop-length}
+use Rattle.crc.specs.Bits.{Bits, bit}
+use Rattle.block.specs.Answer.{done}
+use Rattle.block.specs.Lengths.{blockLength}
+use Rattle.block.specs.Block.{payloadOf, syncBlock}
+use Rattle.line.specs.Order.{itemBits, itemPayload}
+use Rattle.line.specs.Receiving.{arrayBytes, lastBad, Rule, unfinished, standing, meaning, after, Reading, stops, idleRule, heldInRange, storeAt}
+use Rattle.line.specs.Course.{World, receiveEntry, receiveAfter}
+use Rattle.line.specs.Delivery.{news, isItem, reportsEnd}
+use Rattle.line.specs.declared.receiver.Receiver.{Receiver}
+use Rattle.line.specs.declared.receiver.Setup.{Setup}
+use Rattle.line.specs.declared.receiver.Phase.{Phase}
+use Rattle.line.specs.declared.receiver.Phase.the-variants as P
+use Rattle.line.specs.declared.receiver.Event.{Event}
+use Rattle.line.specs.declared.receiver.Event.the-variants as E
+use Rattle.line.proofs.Items.{payload-itemBits}
+use Rattle.line.proofs.Delivery.Tests.{or-no, and-no}
+use Rattle.line.proofs.Delivery.Ends.{Ends, LineBlock, Reads, Busy}
+use Rattle.line.proofs.Delivery.Ends as D
+use Rattle.line.proofs.Delivery.Invariant.{read-keeps}
+use Rattle.line.proofs.Delivery.Reading.{After, after-is, none-held, held-none}
+use Rattle.line.proofs.Delivery.Ruling.{Ruling}
+use Rattle.line.proofs.Delivery.Storing.{store-takes, store-after}
+use Rattle.line.proofs.Delivery.State.{Session, N, Fit, alarmStands, endsOf, Held, Stored, Base, BusyLine, Told, Result}
+use Rattle.line.proofs.Delivery.State as S
+
+-- ---- a rule that ends no block
+
+pub record Quiet (alarm : Bool) (x : Rule) : Type 0 where
+  pub new : news (meaning x .event) .new ≡ false
+  pub end : news (meaning x .event) .end ≡ false
+  pub alarms : (alarm || news (meaning x .event) .alarm) ≡ alarm
+  pub alarm-only : news (meaning x .event) .alarm ≡ true → alarm ≡ true
+  pub reports : (M : ℕ) → reportsEnd M (meaning x .event) ≡ false
+  pub checked : meaning x .checked ≡ false
+  pub stores : meaning x .stores ≡ false
+
+pub quiet-unfinished : (alarm : Bool) → Quiet alarm unfinished
+quiet-unfinished alarm =
+    record { new = refl; end = refl; alarms = or-no alarm; alarm-only = λ e. absurd (false≢true e); reports = λ M. refl; checked = refl; stores = refl }
+
+quiet-alarm : {e : Event} → news e .new ≡ false → news e .end ≡ false → ((M : ℕ) → reportsEnd M e ≡ false) → news e .alarm ≡ true → Quiet true (standing e)
+quiet-alarm a b c d =
+    record { new = a; end = b; alarms = refl; alarm-only = λ e. refl; reports = c; checked = refl; stores = refl }
+
+-- 0 bits
+pub quiet-idle : (p : Phase) → Quiet (alarmStands p) (idleRule p)
+quiet-idle P.Search = quiet-unfinished false
+quiet-idle P.InStep = quiet-unfinished false
+quiet-idle P.SequenceAlarm = quiet-alarm refl refl (λ M. refl) refl
+quiet-idle P.LengthAlarm = quiet-alarm refl refl (λ M. refl) refl
+
+pub not-danger : (alarm : Bool) (x : Rule) → Quiet alarm x → (good : Bool) (d : ℕ) → cond (good && meaning x .checked) 0 d ≡ d
+not-danger alarm x q good d =
+    ap (λ (b : Bool). cond (good && b) 0 d) (q .checked) ∙ ap (λ (b : Bool). cond b 0 d) (and-no good)
+
+-- the receiver after such a call, with the bits that are then used
+pub record Still (o : Session) (r t : Receiver) : Type 0 where
+  pub k : t .setup .k ≡ o .k
+  pub array : length (t .bits) ≡ arrayBytes
+  pub row : t .row < lastBad
+  pub held : heldInRange (t .phase) (blockLength (o .k)) (t .held) ≡ true
+  pub taken : t .taken ≡ r .taken
+  pub ended : t .ended ≡ r .ended
+  pub phase : t .phase ≡ r .phase
+
+pub still-same : (o : Session) (w : World) → Base o w → Still o (w .receiver) (w .receiver)
+still-same o w b = record { k = b .k; array = b .array; row = b .row; held = b .held; taken = refl; ended = refl; phase = refl }
+
+-- what such a call tells
+pub still-told : (o : Session) (w : World) (l : ℕ) → Base o w → (lent : Bits) (store : List ℕ) → store ≡ w .store → (x : Rule) (n : ℕ) (t : Receiver)
+    → Quiet (alarmStands (w .receiver .phase)) x → Still o (w .receiver) t → (alarmStands (w .receiver .phase) ≡ true → l ≡ 1)
+    → let y : Reading = record { rule = x; row = []; used = n; state = t } in
+    Told o w l (receiveEntry w lent store (done y)) (receiveAfter w store (done y))
+still-told o w l base lent store same x n t q s lost =
+    record {
+      base = record {
+        sender-k = base .sender-k;
+        sender-L = base .sender-L;
+        run = base .run;
+        k = s .k;
+        array = s .array;
+        row = s .row;
+        held = s .held;
+        stored = subst₂ (λ (m : ℕ) (z : List ℕ). Stored o m z) (sym (s .taken)) (sym kept) (base .stored);
+      };
+      taken = s .taken ∙ omega (arith, ap bit (q .new));
+      ended = s .ended ∙ sym (ap (λ (b : Bool). w .receiver .ended || b) (q .end) ∙ or-no (w .receiver .ended));
+      length = λ M e. absurd (false≢true (sym (q .reports M) ∙ e));
+      alarm = ap alarmStands (s .phase) ∙ sym (q .alarms);
+      alarm-lost = λ e. lost (q .alarm-only e);
+      refusal = tt;
+    }
+  where
+    kept : cond (meaning x .stores) (storeAt (w .receiver .taken * w .receiver .setup .k) (payloadOf (w .receiver .setup .k) []) store) store ≡ w .store
+    kept = ap (λ (b : Bool). cond b (storeAt (w .receiver .taken * w .receiver .setup .k) (payloadOf (w .receiver .setup .k) []) store) store) (q .stores) ∙ same
+
+-- ---- a block on the line
+
+pub empty-or-not : (row : Bits) → (row ≡ []) ⊎ (row ≡ [] → ⊥)
+empty-or-not [] = inl refl
+empty-or-not (b ∷ row) = inr (λ e. let z : _≡_ {A = ℕ} 0 1 = cc in omega arith)
+
+module _ (o : Session) (fit : Fit o) (w : World) (l d : ℕ) (copy : Bits) (f : LineBlock) (line : BusyLine o w l d copy f) (base : Base o w)
+    (lent : Bits) (store : List ℕ) (same : store ≡ w .store) where
+  abbrev pub After-call : Reading → Type 0
+  After-call y = Result o w l d copy f (receiveEntry w lent store (done y)) (receiveAfter w store (done y))
+
+  pub alarm-lost : alarmStands (w .receiver .phase) ≡ true → l ≡ 1
+  alarm-lost a = ⊎-elim (λ b. b .lost) (λ b. absurd (omega (arith, ap bit a, b .0 .alarm))) (line .busy .state)
+
+  -- no event, or a standing alarm's: the bits go by
+  module _ (later : Bits) (split : w .left ≡ lent ++ later) (x : Rule) (n : ℕ) (t : Receiver) (all : n ≡ length lent)
+      (q : Quiet (alarmStands (w .receiver .phase)) x) (s : Still o (w .receiver) t) where
+    abbrev pub t-ends : Ends
+    t-ends = S.ends (w .sender) t l d
+
+    -- at the last bit of the block
+    pub record AtLast : Type 0 where
+      pub held : Held t []
+      pub reads : Reads (N o) (endsOf w l d) t-ends f (meaning x .event)
+      pub clean : f ≡ LineBlock.sync → copy ≡ syncBlock (o .k) → alarmStands (w .receiver .phase) ≡ false → meaning x .event ≡ E.Sync
+
+    now : drop n (w .left) ≡ later
+    now = ap₂ drop all split ∙ drop-at lent later (length lent) refl
+
+    danger-kept : cond (isItem (w .block) && meaning x .checked) 0 d ≡ d
+    danger-kept = not-danger (alarmStands (w .receiver .phase)) x q (isItem (w .block)) d
+
+    pub pass : Held t (line .used ++ lent) → Busy (N o) t-ends (w .sender .next) f
+        → (alarmStands (w .receiver .phase) ≡ false → t-ends ≡ endsOf w l d) → (later ≡ [] → AtLast)
+        → After-call (record { rule = x; row = []; used = n; state = t })
+    unfolding now danger-kept
+    pass held busy ends-same last =
+        record {
+          next =
+              ⊎-elim
+              (λ z. inr (record {
+                left = now ∙ z;
+                held = last z .held;
+                sender = refl;
+                event = meaning x .event;
+                reads = subst (λ (m : ℕ). Reads (N o) (endsOf w l d) (S.ends (w .sender) t l m) f (meaning x .event)) (sym danger-kept) (last z .reads);
+                news = refl;
+                clean = last z .clean;
+              }))
+              (λ z. inl (
+                record {
+                  used = line .used ++ lent;
+                  split = line .split ∙ ap (λ (y : Bits). line .used ++ y) split ∙ sym (append-assoc (line .used) lent later) ∙ ap (λ (y : Bits). (line .used ++ lent) ++ y) (sym now);
+                  more = λ e. z (sym now ∙ e);
+                  long = line .long;
+                  held = held;
+                  busy = subst (λ (m : ℕ). Busy (N o) (S.ends (w .sender) t l m) (w .sender .next) f) (sym danger-kept) busy;
+                  copy-of = line .copy-of;
+                },
+                refl,
+                (λ a. ap (λ (m : ℕ). S.ends (w .sender) t l m) danger-kept ∙ ends-same a),
+              ))
+              (empty-or-not later);
+          told = still-told o w l base lent store same x n t q s alarm-lost;
+        }
+
+  -- the rule that ends the block
+  module _ (x : Rule) (row : Bits) (n : ℕ) (all : n ≡ length (w .left)) (is-copy : meaning x .stores ≡ true → row ≡ copy)
+      (quiet : alarmStands (w .receiver .phase) ≡ false) (g : Ruling o fit w l d copy f line x) where
+    left-state : After (w .receiver) (after (w .receiver) x) (meaning x .stores) (news (meaning x .event) .new) (news (meaning x .event) .end) (news (meaning x .event) .alarm)
+    left-state = after-is (w .receiver) x (g .ends-block)
+
+    carries : (i : ℕ) → i ≡ w .receiver .taken → row ≡ itemBits (o .k) (o .L) (o .content) i
+        → payloadOf (w .receiver .setup .k) row ≡ itemPayload (o .k) (o .L) (o .content) (w .receiver .taken)
+    carries i e c =
+        ap₂ payloadOf (base .k) (c ∙ ap (itemBits (o .k) (o .L) (o .content)) e)
+        ∙ payload-itemBits (o .k) (o .L) (o .content) (fit .known) (fit .content) (w .receiver .taken)
+
+    taking : meaning x .stores ≡ true
+        → Stored o (w .receiver .taken + 1) (storeAt (w .receiver .taken * w .receiver .setup .k) (payloadOf (w .receiver .setup .k) row) store)
+    taking e =
+        let t = g .takes e in
+        let y = carries (t .0) (t .2) (is-copy e ∙ t .1) in
+        let h = store-takes o fit (w .receiver .taken) (w .store) (base .stored) (omega (arith, t .2, t .3)) in
+        subst (Stored o (w .receiver .taken + 1))
+        (sym (ap₂ (λ (m : ℕ) (p : Bits). storeAt (w .receiver .taken * m) p store) (base .k) y
+        ∙ ap (storeAt (w .receiver .taken * o .k) (itemPayload (o .k) (o .L) (o .content) (w .receiver .taken))) same)) h
+
+    alarms-lost : news (meaning x .event) .alarm ≡ true → l ≡ 1
+    alarms-lost e =
+        ⊎-elim (λ b. b .lost) (λ b. absurd (omega (arith, ap bit (left-state .alarms ∙ e), b .alarm))) (read-keeps (line .busy) (g .reads) .state)
+
+    pub finish : After-call (stops (w .receiver) x row n)
+    finish =
+        let a = left-state in
+        record {
+          next = inr (record {
+            left = ap (λ (m : ℕ). drop m (w .left)) all ∙ drop-length (w .left);
+            held = held-none (after (w .receiver) x) (a .held);
+            sender = refl;
+            event = meaning x .event;
+            reads = g .reads;
+            news = refl;
+            clean = λ p c z. g .clean p c;
+          });
+          told = record {
+            base = record {
+              sender-k = base .sender-k;
+              sender-L = base .sender-L;
+              run = base .run;
+              k = ap (λ (z : Setup). z .k) (a .setup) ∙ base .k;
+              array = a .array;
+              row = a .row;
+              held = ap (heldInRange (after (w .receiver) x .phase) (blockLength (o .k))) (a .held) ∙ none-held (after (w .receiver) x .phase) (o .k);
+              stored = store-after o (w .receiver .taken) (after (w .receiver) x .taken) (meaning x .stores) _ store (a .taken) (subst (Stored o (w .receiver .taken)) (sym same) (base .stored)) taking;
+            };
+            taken = a .taken ∙ ap (λ (b : Bool). bit b + w .receiver .taken) (a .stored);
+            ended = a .ended;
+            length = g .length;
+            alarm = a .alarms ∙ sym (ap (λ (b : Bool). b || news (meaning x .event) .alarm) quiet);
+            alarm-lost = alarms-lost;
+            refusal = tt;
+          };
+        }

@@ -1,0 +1,265 @@
+-- One call keeps the state of a session. Assumes nothing.
+use mathlib.Core.Path.{_≡_, refl, ap, ap₂, sym, _∙_, subst}
+use mathlib.Core.Logic.{_⊎_, inl, inr, ⊎-elim}
+use mathlib.Core.Bool.{Bool, true, false, cond, not, _&&_, _||_, false≢true}
+use mathlib.Core.List.{List, [], _∷_, _++_}
+use Prim.Native.Nat.{ℕ, _+_, _*_}
+use native.Mathlib.Omega.{arith}
+use lib.ListN.{length, take}
+use lib.Seq.{length-take-le}
+use borrow.Author.Tests.{ltb-false, le-leb, lt-ltb, eq-eqb}
+use Rattle.crc.specs.Bits.{Bits, bit, bitsOf, xorBits}
+use Rattle.crc.specs.Damage.{Damage}
+use Rattle.crc.proofs.Bytes.{length-bitsOf}
+use Rattle.block.specs.Answer as A
+use Rattle.block.specs.Answer.{Answer, refused, done}
+use Rattle.block.specs.Lengths.{isLength, blockLength}
+use Rattle.block.specs.Calls.{tooShort}
+use Rattle.line.specs.Order.{longestOrder, mostItems, validLength, itemCount, orderBits}
+use Rattle.line.specs.Sending.{Block, transmit, gaveUp, send, senderInRange, plainBits}
+use Rattle.line.specs.Receiving.{meaning, Reading, reading, idleRule, idle, readings, receive, receiverInRange, lastBad, heldInRange}
+use Rattle.line.specs.Course.{World, Call, sending, receiving, Heard, Entry, receive-refused, sendEntry, sendAfter, receiveEntry, receiveAfter, entry, next}
+use Rattle.line.specs.Delivery as Delivery
+use Rattle.line.specs.Delivery.{news, OnlyRefused, isItem, eventOf, reportsEnd}
+use Rattle.line.specs.declared.sender.Sender.{Sender}
+use Rattle.line.specs.declared.sender.Setup.{Setup}
+use Rattle.line.specs.declared.receiver.Receiver.{Receiver}
+use Rattle.line.proofs.Sending.{range-in}
+use Rattle.line.proofs.Delivery.Tests.{cond-case, or-false, or-no}
+use Rattle.line.proofs.Delivery.Ends.{LineBlock, Basic, Idle, Busy}
+use Rattle.line.proofs.Delivery.Invariant.{send-keeps, read-keeps}
+use Rattle.line.proofs.Delivery.Sending.{sends-block, setup-kept, run-kept}
+use Rattle.line.proofs.Delivery.Ruling.{few}
+use Rattle.line.proofs.Delivery.Hearing.{quiet-idle, not-danger, still-same, still-told}
+use Rattle.line.proofs.Delivery.Splitting.{reading-told}
+use Rattle.line.proofs.Delivery.State.{Session, N, Fit, alarmStands, endsOf, lost′, danger′, Base, IdleLine, BusyLine, Inv, Okay, Told, Done, Result, Stays, Begins, Keeps}
+
+-- ---- how a call is answered, its state in range
+
+pub data SendAnswered (s : Sender) (reading : Bool) : Answer Block → Type 0 where
+  refuses : {n : ℕ} → (n ≡ A.short) ⊎ (n ≡ A.rest) → SendAnswered s reading (refused n)
+  begins : s .finished ≡ false → gaveUp s ≡ false → SendAnswered s reading (done (transmit s (s .next) reading .block))
+
+pub data ReceiveAnswered (r : Receiver) (lent : Bits) (count : ℕ) : Answer Reading → Type 0 where
+  refuses : ReceiveAnswered r lent count (refused A.short)
+  hears : length lent ≡ count → ReceiveAnswered r lent count (done (readings r lent count))
+
+in-range : {b : Bool} → b ≡ true → not b ≡ true → ⊥
+in-range {b} h e = false≢true (sym (ap not h) ∙ e)
+
+pub send-answered : (s : Sender) (order : List ℕ) (reading : Bool) (slice : List ℕ) → senderInRange s ≡ true
+    → SendAnswered s reading (send s order reading slice)
+unfolding send
+send-answered s order reading slice h =
+    cond-case (SendAnswered s reading) (not (senderInRange s)) (λ e. absurd (in-range h e))
+    (λ e. cond-case (SendAnswered s reading) (s .finished || gaveUp s) (λ e. refuses (inr refl))
+    (λ g. cond-case (SendAnswered s reading) (tooShort order (s .setup .length) || tooShort slice (blockLength (s .setup .k)))
+    (λ e. refuses (inl refl)) (λ e. let q = or-false (s .finished) (gaveUp s) g in begins (q .0) (q .1))))
+
+pub receive-answered : (r : Receiver) (line : List ℕ) (count : ℕ) (store : List ℕ) → receiverInRange r ≡ true
+    → ReceiveAnswered r (take count (bitsOf line)) count (receive r line count store)
+unfolding receive
+receive-answered r line count store h =
+    cond-case (ReceiveAnswered r (take count (bitsOf line)) count) (not (receiverInRange r)) (λ e. absurd (in-range h e))
+    (λ e. cond-case (ReceiveAnswered r (take count (bitsOf line)) count) (tooShort line count) (λ e. ReceiveAnswered.refuses)
+    (λ g. cond-case (ReceiveAnswered r (take count (bitsOf line)) count)
+    (meaning (readings r (take count (bitsOf line)) count .rule) .stores && tooShort store (r .taken * r .setup .k + r .setup .k))
+    (λ e. ReceiveAnswered.refuses) (λ e. hears (size g))))
+  where
+    size : tooShort line count ≡ false → length (take count (bitsOf line)) ≡ count
+    size g = length-take-le count (bitsOf line) (omega (arith, ltb-false (8 * length line) count g, length-bitsOf line))
+
+-- ---- a call that hears nothing: refused, or a sending call
+
+unheard-told : (o : Session) (w : World) (l : ℕ) (e : Entry) (w′ : World) → ((f : Heard → Bool) → Delivery.hears f e ≡ false) → Base o w′
+    → w′ .receiver ≡ w .receiver → OnlyRefused e → Told o w l e w′
+unheard-told o w l e w′ none base same refusal =
+    record {
+      base = base;
+      taken = ap (λ (r : Receiver). r .taken) same ∙ omega (arith, ap bit (none (λ y. news (eventOf y) .new)));
+      ended =
+          ap (λ (r : Receiver). r .ended) same
+          ∙ sym (ap (λ (b : Bool). w .receiver .ended || b) (none (λ y. news (eventOf y) .end)) ∙ or-no (w .receiver .ended));
+      length = λ M h. absurd (false≢true (sym (none (λ y. reportsEnd M (eventOf y))) ∙ h));
+      alarm =
+          ap (λ (r : Receiver). alarmStands (r .phase)) same
+          ∙ sym (ap (λ (b : Bool). alarmStands (w .receiver .phase) || b) (none (λ y. news (eventOf y) .alarm)) ∙ or-no (alarmStands (w .receiver .phase)));
+      alarm-lost = λ h. absurd (false≢true (sym (none (λ y. news (eventOf y) .alarm)) ∙ h));
+      refusal = refusal;
+    }
+
+short-told : (o : Session) (w : World) (l : ℕ) → Base o w → Told o w l (receive-refused A.short) w
+short-told o w l b = unheard-told o w l (receive-refused A.short) w (λ f. refl) b refl refl
+
+module _ (o : Session) (fit : Fit o) where
+  -- ---- the states are in range
+
+  basic-of : (w : World) (l d : ℕ) → Inv o w l d → Basic (N o) (endsOf w l d)
+  basic-of w l d h = ⊎-elim (λ g. g .idle .basic) (λ g. g .line .busy .basic) (h .phase)
+
+  pub sender-in-range : (w : World) (l d : ℕ) → Inv o w l d → senderInRange (w .sender) ≡ true
+  unfolding validLength
+  sender-in-range w l d h =
+      let b = basic-of w l d h in
+      range-in (w .sender)
+      (record {
+        known = ap isLength (h .base .sender-k) ∙ fit .known;
+        valid = ap validLength (h .base .sender-L) ∙ ap₂ _&&_ (le-leb 1 (o .L) (fit .low)) (le-leb (o .L) longestOrder (fit .high));
+        first = b .low;
+        last = omega (arith, b .high, ap₂ itemCount (h .base .sender-k) (h .base .sender-L));
+        cancels = h .base .run;
+      })
+
+  pub receiver-in-range : (w : World) (l d : ℕ) → Inv o w l d → receiverInRange (w .receiver) ≡ true
+  unfolding receiverInRange
+  receiver-in-range w l d h =
+      let b = basic-of w l d h in
+      let few′ = few o fit in
+      ap₂ _&&_
+      (ap₂ _&&_
+      (ap₂ _&&_ (ap isLength (h .base .k) ∙ fit .known) (lt-ltb (w .receiver .row) lastBad (h .base .row)))
+      (le-leb (w .receiver .taken) mostItems (omega (arith, b .taken, few′))))
+      (ap (λ (k : ℕ). heldInRange (w .receiver .phase) (blockLength k) (w .receiver .held)) (h .base .k) ∙ h .base .held)
+
+  -- ---- no block on the line
+
+  stays-idle : (w : World) (l d : ℕ) → IdleLine o w l d → Base o w → (lent : Bits) (store : List ℕ) → store ≡ w .store
+      → Stays o w l d (receiveEntry w lent store (done (idle (w .receiver)))) (receiveAfter w store (done (idle (w .receiver))))
+  stays-idle w l d g b lent store same =
+      record {
+        line = record { left = g .left; held = g .held; idle = subst (λ (n : ℕ). Idle (N o) (endsOf w l n) (w .sender .next)) (sym danger) (g .idle) };
+        same = ap (endsOf w l) danger;
+        next = refl;
+        told = still-told o w l b lent store same (idleRule (w .receiver .phase)) 0 (w .receiver) (quiet-idle (w .receiver .phase)) (still-same o w b) lost;
+      }
+    where
+      danger : cond (isItem (w .block) && meaning (idleRule (w .receiver .phase)) .checked) 0 d ≡ d
+      danger = not-danger (alarmStands (w .receiver .phase)) (idleRule (w .receiver .phase)) (quiet-idle (w .receiver .phase)) (isItem (w .block)) d
+
+      lost : alarmStands (w .receiver .phase) ≡ true → l ≡ 1
+      lost a = ⊎-elim (λ c. c .lost) (λ c. absurd (omega (arith, ap bit a, c .alarm))) (g .idle .state)
+
+  nothing-lent : (lent later : Bits) → [] ≡ lent ++ later → lent ≡ []
+  nothing-lent [] later e = refl
+  nothing-lent (b ∷ lent) later e = absurd (let z : _≡_ {A = ℕ} 0 1 = cc in omega arith)
+
+  idle-is : (r : Receiver) (lent : Bits) (count : ℕ) → count ≡ 0 → readings r lent count ≡ idle r
+  unfolding readings
+  idle-is r lent count e = ap (λ (t : Bool). cond t (idle r) (reading r (r .phase) lent)) (eq-eqb count 0 e)
+
+  pub idle-hears : (w : World) (l d : ℕ) → IdleLine o w l d → Base o w → (lent : Bits) (count : ℕ) (store : List ℕ) (a : Answer Reading)
+      → ReceiveAnswered (w .receiver) lent count a → Okay o (alarmStands (w .receiver .phase)) d (receiveEntry w lent store a)
+      → Stays o w l d (receiveEntry w lent store a) (receiveAfter w store a)
+  idle-hears w l d g b lent count store a ReceiveAnswered.refuses ok =
+      record { line = g; same = refl; next = refl; told = short-told o w l b }
+  idle-hears w l d g b lent count store a (hears size) ok =
+      let n : lent ≡ [] = nothing-lent lent (ok .line .0) (sym (g .left) ∙ ok .line .1) in
+      let e : readings (w .receiver) lent count ≡ idle (w .receiver) = idle-is (w .receiver) lent count (sym size ∙ ap length n) in
+      subst (λ (y : Reading). Stays o w l d (receiveEntry w lent store (done y)) (receiveAfter w store (done y))) (sym e) (stays-idle w l d g b lent store (ok .store))
+
+  pub idle-sends : (w : World) (l d : ℕ) → IdleLine o w l d → Base o w → (order : List ℕ) (reading : Bool) (copy : Bits)
+      → w .sender .finished ≡ false → gaveUp (w .sender) ≡ false
+      → let b : Answer Block = done (transmit (w .sender) (w .sender .next) reading .block) in
+      Okay o (alarmStands (w .receiver .phase)) d (sendEntry w order reading copy b)
+      → Begins o w l d copy reading (sendEntry w order reading copy b) (sendAfter w reading copy b)
+  idle-sends w l d g base order reading copy fin run ok =
+      let y = sends-block o fit (w .sender) (w .receiver) l d copy (ok .line .1) (base .sender-k) (base .sender-L) fin (g .idle .basic) (w .sender .next) reading
+      (subst (λ (p : Bits). Damage (xorBits copy p)) plain (ok .damage), (λ c e. ok .not-whole c (e ∙ sym plain)), ok .loss) in
+      record {
+        line-block = y .line-block;
+        sends = y .sends;
+        line = record {
+          used = [];
+          split = refl;
+          more = λ z. absurd (omega (arith, ok .line .1, ap length z));
+          long = ok .line .1;
+          held = g .held;
+          busy = send-keeps (g .idle) (y .sends);
+          copy-of = y .copy-of;
+        };
+        told = unheard-told o w l _ _ (λ f. refl) (record {
+          sender-k = ap (λ (s : Setup). s .k) setup ∙ base .sender-k;
+          sender-L = ap (λ (s : Setup). s .length) setup ∙ base .sender-L;
+          run = run-kept (w .sender) (w .sender .next) reading (base .run) run;
+          k = base .k;
+          array = base .array;
+          row = base .row;
+          held = base .held;
+          stored = base .stored;
+        }) refl tt;
+      }
+    where
+      setup : transmit (w .sender) (w .sender .next) reading .state .setup ≡ w .sender .setup
+      setup = setup-kept (w .sender) (w .sender .next) reading
+
+      plain : plainBits (w .sender .setup .k) (w .sender .setup .length) (orderBits (w .sender .setup .length) order) (transmit (w .sender) (w .sender .next) reading .block)
+          ≡ plainBits (o .k) (o .L) (o .content) (transmit (w .sender) (w .sender .next) reading .block)
+      plain =
+          ap (λ (c : Bits). plainBits (w .sender .setup .k) (w .sender .setup .length) c (transmit (w .sender) (w .sender .next) reading .block)) (ok .order)
+          ∙ ap₂ (λ (k L : ℕ). plainBits k L (o .content) (transmit (w .sender) (w .sender .next) reading .block)) (base .sender-k) (base .sender-L)
+
+  -- ---- a block on the line
+
+  pub busy-hears : (w : World) (l d : ℕ) (copy : Bits) (f : LineBlock) → BusyLine o w l d copy f → Base o w
+      → (lent : Bits) (count : ℕ) (store : List ℕ) (a : Answer Reading) → ReceiveAnswered (w .receiver) lent count a
+      → Okay o (alarmStands (w .receiver .phase)) d (receiveEntry w lent store a)
+      → Result o w l d copy f (receiveEntry w lent store a) (receiveAfter w store a)
+  busy-hears w l d copy f line b lent count store a ReceiveAnswered.refuses ok =
+      record { next = inl (line, refl, (λ q. refl)); told = short-told o w l b }
+  busy-hears w l d copy f line b lent count store a (hears size) ok = reading-told o fit w l d copy f line b lent store count size ok
+
+  -- after reading to the last bit, no block is on the line
+  pub done-idle : (w : World) (l d : ℕ) (copy : Bits) (f : LineBlock) (e : Entry) (w′ : World)
+      → Busy (N o) (endsOf w l d) (w .sender .next) f → Done o w l d copy f e w′ → IdleLine o w′ (lost′ l e) (danger′ d e)
+  done-idle w l d copy f e w′ h y =
+      record {
+        left = y .left;
+        held = y .held;
+        idle = subst (λ (s : Sender). Idle (N o) (endsOf w′ (lost′ l e) (danger′ d e)) (s .next)) (sym (y .sender)) (read-keeps h (y .reads));
+      }
+
+  -- ---- any call
+
+  pub send-call : (w : World) (l d : ℕ) → Inv o w l d → (order : List ℕ) (reading : Bool) (copy : Bits) (a : Answer Block)
+      → SendAnswered (w .sender) reading a → Okay o (alarmStands (w .receiver .phase)) d (sendEntry w order reading copy a)
+      → Keeps o w l d (sendEntry w order reading copy a) (sendAfter w reading copy a)
+  send-call w l d h order reading copy a (refuses q) ok = record { inv = h; told = unheard-told o w l (sendEntry w order reading copy a) w (λ f. refl) (h .base) refl q }
+  send-call w l d h order reading copy a (begins fin run) ok =
+      ⊎-elim
+      (λ g.
+      let y = idle-sends w l d g (h .base) order reading copy fin run ok in
+      record { inv = record { base = y .told .base; phase = inr (record { copy = copy; line-block = y .line-block; line = y .line }) }; told = y .told })
+      (λ g. absurd (g .line .more (ok .line .0)))
+      (h .phase)
+
+  pub hear-call : (w : World) (l d : ℕ) → Inv o w l d → (lent : Bits) (count : ℕ) (store : List ℕ) (a : Answer Reading)
+      → ReceiveAnswered (w .receiver) lent count a → Okay o (alarmStands (w .receiver .phase)) d (receiveEntry w lent store a)
+      → Keeps o w l d (receiveEntry w lent store a) (receiveAfter w store a)
+  hear-call w l d h lent count store a q ok =
+      ⊎-elim
+      (λ g.
+      let y = idle-hears w l d g (h .base) lent count store a q ok in
+      record { inv = record { base = y .told .base; phase = inl (y .line) }; told = y .told })
+      (λ g.
+      let y = busy-hears w l d (g .copy) (g .line-block) (g .line) (h .base) lent count store a q ok in
+      record {
+        inv = record {
+          base = y .told .base;
+          phase =
+              ⊎-elim
+              (λ z. inr (record { copy = g .copy; line-block = g .line-block; line = z .0 }))
+              (λ z. inl (done-idle w l d (g .copy) (g .line-block) (receiveEntry w lent store a) (receiveAfter w store a) (g .line .busy) z))
+              (y .next);
+        };
+        told = y .told;
+      })
+      (h .phase)
+
+  pub call-keeps : (w : World) (l d : ℕ) → Inv o w l d → (c : Call) → Okay o (alarmStands (w .receiver .phase)) d (entry w c)
+      → Keeps o w l d (entry w c) (next w c)
+  call-keeps w l d h (sending order reading slice copy) ok =
+      send-call w l d h order reading copy (send (w .sender) order reading slice)
+      (send-answered (w .sender) order reading slice (sender-in-range w l d h)) ok
+  call-keeps w l d h (receiving line count store) ok =
+      hear-call w l d h (take count (bitsOf line)) count store (receive (w .receiver) line count store)
+      (receive-answered (w .receiver) line count store (receiver-in-range w l d h)) ok

@@ -1,0 +1,162 @@
+-- The reading of a block to its last bit, in step, is a step of the two ends at block level. Assumes nothing.
+use mathlib.Core.Path.{_≡_, refl, ap, sym}
+use mathlib.Core.Logic.{_⊎_, inl, inr, ⊎-elim}
+use mathlib.Core.Bool.{Bool, true, false, _||_, false≢true}
+use mathlib.Core.List.{[]}
+use Prim.Native.Nat.{ℕ, _+_, _≤_, _<_}
+use native.Mathlib.Omega.{arith}
+use lib.ListN.{length, take}
+use lib.Dec.{eqb, leb}
+use borrow.Author.Tests.{eqb-true, leb-true, leb-false, lt-ltb}
+use Rattle.crc.specs.Bits.{bit, bitsOf}
+use Rattle.block.specs.Lengths.{blockLength}
+use Rattle.line.specs.Order.{mostItems}
+use Rattle.line.specs.Receiving.{arrayBytes, Rule, unfinished, standing, found, sync-block, check-fails, accepts, previous, out-of-sequence, ends, wrong-length, ends-again, anything-else, meaning, lastBad, well, badly, after, heldBits, heldInRange}
+use Rattle.line.specs.Delivery.{news}
+use Rattle.line.specs.declared.sender.Sender.{Sender}
+use Rattle.line.specs.declared.receiver.Receiver.{Receiver}
+use Rattle.line.specs.declared.receiver.Phase.{Phase}
+use Rattle.line.specs.declared.receiver.Phase.the-variants as P
+use Rattle.line.specs.declared.receiver.Event.the-variants as E
+use Rattle.line.proofs.Delivery.Tests.{or-true, or-false, or-no, or-yes}
+use Rattle.line.proofs.Delivery.Ends.{LineBlock, Reads, SameSender, NotWhole}
+use Rattle.line.proofs.Delivery.Ends as D
+use Rattle.line.proofs.Delivery.Holding.{length-noBytes}
+use Rattle.line.proofs.Delivery.Judging as J
+use Rattle.line.proofs.Delivery.Judging.{Unharmed, data-item, end-item}
+use Rattle.line.proofs.Delivery.State.{Session, N, inSearch, alarmStands, Held}
+use Rattle.line.proofs.Delivery.State as S
+
+-- ---- a rule that ends a block or a search
+
+abbrev pub endsBlock : Rule → Bool
+endsBlock unfinished = false
+endsBlock (standing alarm) = false
+endsBlock found = true
+endsBlock sync-block = true
+endsBlock check-fails = true
+endsBlock accepts = true
+endsBlock previous = true
+endsBlock out-of-sequence = true
+endsBlock (ends L) = true
+endsBlock wrong-length = true
+endsBlock ends-again = true
+endsBlock anything-else = true
+
+-- what it leaves: nothing held, and the items and the end as its event says
+pub record After (r t : Receiver) (stores new end alarm : Bool) : Type 0 where
+  pub setup : t .setup ≡ r .setup
+  pub array : length (t .bits) ≡ arrayBytes
+  pub held : t .held ≡ 0
+  pub row : t .row < lastBad
+  pub taken : t .taken ≡ bit stores + r .taken
+  pub ended : t .ended ≡ (r .ended || end)
+  pub alarms : alarmStands (t .phase) ≡ alarm
+  pub stored : stores ≡ new
+
+abbrev AfterRule : Receiver → Rule → Type 0
+AfterRule r x = After r (after r x) (meaning x .stores) (news (meaning x .event) .new) (news (meaning x .event) .end) (news (meaning x .event) .alarm)
+
+module _ (r : Receiver) where
+  well-after : After r (well r (r .taken) (r .ended)) false false false false
+  well-after =
+      record { setup = refl; array = length-noBytes; held = refl; row = omega arith; taken = omega arith; ended = sym (or-no (r .ended)); alarms = refl; stored = refl }
+
+  badly-after : (search : Bool) → (search ≡ false → r .row + 1 < lastBad) → After r (badly r search) false false false false
+  badly-after true h =
+      record { setup = refl; array = length-noBytes; held = refl; row = omega arith; taken = omega arith; ended = sym (or-no (r .ended)); alarms = refl; stored = refl }
+  badly-after false h =
+      record { setup = refl; array = length-noBytes; held = refl; row = h refl; taken = omega arith; ended = sym (or-no (r .ended)); alarms = refl; stored = refl }
+
+  pub after-is : (x : Rule) → endsBlock x ≡ true → AfterRule r x
+  after-is unfinished e = absurd (false≢true e)
+  after-is (standing alarm) e = absurd (false≢true e)
+  after-is found e = well-after
+  after-is sync-block e = well-after
+  after-is check-fails e = badly-after (leb lastBad (r .row + 1)) (leb-false lastBad (r .row + 1))
+  after-is accepts e =
+      record { setup = refl; array = length-noBytes; held = refl; row = omega arith; taken = omega arith; ended = sym (or-no (r .ended)); alarms = refl; stored = refl }
+  after-is previous e = well-after
+  after-is out-of-sequence e =
+      record { setup = refl; array = length-noBytes; held = refl; row = omega arith; taken = omega arith; ended = sym (or-no (r .ended)); alarms = refl; stored = refl }
+  after-is (ends L) e =
+      record { setup = refl; array = length-noBytes; held = refl; row = omega arith; taken = omega arith; ended = sym (or-yes (r .ended)); alarms = refl; stored = refl }
+  after-is wrong-length e =
+      record { setup = refl; array = length-noBytes; held = refl; row = omega arith; taken = omega arith; ended = sym (or-no (r .ended)); alarms = refl; stored = refl }
+  after-is ends-again e = well-after
+  after-is anything-else e =
+      badly-after (leb lastBad (r .row + 1) || eqb (r .taken) 0)
+      (λ f. leb-false lastBad (r .row + 1) (or-false (leb lastBad (r .row + 1)) (eqb (r .taken) 0) f .0))
+
+pub none-held : (p : Phase) (k : ℕ) → heldInRange p (blockLength k) 0 ≡ true
+none-held P.Search k = refl
+none-held P.InStep k = lt-ltb 0 (blockLength k) (omega arith)
+none-held P.SequenceAlarm k = lt-ltb 0 (blockLength k) (omega arith)
+none-held P.LengthAlarm k = lt-ltb 0 (blockLength k) (omega arith)
+
+pub held-none : (t : Receiver) → t .held ≡ 0 → Held t []
+held-none t e = record { step = λ p. empty; search = λ p. ([], empty) }
+  where
+    empty : heldBits t ≡ []
+    empty = ap (λ (n : ℕ). take n (bitsOf (t .bits))) e
+
+-- ---- in step
+
+abbrev pub same-sender : (s : Sender) (r t : Receiver) (l d e : ℕ) → SameSender (S.ends s r l d) (S.ends s t l e)
+same-sender s r t l d e = record { item = refl; run = refl; opening = refl; finished = refl; lost = refl }
+
+module _ (o : Session) (s : Sender) (r : Receiver) (l d : ℕ) (few : N o ≤ mostItems) (step : r .phase ≡ P.InStep) where
+  in-step : D.Reading (S.ends s r l d)
+  in-step = record { alarm = ap (λ (p : Phase). bit (alarmStands p)) step; search = ap (λ (p : Phase). bit (inSearch p)) step }
+
+  pub unharmed-reads : (i : ℕ) (x : Rule) → Unharmed (o .k) (o .L) (r .taken) (r .ended) i x
+      → Reads (N o) (S.ends s r l d) (S.ends s (after r x) l 0) (LineBlock.item i 1) (meaning x .event)
+  unharmed-reads i x (data-item h (J.of-r e m)) =
+      D.accepts (same-sender s r (after r accepts) l d 0) in-step h (ap bit e) m
+      (record { search = refl; row = refl; back = refl; taken = refl; ended = ap bit e; alarm = refl; danger = refl })
+  unharmed-reads i x (data-item h (J.of-last e m)) =
+      D.repeats (same-sender s r (after r previous) l d 0) in-step h (ap bit e) m
+      (record { search = refl; row = refl; back = refl; taken = refl; ended = ap bit e; alarm = refl; danger = refl })
+  unharmed-reads i x (data-item h (J.of-next m)) =
+      D.out-of-sequence (same-sender s r (after r out-of-sequence) l d 0) in-step h (⊎-elim (λ e. inl (ap bit e)) (λ e. inr (ap bit (e .0), e .1)) m)
+      (record { taken = refl; ended = refl; alarm = refl; danger = refl })
+  unharmed-reads i x (data-item h (J.of-none e a b c)) =
+      D.anything-else (same-sender s r (after r anything-else) l d 0) in-step h (ap bit e) (λ m. let q = a m in omega arith) b c
+  unharmed-reads i x (end-item h (J.again e)) =
+      D.ends-again (same-sender s r (after r ends-again) l d 0) in-step h (ap bit e)
+      (record { search = refl; row = refl; back = refl; taken = refl; ended = ap bit e; alarm = refl; danger = refl })
+  unharmed-reads i x (end-item h (J.all e t)) =
+      D.ends (same-sender s r (after r (ends (o .L))) l d 0) in-step h (ap bit e) t
+      (record { search = refl; row = refl; back = refl; taken = refl; ended = refl; alarm = refl; danger = refl })
+  unharmed-reads i x (end-item h (J.short e t)) =
+      D.wrong-length (same-sender s r (after r wrong-length) l d 0) in-step h (ap bit e) t
+      (record { taken = refl; ended = refl; alarm = refl; danger = refl })
+
+  -- a bad block
+  bad-reads : (f : LineBlock) (search : Bool) → NotWhole f → r .row ≤ 7
+      → (search ≡ true → (r .row ≡ 7) ⊎ ((f ≡ LineBlock.sync) × (r .taken ≡ 0))) → (search ≡ false → r .row < 7)
+      → Reads (N o) (S.ends s r l d) (S.ends s (badly r search) l d) f E.Bad
+  bad-reads f true w h y n =
+      ⊎-elim
+      (λ e. D.bad-eighth (same-sender s r (badly r true) l d d) in-step e w rejected)
+      (λ e. rw (e .0) (D.bad-first (same-sender s r (badly r true) l d d) in-step (e .1) rejected))
+      (y refl)
+    where
+      rejected : D.Rejected (S.ends s r l d) (S.ends s (badly r true) l d) 1 0
+      rejected = record { search = refl; row = refl; back = refl; taken = refl; ended = refl; alarm = refl; danger = refl }
+  bad-reads f false w h y n =
+      D.bad-step (same-sender s r (badly r false) l d d) in-step (n refl) w
+      (record { search = refl; row = refl; back = refl; taken = refl; ended = refl; alarm = refl; danger = refl })
+
+  pub fails-reads : (f : LineBlock) → NotWhole f → r .row ≤ 7
+      → Reads (N o) (S.ends s r l d) (S.ends s (after r check-fails) l d) f E.Bad
+  fails-reads f w h =
+      bad-reads f (leb lastBad (r .row + 1)) w h
+      (λ e. let q = leb-true lastBad (r .row + 1) e in inl (omega arith))
+      (λ e. let q = leb-false lastBad (r .row + 1) e in omega arith)
+
+  pub other-reads : r .row ≤ 7 → Reads (N o) (S.ends s r l d) (S.ends s (after r anything-else) l d) LineBlock.sync E.Bad
+  other-reads h =
+      bad-reads LineBlock.sync (leb lastBad (r .row + 1) || eqb (r .taken) 0) (inl refl) h
+      (λ e. ⊎-elim (λ z. let q = leb-true lastBad (r .row + 1) z in inl (omega arith)) (λ z. inr (refl, eqb-true (r .taken) 0 z)) (or-true (leb lastBad (r .row + 1)) (eqb (r .taken) 0) e))
+      (λ e. let q = leb-false lastBad (r .row + 1) (or-false (leb lastBad (r .row + 1)) (eqb (r .taken) 0) e .0) in omega arith)

@@ -1,0 +1,115 @@
+-- `Sender::in_range` tests each field's range. Assumes nothing.
+use borrow.Author.Needs.{needs}
+use borrow.Author.Tests.{le-leb, lt-leb, not-true, not-false}
+use mathlib.Core.Path.{_≡_, sym, _∙_}
+use mathlib.Core.Bool.{true, false}
+use Prim.Native.Nat.{ℕ, _+_, _≤_, _<_}
+use native.Mathlib.Omega.{arith}
+use lib.Dec.{leb}
+use Rattle.block.specs.Lengths.{isLength}
+use Rattle.line.specs.Order.{longestOrder, validLength, itemCount}
+use Rattle.line.specs.Sending.{senderItems, lastRun, senderInRange}
+use Rattle.line.specs.declared.sender.Sender.{Sender}
+use Rattle.line.proofs.Items.{itemCount-fits}
+use Rattle.line.proofs.sender.Sender.in_range.Statement.{statement}
+use Rattle.line.proofs.sender.Sender.in_range.Tie as tie
+
+valid : (L : ℕ) → (L ≡ 0 → ⊥) → L ≤ longestOrder → validLength L ≡ true
+unfolding validLength
+valid L n h = let one : 1 ≤ L = omega arith in simp (le-leb 1 L one, le-leb L longestOrder h)
+
+empty : (L : ℕ) → L ≡ 0 → validLength L ≡ false
+unfolding validLength
+empty L n = rw n
+
+long : (L : ℕ) → (L ≡ 0 → ⊥) → longestOrder < L → validLength L ≡ false
+unfolding validLength
+long L n h = let one : 1 ≤ L = omega arith in simp (le-leb 1 L one, lt-leb L longestOrder h)
+
+-- the tests one after the other
+module _ (s : Sender) where
+  unknown : isLength (s .setup .k) ≡ false → false ≡ senderInRange s
+  unfolding senderInRange
+  unknown a = simp a
+
+  module _ (a : isLength (s .setup .k) ≡ true) where
+    invalid : validLength (s .setup .length) ≡ false → false ≡ senderInRange s
+    unfolding senderInRange
+    invalid b = simp (a, b)
+
+    module _ (b : validLength (s .setup .length) ≡ true) where
+      first : s .newer ≡ 0 → false ≡ senderInRange s
+      unfolding senderInRange
+      first n = simp (a, b, lt-leb 1 (s .newer) (omega arith))
+
+      module _ (c : s .newer ≡ 0 → ⊥) where
+        last : senderItems s + 1 < s .newer → false ≡ senderInRange s
+        unfolding senderInRange
+        last n =
+            let one : 1 ≤ s .newer = omega arith in
+            simp (a, b, le-leb 1 (s .newer) one, lt-leb (s .newer) (senderItems s + 1) n)
+
+        run : s .newer ≤ senderItems s + 1 → leb (s .run) lastRun ≡ senderInRange s
+        unfolding senderInRange
+        run n =
+            let one : 1 ≤ s .newer = omega arith in
+            simp (a, b, le-leb 1 (s .newer) one, le-leb (s .newer) (senderItems s + 1) n)
+
+known-length-requires : tie.Need-known-length-requires
+known-length-requires c κs = search needs
+
+returns : tie.Need-returns
+returns c = unknown _ (sym (c .before .known-length .ensures) ∙ not-true _ (c .if1 .taken))
+
+-- what the tests before have shown
+known : (c : tie.Else1) → isLength (c .before .before .before .args .self .setup .k) ≡ true
+known c = sym (c .before .known-length .ensures) ∙ not-false _ (c .if1 .left)
+
+right : (c : tie.Else3) → validLength (c .before .before .before .before .before .args .self .setup .length) ≡ true
+right c = valid _ (c .before .if2 .left) (c .if3 .left)
+
+returns-2 : tie.Need-returns-2
+returns-2 c = invalid _ (known (c .before)) (empty _ (c .if2 .taken))
+
+returns-3 : tie.Need-returns-3
+returns-3 c = invalid _ (known (c .before .before)) (long _ (c .before .if2 .left) (c .if3 .taken))
+
+returns-4 : tie.Need-returns-4
+returns-4 c = first _ (known (c .before .before .before .before)) (right (c .before .before)) (c .if4 .taken)
+
+item-count-requires : tie.Need-item-count-requires
+item-count-requires c κs = (known (c .before .before .before .before), search needs)
+
+add-if5 : tie.Need-add-if5
+add-if5 c =
+    let e = c .before in
+    let f = itemCount-fits _ _ (known (e .before .before .before .before)) (right (e .before .before)) in
+    omega (arith, c .item-count .ensures)
+
+returns-5 : tie.Need-returns-5
+returns-5 c =
+    let n = c .before .before in
+    let e = n .before in
+    last _ (known (e .before .before .before .before)) (right (e .before .before)) (e .if4 .left)
+    (rw (n .item-count .ensures) at (c .if5 .taken))
+
+returns-6 : tie.Need-returns-6
+returns-6 c =
+    let n = c .before .before .before in
+    let e = n .before in
+    run _ (known (e .before .before .before .before)) (right (e .before .before)) (e .if4 .left)
+    (rw (n .item-count .ensures) at (c .before .if5 .left))
+
+pub in-range-spec : {M : Type 1} → statement M
+in-range-spec =
+    tie.close
+    (tie.spec
+    known-length-requires
+    returns
+    returns-2
+    returns-3
+    returns-4
+    item-count-requires
+    add-if5
+    returns-5
+    returns-6)
