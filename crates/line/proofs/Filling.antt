@@ -1,8 +1,8 @@
 -- How data are packed behind the order's last whole byte: rows cut short, with zeros behind them. Assumes nothing.
 use mathlib.Core.Path.{_≡_, refl, ap, ap₂, sym, _∙_}
-use mathlib.Core.Bool.{Bool, true, false}
+use mathlib.Core.Bool.{false}
 use mathlib.Core.List.{List, [], _∷_, _++_, append-assoc}
-use Prim.Native.Nat.{ℕ, zero, suc, _+_, _-_, _*_, _/_, _%_, _^_, _≤_, _<_}
+use Prim.Native.Nat.{ℕ, zero, suc, _+_, _-_, _*_, _/_, _%_, _≤_, _<_}
 use native.Mathlib.Numerals.{add-one}
 use native.Mathlib.Omega.{arith}
 use lib.Dec.{lit<}
@@ -10,7 +10,7 @@ use lib.ListN.{length, getD, set, take, drop, replicate, length-drop, length-rep
 use lib.Seq.{length-take-le, take-add, take-suc, take-append-le, take-append-add, drop-at, drop-cons, getD-drop, set-at, take-at}
 use Rattle.crc.specs.Bits.{Bits, binary, bitsOf, bytesOf, number, zeros}
 use Rattle.crc.proofs.Rows.{length-binary, binary-zero}
-use Rattle.crc.proofs.Bytes.{length-bitsOf, bitsOf-append, take-bitsOf, drop-bitsOf, bytesOf-bitsOf, bytesOf-append}
+use Rattle.crc.proofs.Bytes.{length-bitsOf, take-bitsOf, drop-bitsOf, bytesOf-bitsOf, bytesOf-append}
 
 -- ---- zeros
 

@@ -4,4 +4,5 @@ pub mod Filling
 pub mod Building
 pub mod Sending
 pub mod Delivery
+pub mod SendingWitness
 pub mod Examples

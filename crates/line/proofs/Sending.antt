@@ -207,20 +207,20 @@ calls-in-range none h = h
 calls-in-range (call order reading slice result slice′ p rest) h =
     calls-in-range rest (send-in-range _ order reading slice result slice′ p h)
 
--- a call on a state in range is not refused for a spoiled state
-pub not-spoiled : (s : Sender) (order : List ℕ) (reading : Bool) (slice : List ℕ) (result : Step) (slice′ : List ℕ)
-    → Send s order reading slice result slice′ → senderInRange s ≡ true → result .answer ≢ W.Refused A.spoiled
-not-spoiled s order reading slice result slice′ p h e =
-    ⊎-elim (λ w. omega arith) (λ w. omega arith)
-    (send-refusals s order reading slice h A.spoiled (sym (ap sentAnswer (sym e) ∙ p .answers)))
+-- from an opened sender, after any calls, a call is refused only for a sender at rest or a short slice
+module _ (k speed loop-ms L : ℕ) (order : List ℕ) (s t : Sender) (o : OpenSender k speed loop-ms L order (O.Opened s))
+    (calls : SendCalls s t) (lent : List ℕ) (reading : Bool) (slice : List ℕ) (result : Step) (slice′ : List ℕ)
+    (p : Send t lent reading slice result slice′) where
+  pub send-refused-only : (n : ℕ) → result .answer ≡ W.Refused n
+      → ((n ≡ A.rest) × (t .finished || gaveUp t ≡ true))
+      ⊎ ((n ≡ A.short) × (tooShort lent (t .setup .length) || tooShort slice (blockLength (t .setup .k)) ≡ true))
+  send-refused-only n e =
+      send-refusals t lent reading slice (calls-in-range calls (opened-in-range k speed loop-ms L order s o)) n
+      (sym (ap sentAnswer (sym e) ∙ p .answers))
 
--- from an opened sender, after any calls, no call is refused for a spoiled state
-pub send-never-spoiled : (k speed loop-ms L : ℕ) (order : List ℕ) (s t : Sender) → OpenSender k speed loop-ms L order (O.Opened s)
-    → SendCalls s t → (lent : List ℕ) (reading : Bool) (slice : List ℕ) (result : Step) (slice′ : List ℕ)
-    → Send t lent reading slice result slice′ → result .answer ≢ W.Refused A.spoiled
-send-never-spoiled k speed loop-ms L order s t o calls lent reading slice result slice′ p =
-    not-spoiled t lent reading slice result slice′ p
-    (calls-in-range calls (opened-in-range k speed loop-ms L order s o))
+  -- never for a spoiled state
+  pub send-never-spoiled : result .answer ≢ W.Refused A.spoiled
+  send-never-spoiled e = ⊎-elim (λ w. omega arith) (λ w. omega arith) (send-refused-only A.spoiled e)
 
 -- ---- the answers of a call, refused or not
 

@@ -70,11 +70,13 @@ pub data Sends (N : ℕ) (s : Ends) (reading : ℕ) (t : Ends) : Next → Next �
   lasts : {i w : ℕ} → SameReceiver s t → reading ≡ 0 → i ≡ s .item → s .item ≡ N + 1 → w ≤ 1 → t .item ≡ s .item
       → t .run ≡ 0 → t .opening ≡ 0 → t .finished ≡ 1 → Loss s t → Sends N s reading t Newer Newer (item i w)
   -- the newer item, reading 1: cancelled, so that it does not arrive whole
-  cancels-older : {i : ℕ} → SameReceiver s t → reading ≡ 1 → i ≡ s .item → t .item ≡ s .item → t .run ≡ s .run + 1 → t .run < 4
+  cancels-older : {i : ℕ} → SameReceiver s t → reading ≡ 1 → i ≡ s .item → t .item ≡ s .item → t .run ≡ s .run + 1
+      → t .run < 4
       → s .opening ≡ 0 → t .opening ≡ 0 → t .finished ≡ 0 → t .lost ≡ s .lost → t .danger ≡ s .danger
       → Sends N s reading t Newer Older (item i 0)
   cancels-sync : {i : ℕ} → SameReceiver s t → reading ≡ 1 → i ≡ s .item → t .item ≡ s .item → t .run ≡ s .run + 1
-      → 4 ≤ t .run + 4 * t .opening → t .opening ≡ s .opening → t .finished ≡ 0 → t .lost ≡ s .lost → t .danger ≡ s .danger
+      → 4 ≤ t .run + 4 * t .opening → t .opening ≡ s .opening → t .finished ≡ 0 → t .lost ≡ s .lost
+      → t .danger ≡ s .danger
       → Sends N s reading t Newer Sync (item i 0)
 
 -- in step with return 0, the row cleared: r items taken, the end taken (1) or not (0), in danger or not
@@ -120,8 +122,10 @@ pub data Reads (N : ℕ) (s t : Ends) : LineBlock → Event → Type 0 where
       → Reads N s t f E.None
   syncs : SameSender s t → s .alarm ≡ 0 → InStep t (s .taken) (s .ended) (s .danger) → Reads N s t sync E.Sync
   -- rule 2, or rule 7 of a synchronising block
-  bad-step : {f : LineBlock} → SameSender s t → Reading s → s .row < 7 → NotWhole f → Rejected s t 0 (s .row + 1) → Reads N s t f E.Bad
-  bad-eighth : {f : LineBlock} → SameSender s t → Reading s → s .row ≡ 7 → NotWhole f → Rejected s t 1 0 → Reads N s t f E.Bad
+  bad-step : {f : LineBlock} → SameSender s t → Reading s → s .row < 7 → NotWhole f → Rejected s t 0 (s .row + 1)
+      → Reads N s t f E.Bad
+  bad-eighth : {f : LineBlock} → SameSender s t → Reading s → s .row ≡ 7 → NotWhole f → Rejected s t 1 0
+      → Reads N s t f E.Bad
   bad-first : SameSender s t → Reading s → s .taken ≡ 0 → Rejected s t 1 0 → Reads N s t sync E.Bad
   -- rules 3 to 7 of a data or end block that arrives whole
   accepts : {i : ℕ} → SameSender s t → Reading s → i < N → s .ended ≡ 0 → i % 3 ≡ s .taken % 3
@@ -129,7 +133,8 @@ pub data Reads (N : ℕ) (s t : Ends) : LineBlock → Event → Type 0 where
   repeats : {i : ℕ} → SameSender s t → Reading s → i < N → s .ended ≡ 0 → (i + 1) % 3 ≡ s .taken % 3
       → InStep t (s .taken) 0 0 → Reads N s t (item i 1) E.Previous
   out-of-sequence : {i : ℕ} → SameSender s t → Reading s → i < N
-      → (s .ended ≡ 1) ⊎ ((s .ended ≡ 0) × (i % 3 ≡ (s .taken + 1) % 3)) → Alarms s t 0 → Reads N s t (item i 1) E.SequenceAlarm
+      → (s .ended ≡ 1) ⊎ ((s .ended ≡ 0) × (i % 3 ≡ (s .taken + 1) % 3)) → Alarms s t 0
+      → Reads N s t (item i 1) E.SequenceAlarm
   -- rule 7 of a whole data block: never, but the rules have it
   anything-else : {i : ℕ} → SameSender s t → Reading s → i < N → s .ended ≡ 0 → (i % 3 ≡ s .taken % 3 → N ≤ s .taken)
       → ((i + 1) % 3 ≡ s .taken % 3 → s .taken ≡ 0) → (i % 3 ≡ (s .taken + 1) % 3 → ⊥) → Reads N s t (item i 1) E.Bad

@@ -2,10 +2,10 @@
 use mathlib.Core.Path.{_≡_, refl, ap, ap₂, sym, _∙_, subst, subst₂}
 use mathlib.Core.Logic.{_⊎_, inl, inr, ⊎-elim}
 use mathlib.Core.Bool.{Bool, true, false, cond, _&&_, _||_, false≢true}
-use mathlib.Core.List.{List, [], _∷_, _++_, append-assoc}
+use mathlib.Core.List.{List, [], _∷_, _++_, append-assoc, append-nil}
 use Prim.Native.Nat.{ℕ, _+_, _*_, _<_}
 use native.Mathlib.Omega.{arith}
-use lib.ListN.{length, drop}
+use lib.ListN.{length, drop, length-append}
 use lib.Seq.{drop-at, drop-length}
 use Rattle.crc.specs.Bits.{Bits, bit}
 use Rattle.block.specs.Answer.{done}
@@ -29,7 +29,7 @@ use Rattle.line.proofs.Delivery.Invariant.{read-keeps}
 use Rattle.line.proofs.Delivery.Reading.{After, after-is, none-held, held-none}
 use Rattle.line.proofs.Delivery.Ruling.{Ruling}
 use Rattle.line.proofs.Delivery.Storing.{store-takes, store-after}
-use Rattle.line.proofs.Delivery.State.{Session, N, Fit, alarmStands, endsOf, Held, Stored, Base, BusyLine, Told, Result}
+use Rattle.line.proofs.Delivery.State.{Session, N, Fit, alarmStands, endsOf, Held, Stored, Base, BusyLine, Okay, Told, Result}
 use Rattle.line.proofs.Delivery.State as S
 
 -- ---- a rule that ends no block
@@ -45,9 +45,18 @@ pub record Quiet (alarm : Bool) (x : Rule) : Type 0 where
 
 pub quiet-unfinished : (alarm : Bool) → Quiet alarm unfinished
 quiet-unfinished alarm =
-    record { new = refl; end = refl; alarms = or-no alarm; alarm-only = λ e. absurd (false≢true e); reports = λ M. refl; checked = refl; stores = refl }
+    record {
+      new = refl;
+      end = refl;
+      alarms = or-no alarm;
+      alarm-only = λ e. absurd (false≢true e);
+      reports = λ M. refl;
+      checked = refl;
+      stores = refl;
+    }
 
-quiet-alarm : {e : Event} → news e .new ≡ false → news e .end ≡ false → ((M : ℕ) → reportsEnd M e ≡ false) → news e .alarm ≡ true → Quiet true (standing e)
+quiet-alarm : {e : Event} → news e .new ≡ false → news e .end ≡ false → ((M : ℕ) → reportsEnd M e ≡ false)
+    → news e .alarm ≡ true → Quiet true (standing e)
 quiet-alarm a b c d =
     record { new = a; end = b; alarms = refl; alarm-only = λ e. refl; reports = c; checked = refl; stores = refl }
 
@@ -58,7 +67,8 @@ quiet-idle P.InStep = quiet-unfinished false
 quiet-idle P.SequenceAlarm = quiet-alarm refl refl (λ M. refl) refl
 quiet-idle P.LengthAlarm = quiet-alarm refl refl (λ M. refl) refl
 
-pub not-danger : (alarm : Bool) (x : Rule) → Quiet alarm x → (good : Bool) (d : ℕ) → cond (good && meaning x .checked) 0 d ≡ d
+pub not-danger : (alarm : Bool) (x : Rule) → Quiet alarm x → (good : Bool) (d : ℕ)
+    → cond (good && meaning x .checked) 0 d ≡ d
 not-danger alarm x q good d =
     ap (λ (b : Bool). cond (good && b) 0 d) (q .checked) ∙ ap (λ (b : Bool). cond b 0 d) (and-no good)
 
@@ -73,11 +83,14 @@ pub record Still (o : Session) (r t : Receiver) : Type 0 where
   pub phase : t .phase ≡ r .phase
 
 pub still-same : (o : Session) (w : World) → Base o w → Still o (w .receiver) (w .receiver)
-still-same o w b = record { k = b .k; array = b .array; row = b .row; held = b .held; taken = refl; ended = refl; phase = refl }
+still-same o w b = record
+    { k = b .k; array = b .array; row = b .row; held = b .held; taken = refl; ended = refl; phase = refl }
 
 -- what such a call tells
-pub still-told : (o : Session) (w : World) (l : ℕ) → Base o w → (lent : Bits) (store : List ℕ) → store ≡ w .store → (x : Rule) (n : ℕ) (t : Receiver)
-    → Quiet (alarmStands (w .receiver .phase)) x → Still o (w .receiver) t → (alarmStands (w .receiver .phase) ≡ true → l ≡ 1)
+pub still-told : (o : Session) (w : World) (l : ℕ) → Base o w → (lent : Bits) (store : List ℕ) → store ≡ w .store
+    → (x : Rule) (n : ℕ) (t : Receiver)
+    → Quiet (alarmStands (w .receiver .phase)) x → Still o (w .receiver) t
+    → (alarmStands (w .receiver .phase) ≡ true → l ≡ 1)
     → let y : Reading = record { rule = x; row = []; used = n; state = t } in
     Told o w l (receiveEntry w lent store (done y)) (receiveAfter w store (done y))
 still-told o w l base lent store same x n t q s lost =
@@ -100,8 +113,12 @@ still-told o w l base lent store same x n t q s lost =
       refusal = tt;
     }
   where
-    kept : cond (meaning x .stores) (storeAt (w .receiver .taken * w .receiver .setup .k) (payloadOf (w .receiver .setup .k) []) store) store ≡ w .store
-    kept = ap (λ (b : Bool). cond b (storeAt (w .receiver .taken * w .receiver .setup .k) (payloadOf (w .receiver .setup .k) []) store) store) (q .stores) ∙ same
+    kept : cond (meaning x .stores)
+        (storeAt (w .receiver .taken * w .receiver .setup .k) (payloadOf (w .receiver .setup .k) []) store) store
+        ≡ w .store
+    kept = ap (λ (b : Bool). cond b
+        (storeAt (w .receiver .taken * w .receiver .setup .k) (payloadOf (w .receiver .setup .k) []) store) store)
+        (q .stores) ∙ same
 
 -- ---- a block on the line
 
@@ -109,7 +126,8 @@ pub empty-or-not : (row : Bits) → (row ≡ []) ⊎ (row ≡ [] → ⊥)
 empty-or-not [] = inl refl
 empty-or-not (b ∷ row) = inr (λ e. let z : _≡_ {A = ℕ} 0 1 = cc in omega arith)
 
-module _ (o : Session) (fit : Fit o) (w : World) (l d : ℕ) (copy : Bits) (f : LineBlock) (line : BusyLine o w l d copy f) (base : Base o w)
+module _ (o : Session) (fit : Fit o) (w : World) (l d : ℕ) (copy : Bits) (f : LineBlock) (line : BusyLine o w l d copy f)
+    (base : Base o w)
     (lent : Bits) (store : List ℕ) (same : store ≡ w .store) where
   abbrev pub After-call : Reading → Type 0
   After-call y = Result o w l d copy f (receiveEntry w lent store (done y)) (receiveAfter w store (done y))
@@ -127,7 +145,8 @@ module _ (o : Session) (fit : Fit o) (w : World) (l d : ℕ) (copy : Bits) (f : 
     pub record AtLast : Type 0 where
       pub held : Held t []
       pub reads : Reads (N o) (endsOf w l d) t-ends f (meaning x .event)
-      pub clean : f ≡ LineBlock.sync → copy ≡ syncBlock (o .k) → alarmStands (w .receiver .phase) ≡ false → meaning x .event ≡ E.Sync
+      pub clean : f ≡ LineBlock.sync → copy ≡ syncBlock (o .k) → alarmStands (w .receiver .phase) ≡ false
+          → meaning x .event ≡ E.Sync
 
     now : drop n (w .left) ≡ later
     now = ap₂ drop all split ∙ drop-at lent later (length lent) refl
@@ -148,18 +167,22 @@ module _ (o : Session) (fit : Fit o) (w : World) (l d : ℕ) (copy : Bits) (f : 
                 held = last z .held;
                 sender = refl;
                 event = meaning x .event;
-                reads = subst (λ (m : ℕ). Reads (N o) (endsOf w l d) (S.ends (w .sender) t l m) f (meaning x .event)) (sym danger-kept) (last z .reads);
+                reads = subst (λ (m : ℕ). Reads (N o) (endsOf w l d) (S.ends (w .sender) t l m) f (meaning x .event))
+                    (sym danger-kept) (last z .reads);
                 news = refl;
                 clean = last z .clean;
               }))
               (λ z. inl (
                 record {
                   used = line .used ++ lent;
-                  split = line .split ∙ ap (λ (y : Bits). line .used ++ y) split ∙ sym (append-assoc (line .used) lent later) ∙ ap (λ (y : Bits). (line .used ++ lent) ++ y) (sym now);
+                  split = line .split ∙ ap (λ (y : Bits). line .used ++ y) split
+                      ∙ sym (append-assoc (line .used) lent later)
+                      ∙ ap (λ (y : Bits). (line .used ++ lent) ++ y) (sym now);
                   more = λ e. z (sym now ∙ e);
                   long = line .long;
                   held = held;
-                  busy = subst (λ (m : ℕ). Busy (N o) (S.ends (w .sender) t l m) (w .sender .next) f) (sym danger-kept) busy;
+                  busy = subst (λ (m : ℕ). Busy (N o) (S.ends (w .sender) t l m) (w .sender .next) f)
+                      (sym danger-kept) busy;
                   copy-of = line .copy-of;
                 },
                 refl,
@@ -172,7 +195,8 @@ module _ (o : Session) (fit : Fit o) (w : World) (l d : ℕ) (copy : Bits) (f : 
   -- the rule that ends the block
   module _ (x : Rule) (row : Bits) (n : ℕ) (all : n ≡ length (w .left)) (is-copy : meaning x .stores ≡ true → row ≡ copy)
       (quiet : alarmStands (w .receiver .phase) ≡ false) (g : Ruling o fit w l d copy f line x) where
-    left-state : After (w .receiver) (after (w .receiver) x) (meaning x .stores) (news (meaning x .event) .new) (news (meaning x .event) .end) (news (meaning x .event) .alarm)
+    left-state : After (w .receiver) (after (w .receiver) x) (meaning x .stores) (news (meaning x .event) .new)
+        (news (meaning x .event) .end) (news (meaning x .event) .alarm)
     left-state = after-is (w .receiver) x (g .ends-block)
 
     carries : (i : ℕ) → i ≡ w .receiver .taken → row ≡ itemBits (o .k) (o .L) (o .content) i
@@ -182,7 +206,8 @@ module _ (o : Session) (fit : Fit o) (w : World) (l d : ℕ) (copy : Bits) (f : 
         ∙ payload-itemBits (o .k) (o .L) (o .content) (fit .known) (fit .content) (w .receiver .taken)
 
     taking : meaning x .stores ≡ true
-        → Stored o (w .receiver .taken + 1) (storeAt (w .receiver .taken * w .receiver .setup .k) (payloadOf (w .receiver .setup .k) row) store)
+        → Stored o (w .receiver .taken + 1)
+        (storeAt (w .receiver .taken * w .receiver .setup .k) (payloadOf (w .receiver .setup .k) row) store)
     taking e =
         let t = g .takes e in
         let y = carries (t .0) (t .2) (is-copy e ∙ t .1) in
@@ -193,7 +218,8 @@ module _ (o : Session) (fit : Fit o) (w : World) (l d : ℕ) (copy : Bits) (f : 
 
     alarms-lost : news (meaning x .event) .alarm ≡ true → l ≡ 1
     alarms-lost e =
-        ⊎-elim (λ b. b .lost) (λ b. absurd (omega (arith, ap bit (left-state .alarms ∙ e), b .alarm))) (read-keeps (line .busy) (g .reads) .state)
+        ⊎-elim (λ b. b .lost) (λ b. absurd (omega (arith, ap bit (left-state .alarms ∙ e), b .alarm)))
+        (read-keeps (line .busy) (g .reads) .state)
 
     pub finish : After-call (stops (w .receiver) x row n)
     finish =
@@ -216,8 +242,10 @@ module _ (o : Session) (fit : Fit o) (w : World) (l d : ℕ) (copy : Bits) (f : 
               k = ap (λ (z : Setup). z .k) (a .setup) ∙ base .k;
               array = a .array;
               row = a .row;
-              held = ap (heldInRange (after (w .receiver) x .phase) (blockLength (o .k))) (a .held) ∙ none-held (after (w .receiver) x .phase) (o .k);
-              stored = store-after o (w .receiver .taken) (after (w .receiver) x .taken) (meaning x .stores) _ store (a .taken) (subst (Stored o (w .receiver .taken)) (sym same) (base .stored)) taking;
+              held = ap (heldInRange (after (w .receiver) x .phase) (blockLength (o .k))) (a .held)
+                  ∙ none-held (after (w .receiver) x .phase) (o .k);
+              stored = store-after o (w .receiver .taken) (after (w .receiver) x .taken) (meaning x .stores) _ store
+                  (a .taken) (subst (Stored o (w .receiver .taken)) (sym same) (base .stored)) taking;
             };
             taken = a .taken ∙ ap (λ (b : Bool). bit b + w .receiver .taken) (a .stored);
             ended = a .ended;
@@ -227,3 +255,37 @@ module _ (o : Session) (fit : Fit o) (w : World) (l d : ℕ) (copy : Bits) (f : 
             refusal = tt;
           };
         }
+
+-- ---- any reading of a call while a block is on the line
+
+-- where what is supposed of its entry holds, the call does what it should
+abbrev pub ReadingKept : (o : Session) (w : World) (l d : ℕ) (copy : Bits) (f : LineBlock) (lent : Bits) (store : List ℕ)
+    → Reading → Type 0
+ReadingKept o w l d copy f lent store y =
+    Okay o (alarmStands (w .receiver .phase)) d (receiveEntry w lent store (done y))
+    → Result o w l d copy f (receiveEntry w lent store (done y)) (receiveAfter w store (done y))
+
+pub none-of-length : (row : Bits) → length row ≡ 0 → row ≡ []
+none-of-length [] h = refl
+none-of-length (b ∷ row) h = absurd (omega arith)
+
+pub search-step : {p : Phase} → p ≡ P.Search → p ≡ P.InStep → ⊥
+search-step {p} a b = let z : _≡_ {A = ℕ} 0 1 = cc in omega arith
+
+module _ (o : Session) (w : World) (l d : ℕ) (copy : Bits) (f : LineBlock) (line : BusyLine o w l d copy f) (lent : Bits) where
+  pub used-with : (later : Bits) → w .left ≡ lent ++ later
+      → length (line .used) + (length lent + length later) ≡ blockLength (o .k)
+  used-with later split =
+      omega (
+        arith,
+        length-append (line .used) (w .left),
+        ap length (line .split),
+        ap length split,
+        length-append lent later,
+        line .long,
+      )
+
+  -- all bits of the block are lent
+  pub whole-copy : (later : Bits) → w .left ≡ lent ++ later → later ≡ [] → copy ≡ line .used ++ lent
+  whole-copy later split z =
+      line .split ∙ ap (λ (y : Bits). line .used ++ y) (split ∙ ap (λ (y : Bits). lent ++ y) z ∙ append-nil lent)

@@ -12,7 +12,8 @@ use Rattle.line.specs.declared.receiver.Receiver.{Receiver}
 
 -- ---- a row over a row
 
-pub length-overwrite : (at : ℕ) (new row : Bits) → at + length new ≤ length row → length (overwrite at new row) ≡ length row
+pub length-overwrite : (at : ℕ) (new row : Bits) → at + length new ≤ length row
+    → length (overwrite at new row) ≡ length row
 length-overwrite at new row h =
     omega (
       arith,
@@ -73,13 +74,17 @@ heldBits-holding s new a h =
     long : length (overwrite (s .held) new (bitsOf (s .bits))) ≡ 8 * arrayBytes
     long = omega (arith, length-overwrite (s .held) new (bitsOf (s .bits)) fits, length-bitsOf (s .bits))
 
-pub length-searching : (s : Receiver) (window : Bits) → length (s .bits) ≡ arrayBytes → length (searching s window .bits) ≡ arrayBytes
+pub length-searching : (s : Receiver) (window : Bits) → length (s .bits) ≡ arrayBytes
+    → length (searching s window .bits) ≡ arrayBytes
 length-searching s window a =
     omega (arith, length-append (bytesOf 2 window) (drop 2 (s .bits)), length-bytesOf 2 window, length-drop 2 (s .bits))
 
 pub heldBits-searching : (s : Receiver) (window : Bits) → length window ≤ 15 → heldBits (searching s window) ≡ window
 heldBits-searching s window h =
-    ap (take (length window)) (bitsOf-append (bytesOf 2 window) (drop 2 (s .bits)) ∙ ap (λ (l : Bits). l ++ bitsOf (drop 2 (s .bits))) (bitsOf-bytesOf 2 window (omega arith)) ∙ append-assoc window (zeros (8 * 2 - length window)) (bitsOf (drop 2 (s .bits))))
+    ap (take (length window))
+    (bitsOf-append (bytesOf 2 window) (drop 2 (s .bits))
+    ∙ ap (λ (l : Bits). l ++ bitsOf (drop 2 (s .bits))) (bitsOf-bytesOf 2 window (omega arith))
+    ∙ append-assoc window (zeros (8 * 2 - length window)) (bitsOf (drop 2 (s .bits))))
     ∙ take-at window (zeros (8 * 2 - length window) ++ bitsOf (drop 2 (s .bits))) (length window) refl
 
 -- ---- the store
@@ -89,7 +94,12 @@ module _ (at : ℕ) (payload : Bits) (store : List ℕ) (h : at + length payload
   unfolding storeAt
   bitsOf-storeAt =
       bitsOf-exact (length store) (overwrite at payload (bitsOf store))
-      (omega (arith, length-overwrite at payload (bitsOf store) (omega (arith, length-bitsOf store)), length-bitsOf store))
+      (omega (
+        arith,
+        length-overwrite at payload (bitsOf store)
+            (omega (arith, length-bitsOf store)),
+        length-bitsOf store,
+      ))
 
 pub length-storeAt : (at : ℕ) (payload : Bits) (store : List ℕ) → length (storeAt at payload store) ≡ length store
 unfolding storeAt

@@ -7,7 +7,7 @@ use Rattle.line.specs.declared.sender.Next.{Next}
 use Rattle.line.specs.declared.sender.Next.the-variants.{Sync, Older, Newer}
 use Rattle.line.specs.declared.receiver.Event.{Event}
 use Rattle.line.specs.declared.receiver.Event.the-variants as E
-use Rattle.line.proofs.Delivery.Ends.{Ends, isNewer, isSync, LineBlock, sync, item, SameReceiver, Sends, Reads, Basic, Between, During, FromPair, syncing, below, last, cancelled, Alarmed, Idle, Busy}
+use Rattle.line.proofs.Delivery.Ends.{Ends, isNewer, isSync, LineBlock, sync, item, SameReceiver, SameSender, Sends, Reads, Basic, Between, During, FromPair, syncing, below, last, cancelled, Alarmed, Idle, Busy}
 use Rattle.line.proofs.Delivery.Ends as D
 
 pub opened-idle : (N : ℕ) (s : Ends) → s .item ≡ 1 → s .run ≡ 0 → s .opening ≡ 1 → s .finished ≡ 0 → s .search ≡ 1
@@ -24,15 +24,18 @@ module _ {N : ℕ} {s t : Ends} {n n′ : Next} {f : LineBlock} where
   busy-of : Idle N s n → SameReceiver s t → (Alarmed s → Basic N t × Alarmed t)
       → (Between s n → Basic N t × During t n′ × FromPair N t n′ f) → Busy N t n′ f
   busy-of h r alarmed between =
+      let all = all-kept (r .taken) (r .ended) (h .all) in
       ⊎-elim
-      (λ a. let x = alarmed a in record { basic = x .0; all = all-kept (r .taken) (r .ended) (h .all); state = inl (x .1) })
-      (λ b. let x = between b in record { basic = x .0; all = all-kept (r .taken) (r .ended) (h .all); state = inr (x .1, x .2) })
+      (λ a. let x = alarmed a in record { basic = x .0; all = all; state = inl (x .1) })
+      (λ b. let x = between b in record { basic = x .0; all = all; state = inr (x .1, x .2) })
       (h .state)
 
 module _ {N : ℕ} {s t : Ends} {reading : ℕ} where
   pub send-keeps : {n n′ : Next} {f : LineBlock} → Idle N s n → Sends N s reading t n n′ f → Busy N t n′ f
-  send-keeps h (D.syncs r q d) = busy-of h r (λ a. (omega arith, omega arith)) (λ b. (omega arith, omega arith, syncing (omega arith)))
-  send-keeps h (D.olders r q d e w) = busy-of h r (λ a. (omega arith, omega arith)) (λ b. (omega arith, omega arith, below (omega arith) w))
+  send-keeps h (D.syncs r q d) =
+      busy-of h r (λ a. (omega arith, omega arith)) (λ b. (omega arith, omega arith, syncing (omega arith)))
+  send-keeps h (D.olders r q d e w) =
+      busy-of h r (λ a. (omega arith, omega arith)) (λ b. (omega arith, omega arith, below (omega arith) w))
   send-keeps h (D.wholes r z e le w i u o f (inl l)) =
       busy-of h r (λ a. (omega arith, omega arith)) (λ b. (omega arith, omega arith, below (omega arith) w))
   send-keeps h (D.wholes r z e le w i u o f (inr l)) =
@@ -74,7 +77,8 @@ three-ways a b (suc zero) e h = inr (inl (omega arith))
 three-ways a b (suc (suc d)) e h = inr (inr (omega arith))
 
 -- a whole data item on the line has one of the letters that rules 3 to 5 read
-pub never-anything-else : {N : ℕ} {s : Ends} {n : Next} {i : ℕ} → Basic N s → During s n → Whole N s n i → i < N → s .ended ≡ 0
+pub never-anything-else : {N : ℕ} {s : Ends} {n : Next} {i : ℕ} → Basic N s → During s n → Whole N s n i → i < N
+    → s .ended ≡ 0
     → (i % 3 ≡ s .taken % 3 → N ≤ s .taken) → ((i + 1) % 3 ≡ s .taken % 3 → s .taken ≡ 0)
     → (i % 3 ≡ (s .taken + 1) % 3 → ⊥) → ⊥
 never-anything-else {N} {s} {n} {i} g b c l e m1 m2 m3 =
@@ -99,9 +103,15 @@ module _ {N : ℕ} {s t : Ends} {n : Next} where
 
   -- a whole item: with the facts on which item it is
   kept-whole : {i : ℕ} → Busy N s n (item i 1) → s .alarm ≡ 0
-      → (During s n → isNewer n ≡ 1 → isSync n ≡ 0 → (i + 1 ≡ s .item) ⊎ ((i ≡ s .item) × (s .item ≡ N + 1)) → Idle N t n) → Idle N t n
+      → (During s n → isNewer n ≡ 1 → isSync n ≡ 0 → (i + 1 ≡ s .item) ⊎ ((i ≡ s .item) × (s .item ≡ N + 1)) → Idle N t n)
+      → Idle N t n
   kept-whole h a x =
-      ⊎-elim (λ b. absurd (omega arith)) (λ b. let c = whole-of (b .1) refl in x (b .0) (c .next) (c .not-sync) (c .which)) (h .state)
+      ⊎-elim (λ b. absurd (omega arith))
+      (λ b. let c = whole-of (b .1) refl in x (b .0) (c .next) (c .not-sync) (c .which)) (h .state)
+
+  -- an alarm comes only where a request was lost and no good block was read since
+  alarmed : {f : LineBlock} → Busy N s n f → SameSender s t → D.Alarms s t 0 → s .danger ≡ 1 → Idle N t n
+  alarmed h q r d = record { basic = omega arith; all = all-kept (r .taken) (r .ended) (h .all); state = inl (omega arith) }
 
   pub read-keeps : {f : LineBlock} {e : Event} → Busy N s n f → Reads N s t f e → Idle N t n
   read-keeps h (D.stands q r a) =
@@ -109,11 +119,14 @@ module _ {N : ℕ} {s t : Ends} {n : Next} where
       (λ b. record { basic = omega arith; all = all-kept (r .taken) (r .ended) (h .all); state = inl (omega arith) })
       (λ b. absurd (omega arith))
       (h .state)
-  read-keeps h (D.searches q r d a z) = kept h a (r .taken) (r .ended) (λ b c. (omega arith, inr (omega (arith, newer-le n))))
+  read-keeps h (D.searches q r d a z) =
+      kept h a (r .taken) (r .ended) (λ b c. (omega arith, inr (omega (arith, newer-le n))))
   read-keeps h (D.syncs q a r) =
       kept h a (r .taken) (r .ended) (λ b c. let c = sync-of c in (omega arith, inr (omega arith)))
-  read-keeps h (D.bad-step q a lt f r) = kept h (a .alarm) (r .taken) (r .ended) (λ b c. (omega arith, inr (omega (arith, newer-le n))))
-  read-keeps h (D.bad-eighth q a w f r) = kept h (a .alarm) (r .taken) (r .ended) (λ b c. (omega arith, inr (omega (arith, newer-le n))))
+  read-keeps h (D.bad-step q a lt f r) =
+      kept h (a .alarm) (r .taken) (r .ended) (λ b c. (omega arith, inr (omega (arith, newer-le n))))
+  read-keeps h (D.bad-eighth q a w f r) =
+      kept h (a .alarm) (r .taken) (r .ended) (λ b c. (omega arith, inr (omega (arith, newer-le n))))
   read-keeps h (D.bad-first q a k0 r) =
       kept h (a .alarm) (r .taken) (r .ended) (λ b c. let c = sync-of c in (omega arith, inr (omega (arith, newer-le n))))
   read-keeps h (D.accepts q a i e0 m r) =
@@ -127,14 +140,13 @@ module _ {N : ℕ} {s t : Ends} {n : Next} where
       (λ v. record { basic = omega arith; all = λ y. absurd (omega arith); state = inr (omega arith) })
       (λ v. record { basic = omega arith; all = λ y. absurd (omega arith); state = inr (omega arith) }))
   read-keeps h (D.out-of-sequence q a i (inl o) r) =
-      let z = h .all o in kept-whole h (a .alarm) (λ b x y. ⊎-elim (λ v. absurd (omega arith)) (λ v. absurd (omega arith)))
+      let z = h .all o in kept-whole h (a .alarm)
+      (λ b x y. ⊎-elim (λ v. absurd (omega arith)) (λ v. absurd (omega arith)))
   read-keeps h (D.out-of-sequence q a i (inr o) r) =
-      kept-whole h (a .alarm)
-      (λ b x y. ⊎-elim
-      (λ v. let dd : s .danger ≡ 1 = omega arith in record { basic = omega arith; all = all-kept (r .taken) (r .ended) (h .all); state = inl (omega arith) })
-      (λ v. let dd : s .danger ≡ 1 = omega arith in record { basic = omega arith; all = all-kept (r .taken) (r .ended) (h .all); state = inl (omega arith) }))
+      kept-whole h (a .alarm) (λ b x y. ⊎-elim (λ v. alarmed h q r (omega arith)) (λ v. alarmed h q r (omega arith)))
   read-keeps h (D.anything-else q a i e0 m1 m2 m3) =
-      absurd (⊎-elim (λ b. omega arith) (λ b. never-anything-else (h .basic) (b .0) (whole-of (b .1) refl) i e0 m1 m2 m3) (h .state))
+      absurd (⊎-elim (λ b. omega arith) (λ b. never-anything-else (h .basic) (b .0) (whole-of (b .1) refl) i e0 m1 m2 m3)
+      (h .state))
   read-keeps h (D.ends q a i e0 m r) =
       kept-whole h (a .alarm)
       (λ b x y. ⊎-elim
@@ -147,10 +159,7 @@ module _ {N : ℕ} {s t : Ends} {n : Next} where
       (λ v. record { basic = omega arith; all = λ y. omega arith; state = inr (omega arith) })
       (λ v. record { basic = omega arith; all = λ y. omega arith; state = inr (omega arith) }))
   read-keeps h (D.wrong-length q a i e0 m r) =
-      kept-whole h (a .alarm)
-      (λ b x y. ⊎-elim
-      (λ v. let dd : s .danger ≡ 1 = omega arith in record { basic = omega arith; all = all-kept (r .taken) (r .ended) (h .all); state = inl (omega arith) })
-      (λ v. let dd : s .danger ≡ 1 = omega arith in record { basic = omega arith; all = all-kept (r .taken) (r .ended) (h .all); state = inl (omega arith) }))
+      kept-whole h (a .alarm) (λ b x y. ⊎-elim (λ v. alarmed h q r (omega arith)) (λ v. alarmed h q r (omega arith)))
 
   -- an accepted block is the item that the order has at that place
   pub accepted-is : {f : LineBlock} → Busy N s n f → Reads N s t f E.Accepted → s .alarm ≡ 0
@@ -159,5 +168,6 @@ module _ {N : ℕ} {s t : Ends} {n : Next} where
   accepted-is h (D.accepts {i = j} q a i e0 m r) z =
       ⊎-elim
       (λ b. absurd (omega arith))
-      (λ b. let c = whole-of (b .1) refl in ⊎-elim (λ v. (j, refl, omega arith, i)) (λ v. (j, refl, omega arith, i)) (c .which))
+      (λ b. let c = whole-of (b .1) refl in ⊎-elim (λ v. (j, refl, omega arith, i)) (λ v. (j, refl, omega arith, i))
+      (c .which))
       (h .state)

@@ -48,7 +48,10 @@ module _ (r : ℕ) (ended : Bool) (i : ℕ) (open′ : ended ≡ false) where
   not-last : leb 1 r && eqb (letter i) (letter (r - 1)) ≡ false → (i + 1) % 3 ≡ r % 3 → r ≡ 0
   not-last e m =
       ⊎-elim
-      (λ p. let q = leb-true 1 r p in absurd (eqb-false (letter i) (letter (r - 1)) (⊎-elim (λ z. absurd (true≢false (sym p ∙ z))) (λ z. z) (and-false (leb 1 r) (eqb (letter i) (letter (r - 1))) e)) (letter-same i (r - 1) (omega arith))))
+      (λ p. let q = leb-true 1 r p in absurd
+      (eqb-false (letter i) (letter (r - 1))
+      (⊎-elim (λ z. absurd (true≢false (sym p ∙ z))) (λ z. z)
+      (and-false (leb 1 r) (eqb (letter i) (letter (r - 1))) e)) (letter-same i (r - 1) (omega arith))))
       (λ p. let q = leb-false 1 r p in omega arith)
       (either (leb 1 r))
 
@@ -56,12 +59,15 @@ module _ (r : ℕ) (ended : Bool) (i : ℕ) (open′ : ended ≡ false) where
   unfolding place
   letter-read =
       cond-case (λ (p : Place). Lettered r ended i (letterRule r p)) (eqb (letter i) (letter r)) is-r
-      (λ a. cond-case (λ (p : Place). Lettered r ended i (letterRule r p)) (leb 1 r && eqb (letter i) (letter (r - 1))) is-last
+      (λ a. cond-case (λ (p : Place). Lettered r ended i (letterRule r p))
+      (leb 1 r && eqb (letter i) (letter (r - 1))) is-last
       (λ b. cond-case (λ (p : Place). Lettered r ended i (letterRule r p)) (eqb (letter i) (letter (r + 1)))
       (λ c. of-next (inr (open′, same-letter i (r + 1) (eqb-true (letter i) (letter (r + 1)) c))))
-      (λ c. of-none open′ (λ m. absurd (eqb-false (letter i) (letter r) a (letter-same i r m))) (not-last b) (λ m. eqb-false (letter i) (letter (r + 1)) c (letter-same i (r + 1) m)))))
+      (λ c. of-none open′ (λ m. absurd (eqb-false (letter i) (letter r) a (letter-same i r m))) (not-last b)
+      (λ m. eqb-false (letter i) (letter (r + 1)) c (letter-same i (r + 1) m)))))
 
-pub lettered : (k r : ℕ) (ended : Bool) (i : ℕ) (payload : Bits) → Lettered r ended i (serviceRule k r ended (letter i) payload)
+pub lettered : (k r : ℕ) (ended : Bool) (i : ℕ) (payload : Bits)
+    → Lettered r ended i (serviceRule k r ended (letter i) payload)
 unfolding serviceRule
 lettered k r ended i payload =
     cond-case (Lettered r ended i) (isLetter (letter i))
@@ -87,11 +93,13 @@ module _ (k L : ℕ) where
   unfolding endPayload
   end-length h =
       ap (λ (l : Bits). number (take 32 (drop 8 l))) (append-assoc (binary 8 version) (binary 32 L) (zeros (k - 40)))
-      ∙ ap (λ (l : Bits). number (take 32 l)) (drop-at (binary 8 version) (binary 32 L ++ zeros (k - 40)) 8 (length-binary 8 version))
+      ∙ ap (λ (l : Bits). number (take 32 l))
+      (drop-at (binary 8 version) (binary 32 L ++ zeros (k - 40)) 8 (length-binary 8 version))
       ∙ ap number (take-at (binary 32 L) (zeros (k - 40)) 32 (length-binary 32 L))
       ∙ number-binary 32 L (omega arith)
 
-  pub end-read : (r : ℕ) (ended : Bool) → 1 ≤ L → L ≤ longestOrder → EndRead k L r ended (endRule k r ended (endPayload k L))
+  pub end-read : (r : ℕ) (ended : Bool) → 1 ≤ L → L ≤ longestOrder
+      → EndRead k L r ended (endRule k r ended (endPayload k L))
   unfolding endRule validLength
   end-read r ended low high =
       cond-case (EndRead k L r ended) ended again
@@ -99,7 +107,8 @@ module _ (k L : ℕ) where
       (cond-case (EndRead k L r ended) (eqb (itemCount k L) r)
       (λ c. all e (sym (eqb-true (itemCount k L) r c))) (λ c. short e (λ m. eqb-false (itemCount k L) r c (sym m)))))
 
-  pub end-service : (r : ℕ) (ended : Bool) (payload : Bits) → serviceRule k r ended endService payload ≡ endRule k r ended payload
+  pub end-service : (r : ℕ) (ended : Bool) (payload : Bits)
+      → serviceRule k r ended endService payload ≡ endRule k r ended payload
   unfolding serviceRule isLetter
   end-service r ended payload = refl
 
@@ -109,34 +118,45 @@ pub data Unharmed (k L r : ℕ) (ended : Bool) (i : ℕ) : Rule → Type 0 where
   data-item : {x : Rule} → i < itemCount k L → Lettered r ended i x → Unharmed k L r ended i x
   end-item : {x : Rule} → itemCount k L ≤ i → EndRead k L r ended x → Unharmed k L r ended i x
 
-module _ (k L : ℕ) (content : Bits) (known : isLength k ≡ true) (low : 1 ≤ L) (high : L ≤ longestOrder) (long : length content ≡ L) where
+module _ (k L : ℕ) (content : Bits) (known : isLength k ≡ true) (low : 1 ≤ L) (high : L ≤ longestOrder)
+    (long : length content ≡ L) where
   not-sync : (i : ℕ) → (i < itemCount k L) ⊎ (itemCount k L ≤ i) → eqb (itemService k L i) (number serviceSync) ≡ false
   unfolding number
   not-sync i (inl h) = ne-eqb (itemService k L i) 5 (λ e. letter-not-sync i (sym (itemService-data k L i h) ∙ e))
-  not-sync i (inr h) = ne-eqb (itemService k L i) 5 (λ e. let z : endService ≡ 5 = sym (itemService-end k L i h) ∙ e in omega arith)
-
-  -- it is read by its service bits, never as a synchronising block
-  item-read : (r : ℕ) (ended : Bool) (i : ℕ) → (i < itemCount k L) ⊎ (itemCount k L ≤ i)
-      → judge k r ended (itemBits k L content i) ≡ serviceRule k r ended (itemService k L i) (itemPayload k L content i)
-  unfolding judge looksSync verdict
-  item-read r ended i h =
-      rw (service-itemBits k L i content, not-sync i h, passes-itemBits k L content i, payload-itemBits k L content known long i) refl
+  not-sync i (inr h) = ne-eqb (itemService k L i) 5
+      (λ e. let z : endService ≡ 5 = sym (itemService-end k L i h) ∙ e in omega arith)
 
   which : (i : ℕ) → (i < itemCount k L) ⊎ (itemCount k L ≤ i)
-  which i = ⊎-elim (λ e. inl (ltb-true i (itemCount k L) e)) (λ e. inr (ltb-false i (itemCount k L) e)) (either (ltb i (itemCount k L)))
+  which i =
+      ⊎-elim (λ e. inl (ltb-true i (itemCount k L) e)) (λ e. inr (ltb-false i (itemCount k L) e)) (either (ltb i (itemCount k L)))
+
+  -- rule 1 never reads it
+  item-never-sync : (i : ℕ) → looksSync k (itemBits k L content i) ≡ false
+  unfolding looksSync
+  item-never-sync i = rw (service-itemBits k L i content, not-sync i (which i)) refl
+
+  -- it is read by its service bits
+  item-read : (r : ℕ) (ended : Bool) (i : ℕ)
+      → judge k r ended (itemBits k L content i) ≡ serviceRule k r ended (itemService k L i) (itemPayload k L content i)
+  unfolding judge verdict
+  item-read r ended i =
+      rw (item-never-sync i, passes-itemBits k L content i, service-itemBits k L i content, payload-itemBits k L content known long i) refl
 
   unharmed : (r : ℕ) (ended : Bool) (i : ℕ) → (i < itemCount k L) ⊎ (itemCount k L ≤ i)
       → Unharmed k L r ended i (serviceRule k r ended (itemService k L i) (itemPayload k L content i))
   unharmed r ended i (inl h) =
-      data-item h (subst (λ (s : ℕ). Lettered r ended i (serviceRule k r ended s (itemPayload k L content i))) (sym (itemService-data k L i h)) (lettered k r ended i (itemPayload k L content i)))
+      data-item h (subst (λ (s : ℕ). Lettered r ended i (serviceRule k r ended s (itemPayload k L content i)))
+      (sym (itemService-data k L i h)) (lettered k r ended i (itemPayload k L content i)))
   unharmed r ended i (inr h) =
       end-item h
       (subst (EndRead k L r ended)
-      (sym (ap₂ (serviceRule k r ended) (itemService-end k L i h) (itemPayload-end k L i content h) ∙ end-service k L r ended (endPayload k L)))
+      (sym (ap₂ (serviceRule k r ended) (itemService-end k L i h) (itemPayload-end k L i content h)
+      ∙ end-service k L r ended (endPayload k L)))
       (end-read k L r ended low high))
 
   pub judge-item : (r : ℕ) (ended : Bool) (i : ℕ) → Unharmed k L r ended i (judge k r ended (itemBits k L content i))
-  judge-item r ended i = subst (Unharmed k L r ended i) (sym (item-read r ended i (which i))) (unharmed r ended i (which i))
+  judge-item r ended i = subst (Unharmed k L r ended i) (sym (item-read r ended i))
+      (unharmed r ended i (which i))
 
 -- ---- a block that fails the check
 
@@ -153,11 +173,16 @@ sync-front : (k : ℕ) → isLength k ≡ true → length (serviceSync ++ tens (
 unfolding syncBlock
 sync-front k h = omega (arith, length-syncBlock k h, length-append (serviceSync ++ tens (k / 2)) syncSequence)
 
--- unharmed, it is never read as data or end
+-- unharmed, it is read by rule 1
 pub judge-sync : (k r : ℕ) (ended : Bool) → isLength k ≡ true → judge k r ended (syncBlock k) ≡ sync-block
 unfolding judge looksSync syncBlock
 judge-sync k r ended h =
-    rw (drop-at (serviceSync ++ tens (k / 2)) syncSequence (k + 4) (sync-front k h), eq-eqb (number syncSequence) (number syncSequence) refl, eq-eqb (number serviceSync) (number serviceSync) refl) refl
+    rw (
+      drop-at (serviceSync ++ tens (k / 2)) syncSequence (k + 4) (sync-front k h),
+      eq-eqb (number syncSequence)
+          (number syncSequence) refl,
+      eq-eqb (number serviceSync) (number serviceSync) refl,
+    ) refl
 
 -- any block: rule 1, rule 2, rules 3 to 6, or rule 7
 pub data Judged : Rule → Type 0 where
@@ -177,7 +202,8 @@ unfolding endRule
 end-judged k r ended payload =
     cond-case Judged ended (λ e. as-data refl)
     (λ e. cond-case Judged
-    (eqb (number (take 8 payload)) version && validLength (number (take 32 (drop 8 payload))) && eqb (itemCount k (number (take 32 (drop 8 payload)))) r)
+    (eqb (number (take 8 payload)) version && validLength (number (take 32 (drop 8 payload))) && eqb
+    (itemCount k (number (take 32 (drop 8 payload)))) r)
     (λ e. as-data refl) (λ e. as-data refl))
 
 service-judged : (k r : ℕ) (ended : Bool) (service : ℕ) (payload : Bits) → Judged (serviceRule k r ended service payload)

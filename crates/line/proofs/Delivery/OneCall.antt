@@ -53,7 +53,8 @@ unfolding send
 send-answered s order reading slice h =
     cond-case (SendAnswered s reading) (not (senderInRange s)) (λ e. absurd (in-range h e))
     (λ e. cond-case (SendAnswered s reading) (s .finished || gaveUp s) (λ e. refuses (inr refl))
-    (λ g. cond-case (SendAnswered s reading) (tooShort order (s .setup .length) || tooShort slice (blockLength (s .setup .k)))
+    (λ g. cond-case (SendAnswered s reading)
+    (tooShort order (s .setup .length) || tooShort slice (blockLength (s .setup .k)))
     (λ e. refuses (inl refl)) (λ e. let q = or-false (s .finished) (gaveUp s) g in begins (q .0) (q .1))))
 
 pub receive-answered : (r : Receiver) (line : List ℕ) (count : ℕ) (store : List ℕ) → receiverInRange r ≡ true
@@ -61,9 +62,11 @@ pub receive-answered : (r : Receiver) (line : List ℕ) (count : ℕ) (store : L
 unfolding receive
 receive-answered r line count store h =
     cond-case (ReceiveAnswered r (take count (bitsOf line)) count) (not (receiverInRange r)) (λ e. absurd (in-range h e))
-    (λ e. cond-case (ReceiveAnswered r (take count (bitsOf line)) count) (tooShort line count) (λ e. ReceiveAnswered.refuses)
+    (λ e. cond-case (ReceiveAnswered r (take count (bitsOf line)) count) (tooShort line count)
+    (λ e. ReceiveAnswered.refuses)
     (λ g. cond-case (ReceiveAnswered r (take count (bitsOf line)) count)
-    (meaning (readings r (take count (bitsOf line)) count .rule) .stores && tooShort store (r .taken * r .setup .k + r .setup .k))
+    (meaning (readings r (take count (bitsOf line)) count .rule) .stores && tooShort store
+    (r .taken * r .setup .k + r .setup .k))
     (λ e. ReceiveAnswered.refuses) (λ e. hears (size g))))
   where
     size : tooShort line count ≡ false → length (take count (bitsOf line)) ≡ count
@@ -71,7 +74,8 @@ receive-answered r line count store h =
 
 -- ---- a call that hears nothing: refused, or a sending call
 
-unheard-told : (o : Session) (w : World) (l : ℕ) (e : Entry) (w′ : World) → ((f : Heard → Bool) → Delivery.hears f e ≡ false) → Base o w′
+unheard-told : (o : Session) (w : World) (l : ℕ) (e : Entry) (w′ : World)
+    → ((f : Heard → Bool) → Delivery.hears f e ≡ false) → Base o w′
     → w′ .receiver ≡ w .receiver → OnlyRefused e → Told o w l e w′
 unheard-told o w l e w′ none base same refusal =
     record {
@@ -79,11 +83,13 @@ unheard-told o w l e w′ none base same refusal =
       taken = ap (λ (r : Receiver). r .taken) same ∙ omega (arith, ap bit (none (λ y. news (eventOf y) .new)));
       ended =
           ap (λ (r : Receiver). r .ended) same
-          ∙ sym (ap (λ (b : Bool). w .receiver .ended || b) (none (λ y. news (eventOf y) .end)) ∙ or-no (w .receiver .ended));
+          ∙ sym (ap (λ (b : Bool). w .receiver .ended || b) (none (λ y. news (eventOf y) .end))
+          ∙ or-no (w .receiver .ended));
       length = λ M h. absurd (false≢true (sym (none (λ y. reportsEnd M (eventOf y))) ∙ h));
       alarm =
           ap (λ (r : Receiver). alarmStands (r .phase)) same
-          ∙ sym (ap (λ (b : Bool). alarmStands (w .receiver .phase) || b) (none (λ y. news (eventOf y) .alarm)) ∙ or-no (alarmStands (w .receiver .phase)));
+          ∙ sym (ap (λ (b : Bool). alarmStands (w .receiver .phase) || b) (none (λ y. news (eventOf y) .alarm))
+          ∙ or-no (alarmStands (w .receiver .phase)));
       alarm-lost = λ h. absurd (false≢true (sym (none (λ y. news (eventOf y) .alarm)) ∙ h));
       refusal = refusal;
     }
@@ -104,7 +110,8 @@ module _ (o : Session) (fit : Fit o) where
       range-in (w .sender)
       (record {
         known = ap isLength (h .base .sender-k) ∙ fit .known;
-        valid = ap validLength (h .base .sender-L) ∙ ap₂ _&&_ (le-leb 1 (o .L) (fit .low)) (le-leb (o .L) longestOrder (fit .high));
+        valid = ap validLength (h .base .sender-L)
+            ∙ ap₂ _&&_ (le-leb 1 (o .L) (fit .low)) (le-leb (o .L) longestOrder (fit .high));
         first = b .low;
         last = omega (arith, b .high, ap₂ itemCount (h .base .sender-k) (h .base .sender-L));
         cancels = h .base .run;
@@ -124,17 +131,24 @@ module _ (o : Session) (fit : Fit o) where
   -- ---- no block on the line
 
   stays-idle : (w : World) (l d : ℕ) → IdleLine o w l d → Base o w → (lent : Bits) (store : List ℕ) → store ≡ w .store
-      → Stays o w l d (receiveEntry w lent store (done (idle (w .receiver)))) (receiveAfter w store (done (idle (w .receiver))))
+      → Stays o w l d (receiveEntry w lent store (done (idle (w .receiver))))
+      (receiveAfter w store (done (idle (w .receiver))))
   stays-idle w l d g b lent store same =
       record {
-        line = record { left = g .left; held = g .held; idle = subst (λ (n : ℕ). Idle (N o) (endsOf w l n) (w .sender .next)) (sym danger) (g .idle) };
+        line = record {
+          left = g .left;
+          held = g .held;
+          idle = subst (λ (n : ℕ). Idle (N o) (endsOf w l n) (w .sender .next)) (sym danger) (g .idle);
+        };
         same = ap (endsOf w l) danger;
         next = refl;
-        told = still-told o w l b lent store same (idleRule (w .receiver .phase)) 0 (w .receiver) (quiet-idle (w .receiver .phase)) (still-same o w b) lost;
+        told = still-told o w l b lent store same (idleRule (w .receiver .phase)) 0 (w .receiver)
+            (quiet-idle (w .receiver .phase)) (still-same o w b) lost;
       }
     where
       danger : cond (isItem (w .block) && meaning (idleRule (w .receiver .phase)) .checked) 0 d ≡ d
-      danger = not-danger (alarmStands (w .receiver .phase)) (idleRule (w .receiver .phase)) (quiet-idle (w .receiver .phase)) (isItem (w .block)) d
+      danger = not-danger (alarmStands (w .receiver .phase)) (idleRule (w .receiver .phase))
+          (quiet-idle (w .receiver .phase)) (isItem (w .block)) d
 
       lost : alarmStands (w .receiver .phase) ≡ true → l ≡ 1
       lost a = ⊎-elim (λ c. c .lost) (λ c. absurd (omega (arith, ap bit a, c .alarm))) (g .idle .state)
@@ -147,15 +161,19 @@ module _ (o : Session) (fit : Fit o) where
   unfolding readings
   idle-is r lent count e = ap (λ (t : Bool). cond t (idle r) (reading r (r .phase) lent)) (eq-eqb count 0 e)
 
-  pub idle-hears : (w : World) (l d : ℕ) → IdleLine o w l d → Base o w → (lent : Bits) (count : ℕ) (store : List ℕ) (a : Answer Reading)
-      → ReceiveAnswered (w .receiver) lent count a → Okay o (alarmStands (w .receiver .phase)) d (receiveEntry w lent store a)
+  pub idle-hears : (w : World) (l d : ℕ) → IdleLine o w l d → Base o w
+      → (lent : Bits) (count : ℕ) (store : List ℕ) (a : Answer Reading)
+      → ReceiveAnswered (w .receiver) lent count a
+      → Okay o (alarmStands (w .receiver .phase)) d (receiveEntry w lent store a)
       → Stays o w l d (receiveEntry w lent store a) (receiveAfter w store a)
   idle-hears w l d g b lent count store a ReceiveAnswered.refuses ok =
       record { line = g; same = refl; next = refl; told = short-told o w l b }
   idle-hears w l d g b lent count store a (hears size) ok =
       let n : lent ≡ [] = nothing-lent lent (ok .line .0) (sym (g .left) ∙ ok .line .1) in
-      let e : readings (w .receiver) lent count ≡ idle (w .receiver) = idle-is (w .receiver) lent count (sym size ∙ ap length n) in
-      subst (λ (y : Reading). Stays o w l d (receiveEntry w lent store (done y)) (receiveAfter w store (done y))) (sym e) (stays-idle w l d g b lent store (ok .store))
+      let e : readings (w .receiver) lent count ≡ idle (w .receiver) =
+      idle-is (w .receiver) lent count (sym size ∙ ap length n) in
+      subst (λ (y : Reading). Stays o w l d (receiveEntry w lent store (done y)) (receiveAfter w store (done y))) (sym e)
+      (stays-idle w l d g b lent store (ok .store))
 
   pub idle-sends : (w : World) (l d : ℕ) → IdleLine o w l d → Base o w → (order : List ℕ) (reading : Bool) (copy : Bits)
       → w .sender .finished ≡ false → gaveUp (w .sender) ≡ false
@@ -163,8 +181,12 @@ module _ (o : Session) (fit : Fit o) where
       Okay o (alarmStands (w .receiver .phase)) d (sendEntry w order reading copy b)
       → Begins o w l d copy reading (sendEntry w order reading copy b) (sendAfter w reading copy b)
   idle-sends w l d g base order reading copy fin run ok =
-      let y = sends-block o fit (w .sender) (w .receiver) l d copy (ok .line .1) (base .sender-k) (base .sender-L) fin (g .idle .basic) (w .sender .next) reading
-      (subst (λ (p : Bits). Damage (xorBits copy p)) plain (ok .damage), (λ c e. ok .not-whole c (e ∙ sym plain)), ok .loss) in
+      let y = sends-block o fit (w .sender) (w .receiver) l d copy (ok .line .1) (base .sender-k) (base .sender-L) fin
+      (g .idle .basic) (w .sender .next) reading (
+        subst (λ (p : Bits). Damage (xorBits copy p)) plain (ok .damage),
+        (λ c e. ok .not-whole c (e ∙ sym plain)),
+        ok .loss,
+      ) in
       record {
         line-block = y .line-block;
         sends = y .sends;
@@ -192,11 +214,14 @@ module _ (o : Session) (fit : Fit o) where
       setup : transmit (w .sender) (w .sender .next) reading .state .setup ≡ w .sender .setup
       setup = setup-kept (w .sender) (w .sender .next) reading
 
-      plain : plainBits (w .sender .setup .k) (w .sender .setup .length) (orderBits (w .sender .setup .length) order) (transmit (w .sender) (w .sender .next) reading .block)
+      plain : plainBits (w .sender .setup .k) (w .sender .setup .length) (orderBits (w .sender .setup .length) order)
+          (transmit (w .sender) (w .sender .next) reading .block)
           ≡ plainBits (o .k) (o .L) (o .content) (transmit (w .sender) (w .sender .next) reading .block)
       plain =
-          ap (λ (c : Bits). plainBits (w .sender .setup .k) (w .sender .setup .length) c (transmit (w .sender) (w .sender .next) reading .block)) (ok .order)
-          ∙ ap₂ (λ (k L : ℕ). plainBits k L (o .content) (transmit (w .sender) (w .sender .next) reading .block)) (base .sender-k) (base .sender-L)
+          ap (λ (c : Bits). plainBits (w .sender .setup .k) (w .sender .setup .length) c
+          (transmit (w .sender) (w .sender .next) reading .block)) (ok .order)
+          ∙ ap₂ (λ (k L : ℕ). plainBits k L (o .content) (transmit (w .sender) (w .sender .next) reading .block))
+          (base .sender-k) (base .sender-L)
 
   -- ---- a block on the line
 
@@ -206,7 +231,8 @@ module _ (o : Session) (fit : Fit o) where
       → Result o w l d copy f (receiveEntry w lent store a) (receiveAfter w store a)
   busy-hears w l d copy f line b lent count store a ReceiveAnswered.refuses ok =
       record { next = inl (line, refl, (λ q. refl)); told = short-told o w l b }
-  busy-hears w l d copy f line b lent count store a (hears size) ok = reading-told o fit w l d copy f line b lent store count size ok
+  busy-hears w l d copy f line b lent count store a (hears size) ok =
+      reading-told o fit w l d copy f line b lent store count size ok
 
   -- after reading to the last bit, no block is on the line
   pub done-idle : (w : World) (l d : ℕ) (copy : Bits) (f : LineBlock) (e : Entry) (w′ : World)
@@ -215,25 +241,35 @@ module _ (o : Session) (fit : Fit o) where
       record {
         left = y .left;
         held = y .held;
-        idle = subst (λ (s : Sender). Idle (N o) (endsOf w′ (lost′ l e) (danger′ d e)) (s .next)) (sym (y .sender)) (read-keeps h (y .reads));
+        idle = subst (λ (s : Sender). Idle (N o) (endsOf w′ (lost′ l e) (danger′ d e)) (s .next)) (sym (y .sender))
+            (read-keeps h (y .reads));
       }
 
   -- ---- any call
 
   pub send-call : (w : World) (l d : ℕ) → Inv o w l d → (order : List ℕ) (reading : Bool) (copy : Bits) (a : Answer Block)
-      → SendAnswered (w .sender) reading a → Okay o (alarmStands (w .receiver .phase)) d (sendEntry w order reading copy a)
+      → SendAnswered (w .sender) reading a
+      → Okay o (alarmStands (w .receiver .phase)) d (sendEntry w order reading copy a)
       → Keeps o w l d (sendEntry w order reading copy a) (sendAfter w reading copy a)
-  send-call w l d h order reading copy a (refuses q) ok = record { inv = h; told = unheard-told o w l (sendEntry w order reading copy a) w (λ f. refl) (h .base) refl q }
+  send-call w l d h order reading copy a (refuses q) ok =
+      record { inv = h; told = unheard-told o w l (sendEntry w order reading copy a) w (λ f. refl) (h .base) refl q }
   send-call w l d h order reading copy a (begins fin run) ok =
       ⊎-elim
       (λ g.
       let y = idle-sends w l d g (h .base) order reading copy fin run ok in
-      record { inv = record { base = y .told .base; phase = inr (record { copy = copy; line-block = y .line-block; line = y .line }) }; told = y .told })
+      record {
+        inv = record {
+          base = y .told .base;
+          phase = inr (record { copy = copy; line-block = y .line-block; line = y .line });
+        };
+        told = y .told;
+      })
       (λ g. absurd (g .line .more (ok .line .0)))
       (h .phase)
 
   pub hear-call : (w : World) (l d : ℕ) → Inv o w l d → (lent : Bits) (count : ℕ) (store : List ℕ) (a : Answer Reading)
-      → ReceiveAnswered (w .receiver) lent count a → Okay o (alarmStands (w .receiver .phase)) d (receiveEntry w lent store a)
+      → ReceiveAnswered (w .receiver) lent count a
+      → Okay o (alarmStands (w .receiver .phase)) d (receiveEntry w lent store a)
       → Keeps o w l d (receiveEntry w lent store a) (receiveAfter w store a)
   hear-call w l d h lent count store a q ok =
       ⊎-elim
@@ -248,14 +284,16 @@ module _ (o : Session) (fit : Fit o) where
           phase =
               ⊎-elim
               (λ z. inr (record { copy = g .copy; line-block = g .line-block; line = z .0 }))
-              (λ z. inl (done-idle w l d (g .copy) (g .line-block) (receiveEntry w lent store a) (receiveAfter w store a) (g .line .busy) z))
+              (λ z. inl (done-idle w l d (g .copy) (g .line-block) (receiveEntry w lent store a) (receiveAfter w store a)
+              (g .line .busy) z))
               (y .next);
         };
         told = y .told;
       })
       (h .phase)
 
-  pub call-keeps : (w : World) (l d : ℕ) → Inv o w l d → (c : Call) → Okay o (alarmStands (w .receiver .phase)) d (entry w c)
+  pub call-keeps : (w : World) (l d : ℕ) → Inv o w l d → (c : Call)
+      → Okay o (alarmStands (w .receiver .phase)) d (entry w c)
       → Keeps o w l d (entry w c) (next w c)
   call-keeps w l d h (sending order reading slice copy) ok =
       send-call w l d h order reading copy (send (w .sender) order reading slice)

@@ -77,7 +77,8 @@ module _ {N : ℕ} {s t : Ends} {n : Next} where
   whole-read h (D.out-of-sequence q a i m r) w1 n0 z0 e1 =
       absurd (⊎-elim (λ b. omega arith) (λ b. omega arith) (read-keeps h (D.out-of-sequence q a i m r) .state))
   whole-read h (D.anything-else q a i e0 m1 m2 m3) w1 n0 z0 e1 =
-      absurd (⊎-elim (λ b. omega arith) (λ b. never-anything-else (h .basic) (b .0) (whole-of (b .1) refl) i e0 m1 m2 m3) (h .state))
+      absurd (⊎-elim (λ b. omega arith) (λ b. never-anything-else (h .basic) (b .0) (whole-of (b .1) refl) i e0 m1 m2 m3)
+      (h .state))
   whole-read h (D.ends q a i e0 m r) w1 n0 z0 e1 = inl refl
   whole-read h (D.ends-again q a i e0 r) w1 n0 z0 e1 = absurd (omega arith)
   whole-read h (D.wrong-length q a i e0 m r) w1 n0 z0 e1 =
@@ -99,7 +100,8 @@ older-newer p = let z : _≡_ {A = ℕ} 0 1 = cc in omega arith
 
 module _ {N : ℕ} {s t u : Ends} {reading : ℕ} where
   pub rank-falls : {n n′ : Next} {f : LineBlock} {e : Event} → Idle N s n → Sends N s reading t n n′ f → Reads N t u f e
-      → Undisturbed s n reading f e → s .lost ≡ 0 → t .lost ≡ 0 → s .ended ≡ 0 → (isNews e ≡ true) ⊎ (rank u n′ < rank s n)
+      → Undisturbed s n reading f e → s .lost ≡ 0 → t .lost ≡ 0 → s .ended ≡ 0 → (isNews e ≡ true)
+      ⊎ (rank u n′ < rank s n)
   rank-falls h (D.syncs r q d) y c m n e0 =
       let b = between-of h m in
       let z = sync-read (rw (c .synced refl) at y) (omega arith) in
@@ -110,7 +112,8 @@ module _ {N : ℕ} {s t u : Ends} {reading : ℕ} where
       let k = send-keeps {reading = reading} h (D.olders r q d e l) in
       let b′ = between-of (read-keeps k y) (omega arith) in
       ⊎-elim
-      (λ z. ⊎-elim inl (λ p. inr (omega arith)) (whole-read k y (c .whole i w refl (λ p. absurd (older-newer p))) n (omega arith) (omega arith)))
+      (λ z. ⊎-elim inl (λ p. inr (omega arith))
+      (whole-read k y (c .whole i w refl (λ p. absurd (older-newer p))) n (omega arith) (omega arith)))
       (λ z. inr (omega arith))
       (zero-or-one (s .search) (b .search))
   rank-falls h (D.wholes {i = j} {w = w} r z e le l i u o f x) y c m n e0 =

@@ -11,7 +11,7 @@ use borrow.Author.Tests.{eqb-true, leb-true, leb-false, lt-ltb}
 use Rattle.crc.specs.Bits.{bit, bitsOf}
 use Rattle.block.specs.Lengths.{blockLength}
 use Rattle.line.specs.Order.{mostItems}
-use Rattle.line.specs.Receiving.{arrayBytes, Rule, unfinished, standing, found, sync-block, check-fails, accepts, previous, out-of-sequence, ends, wrong-length, ends-again, anything-else, meaning, lastBad, well, badly, after, heldBits, heldInRange}
+use Rattle.line.specs.Receiving.{arrayBytes, Rule, unfinished, standing, found, sync-block, check-fails, accepts, previous, out-of-sequence, ends, wrong-length, ends-again, anything-else, meaning, lastBad, blank, well, badly, alarmed, after, heldBits, heldInRange}
 use Rattle.line.specs.Delivery.{news}
 use Rattle.line.specs.declared.sender.Sender.{Sender}
 use Rattle.line.specs.declared.receiver.Receiver.{Receiver}
@@ -55,18 +55,37 @@ pub record After (r t : Receiver) (stores new end alarm : Bool) : Type 0 where
   pub stored : stores ≡ new
 
 abbrev AfterRule : Receiver → Rule → Type 0
-AfterRule r x = After r (after r x) (meaning x .stores) (news (meaning x .event) .new) (news (meaning x .event) .end) (news (meaning x .event) .alarm)
+AfterRule r x = After r (after r x) (meaning x .stores) (news (meaning x .event) .new) (news (meaning x .event) .end)
+    (news (meaning x .event) .alarm)
 
 module _ (r : Receiver) where
+  blank-after : (row : ℕ) (back : Bool) (taken : ℕ) (ended : Bool) (phase : Phase) (stores end : Bool) → row < lastBad
+      → taken ≡ bit stores + r .taken → ended ≡ (r .ended || end)
+      → After r (blank r row back taken ended phase) stores stores end (alarmStands phase)
+  blank-after row back taken ended phase stores end h t e =
+      record {
+        setup = refl;
+        array = length-noBytes;
+        held = refl;
+        row = h;
+        taken = t;
+        ended = e;
+        alarms = refl;
+        stored = refl;
+      }
+
+  same-end : r .ended ≡ (r .ended || false)
+  same-end = sym (or-no (r .ended))
+
   well-after : After r (well r (r .taken) (r .ended)) false false false false
-  well-after =
-      record { setup = refl; array = length-noBytes; held = refl; row = omega arith; taken = omega arith; ended = sym (or-no (r .ended)); alarms = refl; stored = refl }
+  well-after = blank-after 0 false (r .taken) (r .ended) P.InStep false false (omega arith) (omega arith) same-end
+
+  alarm-after : (alarm : Phase) → After r (alarmed r alarm) false false false (alarmStands alarm)
+  alarm-after alarm = blank-after 0 true (r .taken) (r .ended) alarm false false (omega arith) (omega arith) same-end
 
   badly-after : (search : Bool) → (search ≡ false → r .row + 1 < lastBad) → After r (badly r search) false false false false
-  badly-after true h =
-      record { setup = refl; array = length-noBytes; held = refl; row = omega arith; taken = omega arith; ended = sym (or-no (r .ended)); alarms = refl; stored = refl }
-  badly-after false h =
-      record { setup = refl; array = length-noBytes; held = refl; row = h refl; taken = omega arith; ended = sym (or-no (r .ended)); alarms = refl; stored = refl }
+  badly-after true h = blank-after 0 true (r .taken) (r .ended) P.Search false false (omega arith) (omega arith) same-end
+  badly-after false h = blank-after (r .row + 1) true (r .taken) (r .ended) P.InStep false false (h refl) (omega arith) same-end
 
   pub after-is : (x : Rule) → endsBlock x ≡ true → AfterRule r x
   after-is unfinished e = absurd (false≢true e)
@@ -74,15 +93,11 @@ module _ (r : Receiver) where
   after-is found e = well-after
   after-is sync-block e = well-after
   after-is check-fails e = badly-after (leb lastBad (r .row + 1)) (leb-false lastBad (r .row + 1))
-  after-is accepts e =
-      record { setup = refl; array = length-noBytes; held = refl; row = omega arith; taken = omega arith; ended = sym (or-no (r .ended)); alarms = refl; stored = refl }
+  after-is accepts e = blank-after 0 false (r .taken + 1) (r .ended) P.InStep true false (omega arith) (omega arith) same-end
   after-is previous e = well-after
-  after-is out-of-sequence e =
-      record { setup = refl; array = length-noBytes; held = refl; row = omega arith; taken = omega arith; ended = sym (or-no (r .ended)); alarms = refl; stored = refl }
-  after-is (ends L) e =
-      record { setup = refl; array = length-noBytes; held = refl; row = omega arith; taken = omega arith; ended = sym (or-yes (r .ended)); alarms = refl; stored = refl }
-  after-is wrong-length e =
-      record { setup = refl; array = length-noBytes; held = refl; row = omega arith; taken = omega arith; ended = sym (or-no (r .ended)); alarms = refl; stored = refl }
+  after-is out-of-sequence e = alarm-after P.SequenceAlarm
+  after-is (ends L) e = blank-after 0 false (r .taken) true P.InStep false true (omega arith) (omega arith) (sym (or-yes (r .ended)))
+  after-is wrong-length e = alarm-after P.LengthAlarm
   after-is ends-again e = well-after
   after-is anything-else e =
       badly-after (leb lastBad (r .row + 1) || eqb (r .taken) 0)
@@ -105,29 +120,35 @@ held-none t e = record { step = λ p. empty; search = λ p. ([], empty) }
 abbrev pub same-sender : (s : Sender) (r t : Receiver) (l d e : ℕ) → SameSender (S.ends s r l d) (S.ends s t l e)
 same-sender s r t l d e = record { item = refl; run = refl; opening = refl; finished = refl; lost = refl }
 
+pub well-in-step : (s : Sender) (r : Receiver) (taken : ℕ) (ended : Bool) (l d e : ℕ) → bit ended ≡ e
+    → D.InStep (S.ends s (well r taken ended) l d) taken e d
+well-in-step s r taken ended l d e h =
+    record { search = refl; row = refl; back = refl; taken = refl; ended = h; alarm = refl; danger = refl }
+
 module _ (o : Session) (s : Sender) (r : Receiver) (l d : ℕ) (few : N o ≤ mostItems) (step : r .phase ≡ P.InStep) where
   in-step : D.Reading (S.ends s r l d)
-  in-step = record { alarm = ap (λ (p : Phase). bit (alarmStands p)) step; search = ap (λ (p : Phase). bit (inSearch p)) step }
+  in-step =
+      record { alarm = ap (λ (p : Phase). bit (alarmStands p)) step; search = ap (λ (p : Phase). bit (inSearch p)) step }
 
   pub unharmed-reads : (i : ℕ) (x : Rule) → Unharmed (o .k) (o .L) (r .taken) (r .ended) i x
       → Reads (N o) (S.ends s r l d) (S.ends s (after r x) l 0) (LineBlock.item i 1) (meaning x .event)
   unharmed-reads i x (data-item h (J.of-r e m)) =
       D.accepts (same-sender s r (after r accepts) l d 0) in-step h (ap bit e) m
-      (record { search = refl; row = refl; back = refl; taken = refl; ended = ap bit e; alarm = refl; danger = refl })
+      (well-in-step s r (r .taken + 1) (r .ended) l 0 0 (ap bit e))
   unharmed-reads i x (data-item h (J.of-last e m)) =
       D.repeats (same-sender s r (after r previous) l d 0) in-step h (ap bit e) m
-      (record { search = refl; row = refl; back = refl; taken = refl; ended = ap bit e; alarm = refl; danger = refl })
+      (well-in-step s r (r .taken) (r .ended) l 0 0 (ap bit e))
   unharmed-reads i x (data-item h (J.of-next m)) =
-      D.out-of-sequence (same-sender s r (after r out-of-sequence) l d 0) in-step h (⊎-elim (λ e. inl (ap bit e)) (λ e. inr (ap bit (e .0), e .1)) m)
+      D.out-of-sequence (same-sender s r (after r out-of-sequence) l d 0) in-step h
+      (⊎-elim (λ e. inl (ap bit e)) (λ e. inr (ap bit (e .0), e .1)) m)
       (record { taken = refl; ended = refl; alarm = refl; danger = refl })
   unharmed-reads i x (data-item h (J.of-none e a b c)) =
       D.anything-else (same-sender s r (after r anything-else) l d 0) in-step h (ap bit e) (λ m. let q = a m in omega arith) b c
   unharmed-reads i x (end-item h (J.again e)) =
       D.ends-again (same-sender s r (after r ends-again) l d 0) in-step h (ap bit e)
-      (record { search = refl; row = refl; back = refl; taken = refl; ended = ap bit e; alarm = refl; danger = refl })
+      (well-in-step s r (r .taken) (r .ended) l 0 1 (ap bit e))
   unharmed-reads i x (end-item h (J.all e t)) =
-      D.ends (same-sender s r (after r (ends (o .L))) l d 0) in-step h (ap bit e) t
-      (record { search = refl; row = refl; back = refl; taken = refl; ended = refl; alarm = refl; danger = refl })
+      D.ends (same-sender s r (after r (ends (o .L))) l d 0) in-step h (ap bit e) t (well-in-step s r (r .taken) true l 0 1 refl)
   unharmed-reads i x (end-item h (J.short e t)) =
       D.wrong-length (same-sender s r (after r wrong-length) l d 0) in-step h (ap bit e) t
       (record { taken = refl; ended = refl; alarm = refl; danger = refl })
@@ -143,7 +164,15 @@ module _ (o : Session) (s : Sender) (r : Receiver) (l d : ℕ) (few : N o ≤ mo
       (y refl)
     where
       rejected : D.Rejected (S.ends s r l d) (S.ends s (badly r true) l d) 1 0
-      rejected = record { search = refl; row = refl; back = refl; taken = refl; ended = refl; alarm = refl; danger = refl }
+      rejected = record {
+        search = refl;
+        row = refl;
+        back = refl;
+        taken = refl;
+        ended = refl;
+        alarm = refl;
+        danger = refl;
+      }
   bad-reads f false w h y n =
       D.bad-step (same-sender s r (badly r false) l d d) in-step (n refl) w
       (record { search = refl; row = refl; back = refl; taken = refl; ended = refl; alarm = refl; danger = refl })
@@ -158,5 +187,7 @@ module _ (o : Session) (s : Sender) (r : Receiver) (l d : ℕ) (few : N o ≤ mo
   pub other-reads : r .row ≤ 7 → Reads (N o) (S.ends s r l d) (S.ends s (after r anything-else) l d) LineBlock.sync E.Bad
   other-reads h =
       bad-reads LineBlock.sync (leb lastBad (r .row + 1) || eqb (r .taken) 0) (inl refl) h
-      (λ e. ⊎-elim (λ z. let q = leb-true lastBad (r .row + 1) z in inl (omega arith)) (λ z. inr (refl, eqb-true (r .taken) 0 z)) (or-true (leb lastBad (r .row + 1)) (eqb (r .taken) 0) e))
-      (λ e. let q = leb-false lastBad (r .row + 1) (or-false (leb lastBad (r .row + 1)) (eqb (r .taken) 0) e .0) in omega arith)
+      (λ e. ⊎-elim (λ z. let q = leb-true lastBad (r .row + 1) z in inl (omega arith))
+      (λ z. inr (refl, eqb-true (r .taken) 0 z)) (or-true (leb lastBad (r .row + 1)) (eqb (r .taken) 0) e))
+      (λ e. let q = leb-false lastBad (r .row + 1)
+      (or-false (leb lastBad (r .row + 1)) (eqb (r .taken) 0) e .0) in omega arith)

@@ -14,8 +14,8 @@ use Rattle.line.specs.Sending.{Block, synchronising, item}
 use Rattle.line.specs.Receiving.{Rule, found, sync-block, check-fails, accepts, ends, anything-else, meaning, after, judge}
 use Rattle.line.specs.Course.{World}
 use Rattle.line.specs.Delivery.{isItem, reportsEnd}
+use Rattle.line.specs.declared.receiver.Receiver.{Receiver}
 use Rattle.line.specs.declared.receiver.Phase.the-variants as P
-use Rattle.line.specs.declared.receiver.Event.{Event}
 use Rattle.line.specs.declared.receiver.Event.the-variants as E
 use Rattle.line.proofs.Items.{itemCount-fits}
 use Rattle.line.proofs.Delivery.Tests.{and-no}
@@ -24,13 +24,14 @@ use Rattle.line.proofs.Delivery.Ends as D
 use Rattle.line.proofs.Delivery.Invariant.{accepted-is}
 use Rattle.line.proofs.Delivery.Judging as J
 use Rattle.line.proofs.Delivery.Judging.{Unharmed, data-item, end-item, Judged, judged, judge-item, judge-fails, judge-sync}
-use Rattle.line.proofs.Delivery.Reading.{endsBlock, unharmed-reads, fails-reads, other-reads}
+use Rattle.line.proofs.Delivery.Reading.{endsBlock, same-sender, well-in-step, unharmed-reads, fails-reads, other-reads}
 use Rattle.line.proofs.Delivery.State.{Session, N, Fit, alarmStands, endsOf, BusyLine, CopyOf, syncing, whole, damaged}
 use Rattle.line.proofs.Delivery.State as S
 
 pub few : (o : Session) → Fit o → N o ≤ mostItems
 unfolding validLength
-few o fit = itemCount-fits (o .k) (o .L) (fit .known) (ap₂ _&&_ (le-leb 1 (o .L) (fit .low)) (le-leb (o .L) longestOrder (fit .high)))
+few o fit = itemCount-fits (o .k) (o .L) (fit .known)
+    (ap₂ _&&_ (le-leb 1 (o .L) (fit .low)) (le-leb (o .L) longestOrder (fit .high)))
 
 -- ---- an item as it was before cancelling
 
@@ -79,34 +80,45 @@ not-item {b} {i} {end} {used} {cancelled} p q = let z : _≡_ {A = ℕ} 0 1 = cc
 not-sync : {f : LineBlock} {i n : ℕ} → f ≡ LineBlock.item i n → f ≡ LineBlock.sync → ⊥
 not-sync {f} {i} {n} p q = let z : _≡_ {A = ℕ} 0 1 = cc in omega arith
 
-module _ (o : Session) (fit : Fit o) (w : World) (l d : ℕ) (copy : Bits) (f : LineBlock) (line : BusyLine o w l d copy f) where
-  -- a rule's work on the block, at block level
+module _ (o : Session) (fit : Fit o) (w : World) (l d : ℕ) (copy : Bits) (f : LineBlock)
+    (line : BusyLine o w l d copy f) where
+  abbrev r : Receiver
+  r = w .receiver
+
+  -- the danger left by a rule, and the reading of a block by it, at block level
+  abbrev danger-left : Rule → ℕ
+  danger-left x = cond (isItem (w .block) && meaning x .checked) 0 d
+
+  abbrev ReadBy : Rule → ℕ → LineBlock → Type 0
+  ReadBy x m g = Reads (N o) (endsOf w l d) (S.ends (w .sender) (after r x) l m) g (meaning x .event)
+
+  -- a rule's work on the block
   pub record Ruling (x : Rule) : Type 0 where
     pub ends-block : endsBlock x ≡ true
-    pub reads : Reads (N o) (endsOf w l d)
-        (S.ends (w .sender) (after (w .receiver) x) l (cond (isItem (w .block) && meaning x .checked) 0 d)) f (meaning x .event)
+    pub reads : ReadBy x (danger-left x) f
     pub length : (M : ℕ) → reportsEnd M (meaning x .event) ≡ true → M ≡ o .L
     pub takes : meaning x .stores ≡ true
-        → (i : ℕ) × (copy ≡ itemBits (o .k) (o .L) (o .content) i) × (i ≡ w .receiver .taken) × (i < N o)
+        → (i : ℕ) × (copy ≡ itemBits (o .k) (o .L) (o .content) i) × (i ≡ r .taken) × (i < N o)
     pub clean : f ≡ LineBlock.sync → copy ≡ syncBlock (o .k) → meaning x .event ≡ E.Sync
 
-  during : alarmStands (w .receiver .phase) ≡ false → During (endsOf w l d) (w .sender .next)
+  during : alarmStands (r .phase) ≡ false → During (endsOf w l d) (w .sender .next)
   during quiet = ⊎-elim (λ b. absurd (omega (arith, ap bit quiet, b .alarm))) (λ b. b .0) (line .busy .state)
 
   not-good : (b : Bool) → (b ≡ false) ⊎ (w .block ≡ synchronising) → cond (isItem (w .block) && b) 0 d ≡ d
-  not-good b (inl e) = ap (λ (t : Bool). cond (isItem (w .block) && t) 0 d) e ∙ ap (λ (t : Bool). cond t 0 d) (and-no (isItem (w .block)))
+  not-good b (inl e) = ap (λ (t : Bool). cond (isItem (w .block) && t) 0 d) e
+      ∙ ap (λ (t : Bool). cond t 0 d) (and-no (isItem (w .block)))
   not-good b (inr e) = ap (λ (y : Block). cond (isItem y && b) 0 d) e
 
   -- a synchronising block that is found, in search or in step
-  module _ (quiet : alarmStands (w .receiver .phase) ≡ false) (q : f ≡ LineBlock.sync) where
+  module _ (quiet : alarmStands (r .phase) ≡ false) (q : f ≡ LineBlock.sync) where
     pub found-ruling : Ruling found
     found-ruling =
         record {
           ends-block = refl;
-          reads = subst₂ (λ (n : ℕ) (g : LineBlock). Reads (N o) (endsOf w l d) (S.ends (w .sender) (after (w .receiver) found) l n) g E.Sync)
-              (sym (not-good false (inl refl))) (sym q)
-              (D.Reads.syncs (record { item = refl; run = refl; opening = refl; finished = refl; lost = refl }) (ap bit quiet)
-              (record { search = refl; row = refl; back = refl; taken = refl; ended = refl; alarm = refl; danger = refl }));
+          reads =
+              subst₂ (ReadBy found) (sym (not-good false (inl refl))) (sym q)
+              (D.Reads.syncs (same-sender (w .sender) r (after r found) l d d) (ap bit quiet)
+              (well-in-step (w .sender) r (r .taken) (r .ended) l d (bit (r .ended)) refl));
           length = λ M n. absurd (false≢true n);
           takes = λ n. absurd (false≢true n);
           clean = λ a b. refl;
@@ -119,17 +131,17 @@ module _ (o : Session) (fit : Fit o) (w : World) (l d : ℕ) (copy : Bits) (f : 
 
   -- ---- in step
 
-  module _ (step : w .receiver .phase ≡ P.InStep) where
-    quiet : alarmStands (w .receiver .phase) ≡ false
+  module _ (step : r .phase ≡ P.InStep) where
+    quiet : alarmStands (r .phase) ≡ false
     quiet = ap alarmStands step
 
     fails-ruling : D.NotWhole f → (f ≡ LineBlock.sync → copy ≡ syncBlock (o .k) → ⊥) → Ruling check-fails
     fails-ruling n c =
         record {
           ends-block = refl;
-          reads = subst (λ (m : ℕ). Reads (N o) (endsOf w l d) (S.ends (w .sender) (after (w .receiver) check-fails) l m) f E.Bad)
-              (sym (not-good false (inl refl)))
-              (fails-reads o (w .sender) (w .receiver) l d (few o fit) step f n (during quiet .row));
+          reads =
+              subst (λ (m : ℕ). ReadBy check-fails m f) (sym (not-good false (inl refl)))
+              (fails-reads o (w .sender) r l d (few o fit) step f n (during quiet .row));
           length = λ M n. absurd (false≢true n);
           takes = λ n. absurd (false≢true n);
           clean = λ a b. absurd (c a b);
@@ -139,9 +151,9 @@ module _ (o : Session) (fit : Fit o) (w : World) (l d : ℕ) (copy : Bits) (f : 
     other-ruling q z c =
         record {
           ends-block = refl;
-          reads = subst₂ (λ (m : ℕ) (g : LineBlock). Reads (N o) (endsOf w l d) (S.ends (w .sender) (after (w .receiver) anything-else) l m) g E.Bad)
-              (sym (not-good true (inr z))) (sym q)
-              (other-reads o (w .sender) (w .receiver) l d (few o fit) step (during quiet .row));
+          reads =
+              subst₂ (ReadBy anything-else) (sym (not-good true (inr z))) (sym q)
+              (other-reads o (w .sender) r l d (few o fit) step (during quiet .row));
           length = λ M n. absurd (false≢true n);
           takes = λ n. absurd (false≢true n);
           clean = λ a b. absurd (c b);
@@ -149,20 +161,25 @@ module _ (o : Session) (fit : Fit o) (w : World) (l d : ℕ) (copy : Bits) (f : 
 
     -- the rule that reads the block
     abbrev rule : Rule
-    rule = judge (o .k) (w .receiver .taken) (w .receiver .ended) copy
+    rule = judge (o .k) (r .taken) (r .ended) copy
 
     whole-sync : copy ≡ syncBlock (o .k) → rule ≡ sync-block
     whole-sync c =
-        ap (judge (o .k) (w .receiver .taken) (w .receiver .ended)) c ∙ judge-sync (o .k) (w .receiver .taken) (w .receiver .ended) (fit .known)
+        ap (judge (o .k) (r .taken) (r .ended)) c
+        ∙ judge-sync (o .k) (r .taken) (r .ended) (fit .known)
 
-    synchronising-read : {x : Rule} → Judged x → x ≡ rule → f ≡ LineBlock.sync → w .block ≡ synchronising → meaning x .data-or-end ≡ false → Ruling x
+    synchronising-read : {x : Rule} → Judged x → x ≡ rule → f ≡ LineBlock.sync → w .block ≡ synchronising
+        → meaning x .data-or-end ≡ false → Ruling x
     synchronising-read J.as-sync e q z a = sync-ruling quiet q
-    synchronising-read J.fails e q z a = fails-ruling (inl q) (λ p c. let v = whole-sync c in let y : _≡_ {A = ℕ} 0 1 = cc in omega arith)
+    synchronising-read J.fails e q z a =
+        fails-ruling (inl q) (λ p c. let v = whole-sync c in let y : _≡_ {A = ℕ} 0 1 = cc in omega arith)
     synchronising-read (J.as-data n) e q z a = absurd (true≢false (sym n ∙ a))
-    synchronising-read J.as-other e q z a = other-ruling q z (λ c. let v = whole-sync c in let y : _≡_ {A = ℕ} 0 1 = cc in omega arith)
+    synchronising-read J.as-other e q z a =
+        other-ruling q z (λ c. let v = whole-sync c in let y : _≡_ {A = ℕ} 0 1 = cc in omega arith)
 
-    module _ (i : ℕ) (q : f ≡ LineBlock.item i 1) (good : isItem (w .block) ≡ true) (c : copy ≡ itemBits (o .k) (o .L) (o .content) i) where
-      unharmed-read : (x : Rule) → Unharmed (o .k) (o .L) (w .receiver .taken) (w .receiver .ended) i x → Ruling x
+    module _ (i : ℕ) (q : f ≡ LineBlock.item i 1) (good : isItem (w .block) ≡ true)
+        (c : copy ≡ itemBits (o .k) (o .L) (o .content) i) where
+      unharmed-read : (x : Rule) → Unharmed (o .k) (o .L) (r .taken) (r .ended) i x → Ruling x
       unharmed-read x a =
           record {
             ends-block = unharmed-ends a;
@@ -172,20 +189,21 @@ module _ (o : Session) (fit : Fit o) (w : World) (l d : ℕ) (copy : Bits) (f : 
             clean = λ p y. absurd (not-sync q p);
           }
         where
-          zero-danger : 0 ≡ cond (isItem (w .block) && meaning x .checked) 0 d
+          zero-danger : 0 ≡ danger-left x
           zero-danger = sym (ap₂ (λ (y b : Bool). cond (y && b) 0 d) good (unharmed-checked a))
 
-          reads : Reads (N o) (endsOf w l d) (S.ends (w .sender) (after (w .receiver) x) l (cond (isItem (w .block) && meaning x .checked) 0 d)) f (meaning x .event)
+          reads : ReadBy x (danger-left x) f
           reads =
-              subst₂ (λ (m : ℕ) (g : LineBlock). Reads (N o) (endsOf w l d) (S.ends (w .sender) (after (w .receiver) x) l m) g (meaning x .event)) zero-danger (sym q)
-              (unharmed-reads o (w .sender) (w .receiver) l d (few o fit) step i x a)
+              subst₂ (ReadBy x) zero-danger (sym q)
+              (unharmed-reads o (w .sender) r l d (few o fit) step i x a)
 
-          takes : meaning x .stores ≡ true → (j : ℕ) × (copy ≡ itemBits (o .k) (o .L) (o .content) j) × (j ≡ w .receiver .taken) × (j < N o)
+          takes : meaning x .stores ≡ true → (j : ℕ) × (copy ≡ itemBits (o .k) (o .L) (o .content) j)
+              × (j ≡ r .taken) × (j < N o)
           takes e =
-              let t = accepted-is (line .busy)
-              (subst (λ (v : Event). Reads (N o) (endsOf w l d) (S.ends (w .sender) (after (w .receiver) x) l (cond (isItem (w .block) && meaning x .checked) 0 d)) f v)
-              (ap (λ (y : Rule). meaning y .event) (unharmed-stores a e)) reads)
-              (ap bit quiet) in
+              let accepted =
+              subst (Reads (N o) (endsOf w l d) (S.ends (w .sender) (after r x) l (danger-left x)) f)
+              (ap (λ (y : Rule). meaning y .event) (unharmed-stores a e)) reads in
+              let t = accepted-is (line .busy) accepted (ap bit quiet) in
               let u : f ≡ LineBlock.item (t .0) 1 = t .1 in
               let v : i ≡ t .0 = cc in
               (t .0, c ∙ ap (itemBits (o .k) (o .L) (o .content)) v, t .2, t .3)
@@ -198,16 +216,16 @@ module _ (o : Session) (fit : Fit o) (w : World) (l d : ℕ) (copy : Bits) (f : 
       where
         go : {g : LineBlock} → CopyOf o (w .block) copy g → f ≡ g → Ruling rule
         go (syncing z) q =
-            synchronising-read (judged (o .k) (w .receiver .taken) (w .receiver .ended) copy) refl q z (sd z)
+            synchronising-read (judged (o .k) (r .taken) (r .ended) copy) refl q z (sd z)
         go (whole {i = i} z c) q =
             unharmed-read i q (ap isItem z) c rule
-            (subst (λ (y : Bits). Unharmed (o .k) (o .L) (w .receiver .taken) (w .receiver .ended) i (judge (o .k) (w .receiver .taken) (w .receiver .ended) y)) (sym c)
-            (judge-item (o .k) (o .L) (o .content) (fit .known) (fit .low) (fit .high) (fit .content) (w .receiver .taken) (w .receiver .ended) i))
+            (subst (λ (y : Bits). Unharmed (o .k) (o .L) (r .taken) (r .ended) i (judge (o .k) (r .taken) (r .ended) y)) (sym c)
+            (judge-item (o .k) (o .L) (o .content) (fit .known) (fit .low) (fit .high) (fit .content) (r .taken) (r .ended) i))
         go (damaged {i = i} z p) q =
             ⊎-elim
             (λ y. absurd (not-item z (so (ap (λ (x : Rule). meaning x .event) y))))
             (λ y. subst Ruling (sym y) (fails-ruling (inr (i, q)) (λ a b. not-sync q a)))
-            (judge-fails (o .k) (w .receiver .taken) (w .receiver .ended) copy p)
+            (judge-fails (o .k) (r .taken) (r .ended) copy p)
 
   -- a synchronising block on the line is one at block level
   pub sync-line-block : w .block ≡ synchronising → f ≡ LineBlock.sync

@@ -24,11 +24,13 @@ length-latest row = omega (arith, length-drop (length row - 15) row)
 latest-snoc : (earlier : Bits) (b : Bool) → latest earlier ++ (b ∷ []) ≡ latest16 (earlier ++ (b ∷ []))
 latest-snoc earlier b =
     let e : length (earlier ++ (b ∷ [])) - 16 ≡ length earlier - 15 = omega (arith, length-append earlier (b ∷ [])) in
-    sym (ap (λ (n : ℕ). drop n (earlier ++ (b ∷ []))) e ∙ drop-append-le (length earlier - 15) earlier (b ∷ []) (omega arith))
+    sym (ap (λ (n : ℕ). drop n (earlier ++ (b ∷ []))) e
+    ∙ drop-append-le (length earlier - 15) earlier (b ∷ []) (omega arith))
 
 latest-latest16 : (row : Bits) → latest (latest16 row) ≡ latest row
 latest-latest16 row =
-    let e : length row - 16 + (length (latest16 row) - 15) ≡ length row - 15 = omega (arith, length-drop (length row - 16) row) in
+    let e : length row - 16 + (length (latest16 row) - 15) ≡ length row - 15 =
+    omega (arith, length-drop (length row - 16) row) in
     drop-drop (length (latest16 row) - 15) (length row - 16) row ∙ ap (λ (n : ℕ). drop n row) e
 
 abbrev unfound : Receiver → Bits → ℕ → Reading
@@ -48,19 +50,23 @@ module _ (s : Receiver) where
   step-on : (earlier : Bits) (b : Bool) (bs : Bits) (used : ℕ) → isSequence (latest earlier ++ (b ∷ [])) ≡ false
       → search s (latest earlier) (b ∷ bs) used ≡ search s (latest (earlier ++ (b ∷ []))) bs (suc used)
   step-on earlier b bs used e =
-      ap (λ (t : Bool). cond t (stops s found [] (suc used)) (search s (latest (latest earlier ++ (b ∷ []))) bs (suc used))) e
-      ∙ ap (λ (window : Bits). search s window bs (suc used)) (ap latest (latest-snoc earlier b) ∙ latest-latest16 (earlier ++ (b ∷ [])))
+      ap (λ (t : Bool). cond t (stops s found [] (suc used))
+      (search s (latest (latest earlier ++ (b ∷ []))) bs (suc used))) e
+      ∙ ap (λ (window : Bits). search s window bs (suc used))
+      (ap latest (latest-snoc earlier b) ∙ latest-latest16 (earlier ++ (b ∷ [])))
 
   step-found : (earlier : Bits) (b : Bool) (bs : Bits) (used : ℕ) → isSequence (latest earlier ++ (b ∷ [])) ≡ true
       → search s (latest earlier) (b ∷ bs) used ≡ stops s found [] (suc used)
   step-found earlier b bs used e =
-      ap (λ (t : Bool). cond t (stops s found [] (suc used)) (search s (latest (latest earlier ++ (b ∷ []))) bs (suc used))) e
+      ap (λ (t : Bool). cond t (stops s found [] (suc used))
+      (search s (latest (latest earlier ++ (b ∷ []))) bs (suc used))) e
 
   no-sequence : (earlier : Bits) (b : Bool) (bs : Bits) → isSequence (latest earlier ++ (b ∷ [])) ≡ false
       → (bs ≡ []) ⊎ (isSequence (latest16 ((earlier ++ (b ∷ [])) ++ bs)) ≡ false)
       → isSequence (latest16 ((earlier ++ (b ∷ [])) ++ bs)) ≡ false
   no-sequence earlier b bs e (inl z) =
-      ap (λ (y : Bits). isSequence (latest16 y)) (ap (λ (y : Bits). (earlier ++ (b ∷ [])) ++ y) z ∙ append-nil (earlier ++ (b ∷ [])))
+      ap (λ (y : Bits). isSequence (latest16 y))
+      (ap (λ (y : Bits). (earlier ++ (b ∷ [])) ++ y) z ∙ append-nil (earlier ++ (b ∷ [])))
       ∙ ap isSequence (sym (latest-snoc earlier b)) ∙ e
   no-sequence earlier b bs e (inr z) = z
 
@@ -68,7 +74,8 @@ module _ (s : Receiver) where
   search-reads earlier [] used =
       let n : used ≡ used + 0 = omega arith in
       inl (record {
-        is = ap (λ (y : Bits). unfound s (latest y) used) (sym (append-nil earlier)) ∙ ap (unfound s (latest (earlier ++ []))) n;
+        is = ap (λ (y : Bits). unfound s (latest y) used) (sym (append-nil earlier))
+            ∙ ap (unfound s (latest (earlier ++ []))) n;
         last = inl refl;
       })
   search-reads earlier (b ∷ bs) used =
@@ -86,7 +93,8 @@ module _ (s : Receiver) where
       go true e r = inr (suc used, step-found earlier b bs used e)
       go false e (inl r) =
           inl (record {
-            is = step-on earlier b bs used e ∙ r .is ∙ ap (λ (y : Bits). unfound s (latest y) (suc used + length bs)) a ∙ ap (unfound s (latest (earlier ++ (b ∷ bs)))) n;
+            is = step-on earlier b bs used e ∙ r .is ∙ ap (λ (y : Bits). unfound s (latest y) (suc used + length bs)) a
+                ∙ ap (unfound s (latest (earlier ++ (b ∷ bs)))) n;
             last = inr (ap (λ (y : Bits). isSequence (latest16 y)) (sym a) ∙ no-sequence earlier b bs e (r .last));
           })
       go false e (inr r) = inr (r .0, step-on earlier b bs used e ∙ r .1)
@@ -96,11 +104,14 @@ pub sync-ends : (k : ℕ) (earlier : Bits) → isSequence (latest16 (earlier ++ 
 unfolding syncBlock
 sync-ends k earlier = ap isSequence tail ∙ eq-eqb (number syncSequence) (number syncSequence) refl
   where
-    e : earlier ++ ((serviceSync ++ tens (k / 2)) ++ syncSequence) ≡ (earlier ++ (serviceSync ++ tens (k / 2))) ++ syncSequence
+    e : earlier ++ ((serviceSync ++ tens (k / 2)) ++ syncSequence)
+        ≡ (earlier ++ (serviceSync ++ tens (k / 2))) ++ syncSequence
     e = sym (append-assoc earlier (serviceSync ++ tens (k / 2)) syncSequence)
 
-    n : length (earlier ++ (serviceSync ++ tens (k / 2))) ≡ length ((earlier ++ (serviceSync ++ tens (k / 2))) ++ syncSequence) - 16
+    n : length (earlier ++ (serviceSync ++ tens (k / 2))) ≡ length
+        ((earlier ++ (serviceSync ++ tens (k / 2))) ++ syncSequence) - 16
     n = omega (arith, length-append (earlier ++ (serviceSync ++ tens (k / 2))) syncSequence)
 
     tail : latest16 (earlier ++ ((serviceSync ++ tens (k / 2)) ++ syncSequence)) ≡ syncSequence
-    tail = ap latest16 e ∙ drop-at (earlier ++ (serviceSync ++ tens (k / 2))) syncSequence (length ((earlier ++ (serviceSync ++ tens (k / 2))) ++ syncSequence) - 16) n
+    tail = ap latest16 e ∙ drop-at (earlier ++ (serviceSync ++ tens (k / 2))) syncSequence
+        (length ((earlier ++ (serviceSync ++ tens (k / 2))) ++ syncSequence) - 16) n

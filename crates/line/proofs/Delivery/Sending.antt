@@ -31,7 +31,9 @@ pub arrival : (o : Session) → Fit o → (i : ℕ) (copy : Bits) → length cop
     → (copy ≡ itemBits (o .k) (o .L) (o .content) i) ⊎ (passes copy ≡ false)
 arrival o fit i copy long damage =
     ⊎-elim
-    (λ e. inl (damaged-passes copy (itemBits (o .k) (o .L) (o .content) i) (long ∙ sym (length-itemBits (o .k) (o .L) (o .content) (fit .known) (fit .content) i)) damage (passes-itemBits (o .k) (o .L) (o .content) i) e))
+    (λ e. inl (damaged-passes copy (itemBits (o .k) (o .L) (o .content) i)
+    (long ∙ sym (length-itemBits (o .k) (o .L) (o .content) (fit .known) (fit .content) i)) damage
+    (passes-itemBits (o .k) (o .L) (o .content) i) e))
     inr
     (either (passes copy))
 
@@ -61,13 +63,16 @@ same-receiver s t r l d m e = record { search = refl; row = refl; back = refl; t
 abbrev lostBy : Block → Receiver → Bool → Bool
 lostBy block r reading = isUsed block && r .back && not reading
 
-pub record SendsBlock (o : Session) (s : Sender) (r : Receiver) (l d : ℕ) (n : Next) (reading : Bool) (copy : Bits) (x : Transmission) : Type 0 where
+pub record SendsBlock (o : Session) (s : Sender) (r : Receiver) (l d : ℕ) (n : Next) (reading : Bool) (copy : Bits)
+    (x : Transmission) : Type 0 where
   pub line-block : LineBlock
   pub sends : Sends (N o) (ends s r l d) (bit reading)
-      (ends (x .state) r (cond (lostBy (x .block) r reading) 1 l) (cond (lostBy (x .block) r reading) 1 d)) n (x .state .next) line-block
+      (ends (x .state) r (cond (lostBy (x .block) r reading) 1 l) (cond (lostBy (x .block) r reading) 1 d)) n
+      (x .state .next) line-block
   pub copy-of : CopyOf o (x .block) copy line-block
 
-module _ (o : Session) (fit : Fit o) (s : Sender) (r : Receiver) (l d : ℕ) (copy : Bits) (long : length copy ≡ blockLength (o .k))
+module _ (o : Session) (fit : Fit o) (s : Sender) (r : Receiver) (l d : ℕ) (copy : Bits)
+    (long : length copy ≡ blockLength (o .k))
     (same-k : s .setup .k ≡ o .k) (same-L : s .setup .length ≡ o .L) (going : s .finished ≡ false)
     (basic : Basic (N o) (ends s r l d)) where
   abbrev Supposed : Transmission → Bool → Type 0
@@ -82,10 +87,12 @@ module _ (o : Session) (fit : Fit o) (s : Sender) (r : Receiver) (l d : ℕ) (co
   -- ---- the older item
 
   older-sends : (reading : Bool) (w : ℕ) → w ≤ 1
-      → Sends (N o) (ends s r l d) (bit reading) (ends (goesOn s Newer) r l d) Older Newer (LineBlock.item (s .newer - 1) w)
+      → Sends (N o) (ends s r l d) (bit reading) (ends (goesOn s Newer) r l d) Older Newer
+      (LineBlock.item (s .newer - 1) w)
   older-sends reading w h =
       D.olders {i = s .newer - 1} (same-receiver s (goesOn s Newer) r l d l d)
-      (record { item = refl; run = refl; opening = refl; finished = refl; lost = refl }) refl (omega (arith, basic .low)) h
+      (record { item = refl; run = refl; opening = refl; finished = refl; lost = refl }) refl
+      (omega (arith, basic .low)) h
 
   -- ---- the newer item, reading 0
 
@@ -95,16 +102,19 @@ module _ (o : Session) (fit : Fit o) (s : Sender) (r : Receiver) (l d : ℕ) (co
 
   loss : (b : Bool) → ((true && b && true) ≡ true → alarmStands (r .phase) ≡ false → d ≡ 0)
       → ((bit b ≡ 0) × (cond (true && b && true) 1 l ≡ l) × (cond (true && b && true) 1 d ≡ d))
-      ⊎ ((bit b ≡ 1) × (d ≤ bit (alarmStands (r .phase))) × (cond (true && b && true) 1 l ≡ 1) × (cond (true && b && true) 1 d ≡ 1))
+      ⊎ ((bit b ≡ 1) × (d ≤ bit (alarmStands (r .phase))) × (cond (true && b && true) 1 l ≡ 1)
+      × (cond (true && b && true) 1 d ≡ 1))
   loss true h = inr (refl, excused (alarmStands (r .phase)) refl (h refl), refl, refl)
   loss false h = inl (refl, refl, refl)
 
   newer-sends : (w : ℕ) → w ≤ 1 → ((true && r .back && true) ≡ true → alarmStands (r .phase) ≡ false → d ≡ 0)
       → (atLast s ≡ true) ⊎ (atLast s ≡ false)
-      → Sends (N o) (ends s r l d) 0 (ends (confirmed s) r (cond (true && r .back && true) 1 l) (cond (true && r .back && true) 1 d))
+      → Sends (N o) (ends s r l d) 0
+      (ends (confirmed s) r (cond (true && r .back && true) 1 l) (cond (true && r .back && true) 1 d))
       Newer Newer (LineBlock.item (s .newer) w)
   newer-sends w h ok (inl e) =
-      D.lasts (same-receiver s (confirmed s) r l d _ _) refl refl (eqb-true (s .newer) _ e ∙ ap (λ (n : ℕ). n + 1) items) h
+      D.lasts (same-receiver s (confirmed s) r l d _ _) refl refl
+      (eqb-true (s .newer) _ e ∙ ap (λ (n : ℕ). n + 1) items) h
       (ap (λ (c : Bool). cond c (s .newer) (s .newer + 1)) e) refl refl (ap bit e) (loss (r .back) ok)
   newer-sends w h ok (inr e) =
       let q = eqb-false (s .newer) (itemCount (s .setup .k) (s .setup .length) + 1) e in
@@ -117,20 +127,25 @@ module _ (o : Session) (fit : Fit o) (s : Sender) (r : Receiver) (l d : ℕ) (co
   due true e = omega arith
   due false e = omega (arith, leb-true syncRun (s .run + 1) e)
 
-  cancel-sends : Sends (N o) (ends s r l d) 1 (ends (repeated s) r (cond (true && r .back && false) 1 l) (cond (true && r .back && false) 1 d))
+  cancel-sends : Sends (N o) (ends s r l d) 1
+      (ends (repeated s) r (cond (true && r .back && false) 1 l) (cond (true && r .back && false) 1 d))
       Newer (cond (s .opening || leb syncRun (s .run + 1)) Sync Older) (LineBlock.item (s .newer) 0)
   cancel-sends =
-      cond-case (λ (n : Next). Sends (N o) (ends s r l d) 1 (ends (repeated s) r (cond (true && r .back && false) 1 l) (cond (true && r .back && false) 1 d)) Newer n (LineBlock.item (s .newer) 0))
+      cond-case (λ (n : Next). Sends (N o) (ends s r l d) 1
+      (ends (repeated s) r (cond (true && r .back && false) 1 l) (cond (true && r .back && false) 1 d)) Newer n
+      (LineBlock.item (s .newer) 0))
       (s .opening || leb syncRun (s .run + 1))
       (λ e.
       D.cancels-sync (same-receiver s (repeated s) r l d _ _) refl refl refl refl (due (s .opening) e) refl (ap bit going)
       (ap (λ (c : Bool). cond c 1 l) (and-no (r .back))) (ap (λ (c : Bool). cond c 1 d) (and-no (r .back))))
       (λ e.
       let q = or-false (s .opening) (leb syncRun (s .run + 1)) e in
-      D.cancels-older (same-receiver s (repeated s) r l d _ _) refl refl refl refl (leb-false syncRun (s .run + 1) (q .1)) (ap bit (q .0)) (ap bit (q .0)) (ap bit going)
+      D.cancels-older (same-receiver s (repeated s) r l d _ _) refl refl refl refl (leb-false syncRun (s .run + 1) (q .1))
+      (ap bit (q .0)) (ap bit (q .0)) (ap bit going)
       (ap (λ (c : Bool). cond c 1 l) (and-no (r .back))) (ap (λ (c : Bool). cond c 1 d) (and-no (r .back))))
 
-  pub sends-block : (n : Next) (reading : Bool) → Supposed (transmit s n reading) reading → SendsBlock o s r l d n reading copy (transmit s n reading)
+  pub sends-block : (n : Next) (reading : Bool) → Supposed (transmit s n reading) reading
+      → SendsBlock o s r l d n reading copy (transmit s n reading)
   unfolding transmit plainBits
   sends-block Sync reading ok =
       record {
@@ -142,13 +157,29 @@ module _ (o : Session) (fit : Fit o) (s : Sender) (r : Receiver) (l d : ℕ) (co
       }
   sends-block Older reading ok =
       ⊎-elim
-      (λ e. record { line-block = LineBlock.item (s .newer - 1) 1; sends = older-sends reading 1 (omega arith); copy-of = whole refl e })
-      (λ e. record { line-block = LineBlock.item (s .newer - 1) 0; sends = older-sends reading 0 (omega arith); copy-of = damaged refl e })
+      (λ e. record {
+        line-block = LineBlock.item (s .newer - 1) 1;
+        sends = older-sends reading 1 (omega arith);
+        copy-of = whole refl e;
+      })
+      (λ e. record {
+        line-block = LineBlock.item (s .newer - 1) 0;
+        sends = older-sends reading 0 (omega arith);
+        copy-of = damaged refl e;
+      })
       (arrival o fit (s .newer - 1) copy long (ok .0))
   sends-block Newer false ok =
       ⊎-elim
-      (λ e. record { line-block = LineBlock.item (s .newer) 1; sends = newer-sends 1 (omega arith) (ok .2) (either (atLast s)); copy-of = whole refl e })
-      (λ e. record { line-block = LineBlock.item (s .newer) 0; sends = newer-sends 0 (omega arith) (ok .2) (either (atLast s)); copy-of = damaged refl e })
+      (λ e. record {
+        line-block = LineBlock.item (s .newer) 1;
+        sends = newer-sends 1 (omega arith) (ok .2) (either (atLast s));
+        copy-of = whole refl e;
+      })
+      (λ e. record {
+        line-block = LineBlock.item (s .newer) 0;
+        sends = newer-sends 0 (omega arith) (ok .2) (either (atLast s));
+        copy-of = damaged refl e;
+      })
       (arrival o fit (s .newer) copy long (ok .0))
   sends-block Newer true ok =
       ⊎-elim

@@ -175,7 +175,8 @@ pub record Done (o : Session) (w : World) (l d : ℕ) (copy : Bits) (f : LineBlo
   pub clean : f ≡ LineBlock.sync → copy ≡ syncBlock (o .k) → alarmStands (w .receiver .phase) ≡ false → event ≡ E.Sync
 
 -- a receiving call while a block is on the line: it goes on, and while no alarm stands the numbers are as before, or it is done
-pub record Result (o : Session) (w : World) (l d : ℕ) (copy : Bits) (f : LineBlock) (e : Entry) (w′ : World) : Type 0 where
+pub record Result (o : Session) (w : World) (l d : ℕ) (copy : Bits) (f : LineBlock) (e : Entry)
+    (w′ : World) : Type 0 where
   pub next : (BusyLine o w′ (lost′ l e) (danger′ d e) copy f × (w′ .sender ≡ w .sender)
       × (alarmStands (w .receiver .phase) ≡ false → endsOf w′ (lost′ l e) (danger′ d e) ≡ endsOf w l d))
       ⊎ Done o w l d copy f e w′
@@ -189,9 +190,11 @@ pub record Stays (o : Session) (w : World) (l d : ℕ) (e : Entry) (w′ : World
   pub told : Told o w l e w′
 
 -- a sending call that is not refused: its block is on the line
-pub record Begins (o : Session) (w : World) (l d : ℕ) (copy : Bits) (reading : Bool) (e : Entry) (w′ : World) : Type 0 where
+pub record Begins (o : Session) (w : World) (l d : ℕ) (copy : Bits) (reading : Bool) (e : Entry)
+    (w′ : World) : Type 0 where
   pub line-block : LineBlock
-  pub sends : Sends (N o) (endsOf w l d) (bit reading) (endsOf w′ (lost′ l e) (danger′ d e)) (w .sender .next) (w′ .sender .next) line-block
+  pub sends : Sends (N o) (endsOf w l d) (bit reading) (endsOf w′ (lost′ l e) (danger′ d e)) (w .sender .next)
+      (w′ .sender .next) line-block
   pub line : BusyLine o w′ (lost′ l e) (danger′ d e) copy line-block
   pub told : Told o w l e w′
 

@@ -38,26 +38,32 @@ module _ (o : Session) (fit : Fit o) (r : ℕ) (store : List ℕ) (held : Stored
   unfolding at
   next-at = ap (λ (n : ℕ). n * o .k) (add-one r) ∙ suc-mul r (o .k) ∙ ap (λ (n : ℕ). r * o .k + n) (sym long)
 
-  front : take (at + length payload) (bitsOf (storeAt at payload store)) ≡ take (at + length payload) (filled (o .k) (o .L) (o .content))
+  front : take (at + length payload) (bitsOf (storeAt at payload store)) ≡ take (at + length payload)
+      (filled (o .k) (o .L) (o .content))
   unfolding at payload
   front =
       let e : suc r * o .k ≡ at + length payload = suc-mul r (o .k) ∙ ap (λ (n : ℕ). r * o .k + n) (sym long) in
-      ap (take (at + length payload)) (bitsOf-storeAt at payload store fits) ∙ take-overwrite at payload (bitsOf store) fits-row
+      ap (take (at + length payload)) (bitsOf-storeAt at payload store fits)
+      ∙ take-overwrite at payload (bitsOf store) fits-row
       ∙ ap (λ (l : Bits). l ++ payload) (held .front) ∙ filled-next (o .k) (o .L) (o .content) r h
       ∙ ap (λ (n : ℕ). take n (filled (o .k) (o .L) (o .content))) e
 
   rest : drop (at + length payload) (bitsOf (storeAt at payload store)) ≡ drop (at + length payload) (bitsOf (o .first))
   unfolding at
   rest =
-      ap (drop (at + length payload)) (bitsOf-storeAt at payload store fits) ∙ drop-overwrite at payload (bitsOf store) fits-row
-      ∙ sym (drop-drop (length payload) at (bitsOf store)) ∙ ap (drop (length payload)) (held .rest) ∙ drop-drop (length payload) at (bitsOf (o .first))
+      ap (drop (at + length payload)) (bitsOf-storeAt at payload store fits)
+      ∙ drop-overwrite at payload (bitsOf store) fits-row
+      ∙ sym (drop-drop (length payload) at (bitsOf store)) ∙ ap (drop (length payload)) (held .rest)
+      ∙ drop-drop (length payload) at (bitsOf (o .first))
 
   pub store-takes : Stored o (r + 1) (storeAt (r * o .k) (itemPayload (o .k) (o .L) (o .content) r) store)
   unfolding at payload
   store-takes =
       record {
-        front = subst (λ (n : ℕ). take n (bitsOf (storeAt at payload store)) ≡ take n (filled (o .k) (o .L) (o .content))) (sym next-at) front;
-        rest = subst (λ (n : ℕ). drop n (bitsOf (storeAt at payload store)) ≡ drop n (bitsOf (o .first))) (sym next-at) rest;
+        front = subst (λ (n : ℕ). take n (bitsOf (storeAt at payload store)) ≡ take n (filled (o .k) (o .L) (o .content)))
+            (sym next-at) front;
+        rest = subst (λ (n : ℕ). drop n (bitsOf (storeAt at payload store)) ≡ drop n (bitsOf (o .first)))
+            (sym next-at) rest;
         size = length-storeAt at payload store ∙ held .size;
       }
 

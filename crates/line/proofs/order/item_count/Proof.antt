@@ -1,6 +1,5 @@
 -- `item_count` rounds up as the definition does. Assumes nothing.
 use borrow.Author.Needs.{needs}
-use native.Mathlib.Omega.{arith}
 use Rattle.block.proofs.Lengths.{length-facts}
 use Rattle.line.specs.Order.{itemCount}
 use Rattle.line.proofs.order.item_count.Statement.{statement}

@@ -1,7 +1,7 @@
 -- `write_item` writes an end block, the last item or an item that the order fills. Assumes nothing.
 use borrow.Author.Needs.{needs}
-use mathlib.Core.Path.{_≡_, ap, sym, _∙_}
-use Prim.Native.Nat.{ℕ, _*_, _/_, _≤_, _<_}
+use mathlib.Core.Path.{ap, sym, _∙_}
+use Prim.Native.Nat.{_≤_, _<_}
 use native.Mathlib.Omega.{arith}
 use Rattle.crc.specs.Bits.{Bits}
 use Rattle.block.specs.Lengths.{blockBytes}
@@ -43,7 +43,6 @@ div-if2 c =
     let f = length-facts (s .args .k) (s .pre .0) in
     search needs
 
--- what the tests say of the two kinds of data item
 write-last-requires : tie.Need-write-last-requires
 write-last-requires c κs =
     let s = c .before .before .before .before .before .before in

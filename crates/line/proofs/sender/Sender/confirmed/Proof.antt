@@ -1,5 +1,4 @@
 -- `Sender::confirmed` is the state after reading 0 of the newer item. Assumes nothing.
-use borrow.Author.Needs.{needs}
 use borrow.Author.Tests.{eq-eqb, ne-eqb}
 use mathlib.Core.Path.{_≡_}
 use mathlib.Core.Bool.{true, false}

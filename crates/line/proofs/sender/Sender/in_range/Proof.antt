@@ -7,7 +7,7 @@ use Prim.Native.Nat.{ℕ, _+_, _≤_, _<_}
 use native.Mathlib.Omega.{arith}
 use lib.Dec.{leb}
 use Rattle.block.specs.Lengths.{isLength}
-use Rattle.line.specs.Order.{longestOrder, validLength, itemCount}
+use Rattle.line.specs.Order.{longestOrder, validLength}
 use Rattle.line.specs.Sending.{senderItems, lastRun, senderInRange}
 use Rattle.line.specs.declared.sender.Sender.{Sender}
 use Rattle.line.proofs.Items.{itemCount-fits}

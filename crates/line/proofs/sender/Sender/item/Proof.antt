@@ -1,5 +1,4 @@
 -- `Sender::item` says which item goes out and whether it is an end block. Assumes nothing.
-use borrow.Author.Needs.{needs}
 use borrow.Author.Tests.{leb-true, leb-false, lt-ltb, le-ltb}
 use mathlib.Core.Path.{_≡_, refl, ap, sym, _∙_}
 use mathlib.Core.Bool.{Bool, true, false, not}

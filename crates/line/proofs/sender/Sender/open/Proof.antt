@@ -1,18 +1,17 @@
 -- `Sender::open` turns away as the definition does, and hands back a fresh sender. Assumes nothing.
 use borrow.Author.Needs.{needs}
 use borrow.Author.Tests.{eq-eqb, ne-eqb, lt-ltb, le-ltb}
-use mathlib.Core.Path.{_≡_, refl, ap, sym, _∙_}
+use mathlib.Core.Path.{_≡_, ap, sym, _∙_}
 use mathlib.Core.Bool.{Bool, true, false}
 use mathlib.Core.List.{List}
 use Prim.Native.Nat.{ℕ, _≤_}
-use lib.Dec.{eqb, ltb}
+use lib.Dec.{ltb}
 use Rattle.block.specs.Answer as A
-use Rattle.block.specs.Answer.{Answer, refused, done, refuseIf}
+use Rattle.block.specs.Answer.{refused, done, refuseIf}
 use Rattle.block.specs.Calls.{tooShort}
 use Rattle.line.specs.LoopTime.{loopTime, loopAnswer}
 use Rattle.line.specs.Order.{longestOrder}
 use Rattle.line.specs.Sending.{freshSender, openSender}
-use Rattle.line.specs.declared.sender.Sender.{Sender}
 use Rattle.line.proofs.sender.Sender.open.Statement.{statement}
 use Rattle.line.proofs.sender.Sender.open.Tie as tie
 

@@ -1,15 +1,13 @@
 -- `Sender::send_newer` sends the newer item, whole on reading 0 and cancelled on reading 1. Assumes nothing.
 use borrow.Author.Needs.{needs}
-use mathlib.Core.Path.{_≡_, ap, sym, _∙_}
+use mathlib.Core.Path.{_≡_, ap, _∙_}
 use mathlib.Core.List.{List}
-use native.Mathlib.Omega.{arith}
 use Prim.Native.Nat.{ℕ, _*_, _≤_}
-use lib.ListN.{length, length-append, length-drop}
-use Rattle.crc.specs.Bits.{Bits, bytesOf}
-use Rattle.crc.proofs.Bytes.{length-bytesOf}
+use lib.ListN.{length}
+use Rattle.crc.specs.Bits.{Bits}
 use Rattle.block.specs.Answer.{done}
-use Rattle.block.specs.Lengths.{blockLength, blockBytes}
-use Rattle.block.specs.Calls.{overwritten, cancelBytes}
+use Rattle.block.specs.Lengths.{blockLength}
+use Rattle.block.specs.Calls.{cancelBytes}
 use Rattle.line.specs.Order.{orderBits, itemBits}
 use Rattle.line.specs.Sending.{transmit, sentBits}
 use Rattle.line.proofs.Items.{length-orderBits, length-itemBits}

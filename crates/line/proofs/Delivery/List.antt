@@ -1,0 +1,147 @@
+-- The whole list: what is supposed of a list, call by call, and what its calls then come to. Assumes nothing.
+use mathlib.Core.Path.{_≡_, refl, ap, sym, _∙_, subst}
+use mathlib.Core.Logic.{⊎-elim}
+use mathlib.Core.Bool.{Bool, true, false, cond, not, _&&_, _||_, false≢true}
+use mathlib.Core.List.{List, [], _∷_, _++_}
+use native.Mathlib.Omega.{arith}
+use Prim.Native.Nat.{ℕ, _+_}
+use Rattle.crc.specs.Bits.{bit}
+use Rattle.line.specs.Course.{World, Call, Entry, entry, next, course, final}
+use Rattle.line.specs.Delivery.{Each, some, count, eventOf, hears, isNew, isEnd, isAlarm, isLost, isGood, reportsEnd, OnLine, SameOrder, SameStore, Admitted, NotWhole, SyncAtLast, SyncNotData, OnlyRefused, Assumptions}
+use Rattle.line.proofs.Delivery.Tests.{or-true, or-false, or-no}
+use Rattle.line.proofs.Delivery.State.{Session, Fit, alarmStands, lost′, danger′, Inv, Okay, Keeps}
+use Rattle.line.proofs.Delivery.OneCall.{call-keeps}
+use Rattle.line.proofs.Delivery.Spacing.{pends, spaced, spaced-head, spaced-tail, between-spaced}
+
+-- ---- what is supposed, entry by entry
+
+-- from a state in which an alarm stands or not, and d says whether a loss pends
+abbrev pub Okays : Session → Bool → ℕ → List Entry → Type 0
+Okays o alarm d [] = Unit {0}
+Okays o alarm d (e ∷ es) = Okay o alarm d e × Okays o (alarm || isAlarm e) (danger′ d e) es
+
+bit-pends : (p : Bool) (e : Entry) → bit (pends p e) ≡ danger′ (bit p) e
+bit-pends p e = go (isLost e) p (isGood e)
+  where
+    go : (l p g : Bool) → bit (l || (p && not g)) ≡ cond l 1 (cond g 0 (bit p))
+    go true p g = refl
+    go false true true = refl
+    go false true false = refl
+    go false false true = refl
+    go false false false = refl
+
+module _ (o : Session) where
+  okays-from : (alarm p : Bool) (es : List Entry) → Each (OnLine (o .k)) es → Each (SameOrder (o .content)) es
+      → Each SameStore es → Each Admitted es → Each NotWhole es → Each SyncAtLast es → Each SyncNotData es
+      → (alarm ≡ false → spaced p es ≡ true) → Okays o alarm (bit p) es
+  okays-from alarm p [] a b c d f g h s = tt
+  okays-from alarm p (e ∷ es) a b c d f g h s = (
+    record {
+      line = a .0;
+      order = b .0;
+      store = c .0;
+      damage = d .0;
+      not-whole = f .0;
+      sync-at-last = g .0;
+      sync-not-data = h .0;
+      loss = λ lost quiet. ap bit (spaced-head p e es (s quiet) lost);
+    },
+    subst (λ (n : ℕ). Okays o (alarm || isAlarm e) n es) (bit-pends p e)
+        (okays-from (alarm || isAlarm e) (pends p e) es (a .1) (b .1) (c .1) (d .1) (f .1) (g .1) (h .1)
+        (λ q. let z = or-false alarm (isAlarm e) q in spaced-tail p e es (s (z .0)) (z .1))),
+  )
+
+  pub okays : (es : List Entry) → Assumptions (o .k) (o .content) es → Okays o false 0 es
+  okays es h =
+      okays-from false false es (h .line) (h .order) (h .store) (h .damage) (h .not-whole) (h .sync-at-last) (h .sync-not-data)
+      (λ q. between-spaced es (h .between-losses))
+
+-- ---- whether a request was lost, and whether one pends, after a list
+
+abbrev pub losts : ℕ → List Entry → ℕ
+losts l [] = l
+losts l (e ∷ es) = losts (lost′ l e) es
+
+abbrev pub dangers : ℕ → List Entry → ℕ
+dangers d [] = d
+dangers d (e ∷ es) = dangers (danger′ d e) es
+
+losts-one : (es : List Entry) → losts 1 es ≡ 1
+losts-one [] = refl
+losts-one (e ∷ es) = ap (λ (l : ℕ). losts l es) (one (isLost e)) ∙ losts-one es
+  where
+    one : (b : Bool) → cond {A = ℕ} b 1 1 ≡ 1
+    one true = refl
+    one false = refl
+
+pub losts-zero : (es : List Entry) → losts 0 es ≡ bit (some isLost es)
+losts-zero [] = refl
+losts-zero (e ∷ es) = go (isLost e) (losts-zero es)
+  where
+    go : (b : Bool) → losts 0 es ≡ bit (some isLost es) → losts (cond b 1 0) es ≡ bit (b || some isLost es)
+    go true h = losts-one es
+    go false h = h
+
+-- ---- the list
+
+pub record Safe (o : Session) (w : World) (l d : ℕ) (es : List Entry) (w′ : World) : Type 0 where
+  pub inv : Inv o w′ (losts l es) (dangers d es)
+  pub taken : w′ .receiver .taken ≡ count isNew es + w .receiver .taken
+  pub ended : w′ .receiver .ended ≡ (w .receiver .ended || some isEnd es)
+  pub length : (M : ℕ) → some (hears (λ y. reportsEnd M (eventOf y))) es ≡ true → M ≡ o .L
+  pub alarm : (before behind : List Entry) (e : Entry) → es ≡ before ++ (e ∷ behind) → isAlarm e ≡ true → losts l before ≡ 1
+  pub refusals : Each OnlyRefused es
+
+or-assoc : (a b c : Bool) → (a || b) || c ≡ a || (b || c)
+or-assoc true b c = refl
+or-assoc false b c = refl
+
+bit-cond : (b : Bool) → bit b ≡ cond b 1 0
+bit-cond true = refl
+bit-cond false = refl
+
+safe-none : (o : Session) (w : World) (l d : ℕ) → Inv o w l d → Safe o w l d [] w
+safe-none o w l d h =
+    record {
+      inv = h;
+      taken = omega arith;
+      ended = sym (or-no (w .receiver .ended));
+      length = λ M e. absurd (false≢true e);
+      alarm = no-alarm;
+      refusals = tt;
+    }
+  where
+    no-alarm : (before behind : List Entry) (e : Entry) → [] ≡ before ++ (e ∷ behind) → isAlarm e ≡ true → losts l before ≡ 1
+    no-alarm [] behind e z a = absurd (let v : _≡_ {A = ℕ} 0 1 = cc in omega arith)
+    no-alarm (x ∷ before) behind e z a = absurd (let v : _≡_ {A = ℕ} 0 1 = cc in omega arith)
+
+-- one call, and the list behind it
+safe-call : (o : Session) (w w′ w″ : World) (l d : ℕ) (e : Entry) (es : List Entry) → Keeps o w l d e w′
+    → Safe o w′ (lost′ l e) (danger′ d e) es w″ → Safe o w l d (e ∷ es) w″
+safe-call o w w′ w″ l d e es y z =
+    record {
+      inv = z .inv;
+      taken = omega (arith, z .taken, y .told .taken, bit-cond (isNew e));
+      ended =
+          z .ended ∙ ap (λ (b : Bool). b || some isEnd es) (y .told .ended) ∙ or-assoc (w .receiver .ended) (isEnd e) (some isEnd es);
+      length = λ M h. ⊎-elim (y .told .length M) (z .length M) (or-true (hears (λ x. reportsEnd M (eventOf x)) e) _ h);
+      alarm = lost-before;
+      refusals = (y .told .refusal, z .refusals);
+    }
+  where
+    lost-before : (before behind : List Entry) (x : Entry) → e ∷ es ≡ before ++ (x ∷ behind) → isAlarm x ≡ true → losts l before ≡ 1
+    lost-before [] behind x q a = y .told .alarm-lost (let v : e ≡ x = cc in ap isAlarm v ∙ a)
+    lost-before (v ∷ before) behind x q a =
+        let same : e ≡ v = cc in
+        let more : es ≡ before ++ (x ∷ behind) = cc in
+        ap (λ (t : Entry). losts (lost′ l t) before) (sym same) ∙ z .alarm before behind x more a
+
+module _ (o : Session) (fit : Fit o) where
+  pub safe : (cs : List Call) (w : World) (l d : ℕ) → Inv o w l d
+      → Okays o (alarmStands (w .receiver .phase)) d (course w cs) → Safe o w l d (course w cs) (final w cs)
+  safe [] w l d h ok = safe-none o w l d h
+  safe (c ∷ cs) w l d h ok =
+      let y = call-keeps o fit w l d h c (ok .0) in
+      safe-call o w (next w c) (final (next w c) cs) l d (entry w c) (course (next w c) cs) y
+      (safe cs (next w c) (lost′ l (entry w c)) (danger′ d (entry w c)) (y .inv)
+      (subst (λ (b : Bool). Okays o b (danger′ d (entry w c)) (course (next w c) cs)) (sym (y .told .alarm)) (ok .1)))

@@ -1,0 +1,281 @@
+-- Whether a course meets what is supposed of it, as a truth value; and that it then does. Assumes nothing.
+use mathlib.Core.Path.{_≡_, refl, ap, ap₂, sym, _∙_, subst}
+use mathlib.Core.Bool.{Bool, true, false, not, _&&_, _||_, true≢false, false≢true}
+use mathlib.Core.List.{List, [], _∷_, _++_}
+use native.Mathlib.Omega.{arith}
+use Prim.Native.Nat.{ℕ, suc, _≤_}
+use lib.Dec.{eqb}
+use lib.ListN.{length, take, drop, length-take, take-append-drop}
+use borrow.Author.Tests.{eqb-true, not-true}
+use Rattle.crc.specs.Bits.{Bits, zeros, parity, xorBits}
+use Rattle.crc.specs.Damage.{Damage, odd-number, burst}
+use Rattle.block.specs.Lengths.{blockLength}
+use Rattle.line.specs.Sending.{Block, synchronising, item}
+use Rattle.line.specs.Receiving.{meaning}
+use Rattle.line.specs.Course.{Sent, Heard, Entry, send-refused, receive-refused, sent, heard}
+use Rattle.line.specs.Delivery.{Each, eventOf, isCancelled, isItem, OnLine, SameOrder, SameStore, Admitted, NotWhole, SyncAtLast, SyncNotData, Assumptions}
+use Rattle.line.proofs.Delivery.Tests.{and-true}
+use Rattle.line.proofs.Delivery.Spacing.{implies, implies-true, spaced, spaced-between}
+use Rattle.line.specs.declared.receiver.Event.{Event}
+use Rattle.line.specs.declared.receiver.Event.the-variants as E
+
+-- ---- rows, bytes and blocks
+
+abbrev sameBit : Bool → Bool → Bool
+sameBit true b = b
+sameBit false b = not b
+
+same-bit : (a b : Bool) → sameBit a b ≡ true → a ≡ b
+same-bit true b h = sym h
+same-bit false true h = absurd (false≢true h)
+same-bit false false h = refl
+
+abbrev pub sameBits : Bits → Bits → Bool
+sameBits [] [] = true
+sameBits [] (b ∷ y) = false
+sameBits (a ∷ x) [] = false
+sameBits (a ∷ x) (b ∷ y) = sameBit a b && sameBits x y
+
+same-bits : (x y : Bits) → sameBits x y ≡ true → x ≡ y
+same-bits [] [] h = refl
+same-bits [] (b ∷ y) h = absurd (false≢true h)
+same-bits (a ∷ x) [] h = absurd (false≢true h)
+same-bits (a ∷ x) (b ∷ y) h =
+    let e = and-true (sameBit a b) (sameBits x y) h in
+    ap₂ _∷_ (same-bit a b (e .0)) (same-bits x y (e .1))
+
+bits-same : (x : Bits) → sameBits x x ≡ true
+bits-same [] = refl
+bits-same (true ∷ x) = bits-same x
+bits-same (false ∷ x) = bits-same x
+
+abbrev sameBytes : List ℕ → List ℕ → Bool
+sameBytes [] [] = true
+sameBytes [] (b ∷ y) = false
+sameBytes (a ∷ x) [] = false
+sameBytes (a ∷ x) (b ∷ y) = eqb a b && sameBytes x y
+
+same-bytes : (x y : List ℕ) → sameBytes x y ≡ true → x ≡ y
+same-bytes [] [] h = refl
+same-bytes [] (b ∷ y) h = absurd (false≢true h)
+same-bytes (a ∷ x) [] h = absurd (false≢true h)
+same-bytes (a ∷ x) (b ∷ y) h =
+    let e = and-true (eqb a b) (sameBytes x y) h in
+    ap₂ _∷_ (eqb-true a b (e .0)) (same-bytes x y (e .1))
+
+-- a row begins with another
+abbrev begins : Bits → Bits → Bool
+begins [] y = true
+begins (a ∷ x) [] = false
+begins (a ∷ x) (b ∷ y) = sameBit a b && begins x y
+
+begins-with : (x y : Bits) → begins x y ≡ true → (later : Bits) × (y ≡ x ++ later)
+begins-with [] y h = (y, refl)
+begins-with (a ∷ x) [] h = absurd (false≢true h)
+begins-with (a ∷ x) (b ∷ y) h =
+    let e = and-true (sameBit a b) (begins x y) h in
+    let z = begins-with x y (e .1) in
+    (z .0, ap₂ _∷_ (sym (same-bit a b (e .0))) (z .1))
+
+not-item : (b : Block) → isItem b ≡ false → b ≡ synchronising
+not-item synchronising h = refl
+not-item (item i end used cancel) h = absurd (true≢false h)
+
+-- ---- damage
+
+abbrev noOnes : Bits → Bool
+noOnes [] = true
+noOnes (b ∷ e) = not b && noOnes e
+
+no-ones : (e : Bits) → noOnes e ≡ true → e ≡ zeros (length e)
+no-ones [] h = refl
+no-ones (true ∷ e) h = absurd (false≢true h)
+no-ones (false ∷ e) h = ap (λ (r : Bits). false ∷ r) (no-ones e h)
+
+-- all ones within 16 adjacent places
+abbrev within16 : Bits → Bool
+within16 [] = true
+within16 (true ∷ e) = noOnes (drop 15 e)
+within16 (false ∷ e) = within16 e
+
+record Burst (e : Bits) : Type 0 where
+  before : ℕ
+  ones : Bits
+  behind : ℕ
+  short : length ones ≤ 16
+  parts : e ≡ zeros before ++ (ones ++ zeros behind)
+
+within-burst : (e : Bits) → within16 e ≡ true → Burst e
+within-burst [] h = record { before = 0; ones = []; behind = 0; short = omega arith; parts = refl }
+within-burst (true ∷ e) h =
+    record {
+      before = 0;
+      ones = true ∷ take 15 e;
+      behind = length (drop 15 e);
+      short = omega (arith, length-take 15 e);
+      parts = ap (λ (r : Bits). true ∷ r) (sym (take-append-drop 15 e) ∙ ap (λ (r : Bits). take 15 e ++ r) (no-ones (drop 15 e) h));
+    }
+within-burst (false ∷ e) h =
+    let b = within-burst e h in
+    record {
+      before = suc (b .before);
+      ones = b .ones;
+      behind = b .behind;
+      short = b .short;
+      parts = ap (λ (r : Bits). false ∷ r) (b .parts);
+    }
+
+abbrev admits : Bits → Bool
+admits e = parity e || within16 e
+
+admits-damage : (e : Bits) → admits e ≡ true → Damage e
+admits-damage e h = go (parity e) refl h
+  where
+    go : (p : Bool) → parity e ≡ p → p || within16 e ≡ true → Damage e
+    go true odd k = odd-number odd
+    go false even k =
+        let b = within-burst e k in
+        subst Damage (sym (b .parts)) (burst (b .before) (b .ones) (b .behind) (b .short))
+
+-- ---- one entry
+
+abbrev isSyncEvent : Event → Bool
+isSyncEvent E.None = false
+isSyncEvent E.Sync = true
+isSyncEvent E.Bad = false
+isSyncEvent E.Accepted = false
+isSyncEvent E.Previous = false
+isSyncEvent E.SequenceAlarm = false
+isSyncEvent E.LengthAlarm = false
+isSyncEvent (E.Ended L) = false
+
+abbrev sentMeets : ℕ → Bits → Sent → Bool
+sentMeets k content x =
+    sameBits (x .unused) []
+    && (eqb (length (x .arrives)) (blockLength k)
+    && (sameBits (x .order) content
+    && (admits (xorBits (x .arrives) (x .plain))
+    && implies (isCancelled (x .block)) (not (sameBits (x .arrives) (x .plain))))))
+
+abbrev heardMeets : Heard → Bool
+heardMeets y =
+    begins (y .lent) (y .left)
+    && (sameBytes (y .store) (y .kept)
+    && (implies (isSyncEvent (eventOf y)) (not (isItem (y .block)) && eqb (y .used) (length (y .left)))
+    && (isItem (y .block) || not (meaning (y .rule) .data-or-end))))
+
+abbrev pub entryMeets : ℕ → Bits → Entry → Bool
+entryMeets k content (send-refused n) = true
+entryMeets k content (receive-refused n) = true
+entryMeets k content (sent x) = sentMeets k content x
+entryMeets k content (heard y) = heardMeets y
+
+record Met (k : ℕ) (content : Bits) (e : Entry) : Type 0 where
+  line : OnLine k e
+  order : SameOrder content e
+  store : SameStore e
+  damage : Admitted e
+  not-whole : NotWhole e
+  sync-at-last : SyncAtLast e
+  sync-not-data : SyncNotData e
+
+sent-meets : (k : ℕ) (content : Bits) (x : Sent) → sentMeets k content x ≡ true → Met k content (sent x)
+sent-meets k content x h =
+    let a = and-true _ _ h in
+    let b = and-true _ _ (a .1) in
+    let c = and-true _ _ (b .1) in
+    let d = and-true _ _ (c .1) in
+    record {
+      line = (same-bits (x .unused) [] (a .0), eqb-true (length (x .arrives)) (blockLength k) (b .0));
+      order = same-bits (x .order) content (c .0);
+      store = tt;
+      damage = admits-damage (xorBits (x .arrives) (x .plain)) (d .0);
+      not-whole = λ cancel e. differ e (implies-true (isCancelled (x .block)) _ (d .1) cancel);
+      sync-at-last = tt;
+      sync-not-data = tt;
+    }
+  where
+    differ : x .arrives ≡ x .plain → not (sameBits (x .arrives) (x .plain)) ≡ true → ⊥
+    differ e n = false≢true (sym (ap not (ap (λ (r : Bits). sameBits r (x .plain)) e ∙ bits-same (x .plain))) ∙ n)
+
+sync-event : (v : Event) (b : Bool) → implies (isSyncEvent v) b ≡ true → v ≡ E.Sync → b ≡ true
+sync-event v b h e = implies-true (isSyncEvent v) b h (ap isSyncEvent e)
+
+not-read : (b : Block) (d : Bool) → isItem b || not d ≡ true → b ≡ synchronising → d ≡ false
+not-read b d h e = not-true d (sym (ap (λ (c : Block). isItem c || not d) e) ∙ h)
+
+heard-meets : (k : ℕ) (content : Bits) (y : Heard) → heardMeets y ≡ true → Met k content (heard y)
+heard-meets k content y h =
+    let a = and-true _ _ h in
+    let b = and-true _ _ (a .1) in
+    let c = and-true _ _ (b .1) in
+    record {
+      line = begins-with (y .lent) (y .left) (a .0);
+      order = tt;
+      store = same-bytes (y .store) (y .kept) (b .0);
+      damage = tt;
+      not-whole = tt;
+      sync-at-last = λ e. at-last (and-true _ _ (sync-event (eventOf y) _ (c .0) e));
+      sync-not-data = not-read (y .block) (meaning (y .rule) .data-or-end) (c .1);
+    }
+  where
+    at-last : (not (isItem (y .block)) ≡ true) × (eqb (y .used) (length (y .left)) ≡ true)
+        → (y .block ≡ synchronising) × (y .used ≡ length (y .left))
+    at-last q = (not-item (y .block) (not-true (isItem (y .block)) (q .0)), eqb-true (y .used) (length (y .left)) (q .1))
+
+entry-meets : (k : ℕ) (content : Bits) (e : Entry) → entryMeets k content e ≡ true → Met k content e
+entry-meets k content (send-refused n) h =
+    record { line = tt; order = tt; store = tt; damage = tt; not-whole = tt; sync-at-last = tt; sync-not-data = tt }
+entry-meets k content (receive-refused n) h =
+    record { line = tt; order = tt; store = tt; damage = tt; not-whole = tt; sync-at-last = tt; sync-not-data = tt }
+entry-meets k content (sent x) h = sent-meets k content x h
+entry-meets k content (heard y) h = heard-meets k content y h
+
+-- ---- the list
+
+abbrev pub eachMeets : ℕ → Bits → List Entry → Bool
+eachMeets k content [] = true
+eachMeets k content (e ∷ es) = entryMeets k content e && eachMeets k content es
+
+each-met : (k : ℕ) (content : Bits) (P : Entry → Type 0) → ((e : Entry) → Met k content e → P e)
+    → (es : List Entry) → eachMeets k content es ≡ true → Each P es
+each-met k content P f [] h = tt
+each-met k content P f (e ∷ es) h =
+    let a = and-true _ _ h in
+    (f e (entry-meets k content e (a .0)), each-met k content P f es (a .1))
+
+-- all clauses but the one on losses
+pub record OtherClauses (k : ℕ) (content : Bits) (es : List Entry) : Type 0 where
+  pub line : Each (OnLine k) es
+  pub order : Each (SameOrder content) es
+  pub store : Each SameStore es
+  pub damage : Each Admitted es
+  pub not-whole : Each NotWhole es
+  pub sync-at-last : Each SyncAtLast es
+  pub sync-not-data : Each SyncNotData es
+
+pub others-meet : (k : ℕ) (content : Bits) (es : List Entry) → eachMeets k content es ≡ true → OtherClauses k content es
+others-meet k content es h =
+    record {
+      line = each-met k content (OnLine k) (λ e m. m .line) es h;
+      order = each-met k content (SameOrder content) (λ e m. m .order) es h;
+      store = each-met k content SameStore (λ e m. m .store) es h;
+      damage = each-met k content Admitted (λ e m. m .damage) es h;
+      not-whole = each-met k content NotWhole (λ e m. m .not-whole) es h;
+      sync-at-last = each-met k content SyncAtLast (λ e m. m .sync-at-last) es h;
+      sync-not-data = each-met k content SyncNotData (λ e m. m .sync-not-data) es h;
+    }
+
+pub meets : (k : ℕ) (content : Bits) (es : List Entry) → eachMeets k content es ≡ true → spaced false es ≡ true → Assumptions k content es
+meets k content es h s =
+    let o = others-meet k content es h in
+    record {
+      line = o .line;
+      order = o .order;
+      store = o .store;
+      damage = o .damage;
+      not-whole = o .not-whole;
+      sync-at-last = o .sync-at-last;
+      sync-not-data = o .sync-not-data;
+      between-losses = spaced-between es s;
+    }

@@ -1,0 +1,270 @@
+-- Demand 3 holds. Assumes nothing.
+use mathlib.Core.Path.{_≡_, refl, ap, sym, _∙_, subst, subst₂}
+use mathlib.Core.Logic.{_⊎_, inl, inr, ⊎-elim}
+use mathlib.Core.Bool.{Bool, true, false, _||_, not}
+use mathlib.Core.List.{List, [], _∷_, _++_}
+use native.Mathlib.Omega.{arith}
+use native.Mathlib.Nat.{zero-mul}
+use Prim.Native.Nat.{ℕ, _*_, _≤_}
+use lib.Dec.{eqb, ltb}
+use lib.ListN.{length, take, drop}
+use borrow.Author.Tests.{eqb-false, ltb-false, not-false}
+use Rattle.crc.specs.Bits.{bit, bitsOf}
+use Rattle.block.specs.Answer as A
+use Rattle.block.specs.Answer.{Answer, refused, done, refuseIf}
+use Rattle.block.specs.Lengths.{isLength}
+use Rattle.block.specs.Calls.{tooShort}
+use Rattle.line.specs.LoopTime.{loopTime}
+use Rattle.line.specs.Order.{longestOrder, filled, orderBits}
+use Rattle.line.specs.Sending.{freshSender, unless-refused, openSender}
+use Rattle.line.specs.Receiving.{freshReceiver, openedReceiver, openingAnswer, OpenReceiver}
+use Rattle.line.specs.Course.{Call, World, opened, Entry, send-refused, receive-refused, sent, heard, course, final}
+use Rattle.line.specs.Delivery.{some, news, hears, eventOf, isEnd, isLost, reportsEnd, accepted, Period, group, EachPeriod, Undisturbed, brings, Assumptions, Guarantees, Openings, Delivery}
+use Rattle.line.specs.declared.sender.Sender.{Sender}
+use Rattle.line.specs.declared.sender.Opened.the-variants as SenderOpened
+use Rattle.line.specs.declared.receiver.Receiver.{Receiver}
+use Rattle.line.specs.declared.receiver.Event.{Event}
+use Rattle.line.specs.declared.receiver.Event.the-variants as E
+use Rattle.line.specs.declared.receiver.Opened as ReceiverOpened
+use Rattle.line.specs.declared.receiver.Opening.the-variants as Opening
+use Rattle.line.proofs.Items.{length-orderBits}
+use Rattle.line.proofs.Delivery.Tests.{cond-case, or-true, or-yes}
+use Rattle.line.proofs.Delivery.Ends.{Basic}
+use Rattle.line.proofs.Delivery.Invariant.{opened-idle}
+use Rattle.line.proofs.Delivery.Holding.{length-noBytes}
+use Rattle.line.proofs.Delivery.Reading.{held-none}
+use Rattle.line.proofs.Delivery.State.{Session, N, Fit, alarmStands, endsOf, Base, IdleLine, Inv}
+use Rattle.line.proofs.Delivery.List.{Okays, okays, losts, dangers, losts-zero, Safe, safe}
+use Rattle.line.proofs.Delivery.Stretch.{brought}
+use Rattle.line.proofs.Delivery.Periods.{within-five}
+use Rattle.line.proofs.Delivery.Answers.{answers}
+
+-- ---- the openings
+
+-- what an opened sender makes sure of
+pub record OpenedWell (k L : ℕ) (order : List ℕ) (s : Sender) : Type 0 where
+  pub known : isLength k ≡ true
+  pub low : 1 ≤ L
+  pub high : L ≤ longestOrder
+  pub lent : L ≤ 8 * length order
+  pub fresh : s ≡ freshSender k L
+
+abbrev Opens : ℕ → ℕ → List ℕ → Answer Sender → Type 0
+Opens k L order a = (s : Sender) → done s ≡ a → OpenedWell k L order s
+
+not-opened : (k L : ℕ) (order : List ℕ) (n : ℕ) → Opens k L order (refused n)
+not-opened k L order n s e = absurd (let v : _≡_ {A = ℕ} 0 1 = cc in omega arith)
+
+-- the loop-time test refuses, or k is one of the four
+abbrev Known : ℕ → Answer (Unit {0}) → Type 0
+Known k a = ((n : ℕ) × (a ≡ refused n)) ⊎ (isLength k ≡ true)
+
+known : (k speed loop-ms : ℕ) → Known k (loopTime k speed loop-ms)
+unfolding loopTime
+known k speed loop-ms =
+    cond-case (Known k) (not (isLength k)) (λ e. inl (A.block, refl)) (λ e. inr (not-false (isLength k) e))
+
+opens-untimed : (k L : ℕ) (order : List ℕ) → isLength k ≡ true
+    → Opens k L order
+    (refuseIf (eqb L 0) A.empty
+    (refuseIf (ltb longestOrder L) A.long (refuseIf (tooShort order L) A.short (done (freshSender k L)))))
+opens-untimed k L order g =
+    cond-case (Opens k L order) (eqb L 0) (λ e. not-opened k L order A.empty)
+    (λ b. cond-case (Opens k L order) (ltb longestOrder L) (λ e. not-opened k L order A.long)
+    (λ c. cond-case (Opens k L order) (tooShort order L) (λ e. not-opened k L order A.short)
+    (λ d s q.
+    let n = eqb-false L 0 b in
+    record {
+      known = g;
+      low = omega arith;
+      high = ltb-false longestOrder L c;
+      lent = ltb-false (8 * length order) L d;
+      fresh = let v : s ≡ freshSender k L = cc in v;
+    })))
+
+opens-timed : (k L : ℕ) (order : List ℕ) (a : Answer (Unit {0})) (b : Answer Sender) → Known k a
+    → (isLength k ≡ true → Opens k L order b) → Opens k L order (unless-refused a b)
+opens-timed k L order (refused n) b h f = not-opened k L order n
+opens-timed k L order (done u) b (inl h) f = absurd (let v : _≡_ {A = ℕ} 0 1 = cc (h .1) in omega arith)
+opens-timed k L order (done u) b (inr h) f = f h
+
+sender-opens : (k speed loop-ms L : ℕ) (order : List ℕ) → Opens k L order (openSender k speed loop-ms L order)
+unfolding openSender
+sender-opens k speed loop-ms L order =
+    opens-timed k L order (loopTime k speed loop-ms) _ (known k speed loop-ms) (opens-untimed k L order)
+
+receiver-opens : (k : ℕ) (o : ReceiverOpened.Opened) → OpenReceiver k o → o .answer ≡ Opening.Opened → o .state ≡ freshReceiver k
+receiver-opens k o h e = h .state ∙ ap (openedReceiver k) (sym (sym (ap openingAnswer e) ∙ h .answers))
+
+-- ---- both ends just opened
+
+module _ (o : Session) where
+  abbrev start : World
+  start = opened (freshSender (o .k) (o .L)) (freshReceiver (o .k)) (o .first)
+
+  start-base : Base o start
+  unfolding freshSender freshReceiver
+  start-base =
+      record {
+        sender-k = refl;
+        sender-L = refl;
+        run = omega arith;
+        k = refl;
+        array = length-noBytes;
+        row = omega arith;
+        held = refl;
+        stored =
+            record {
+              front =
+                  ap (λ (n : ℕ). take n (bitsOf (o .first))) (zero-mul (o .k))
+                  ∙ sym (ap (λ (n : ℕ). take n (filled (o .k) (o .L) (o .content))) (zero-mul (o .k)));
+              rest = refl;
+              size = refl;
+            };
+      }
+
+  start-idle : IdleLine o start 0 0
+  unfolding freshSender freshReceiver
+  start-idle =
+      record {
+        left = refl;
+        held = held-none (freshReceiver (o .k)) refl;
+        idle = opened-idle (N o) (endsOf start 0 0) refl refl refl refl refl refl refl refl refl refl refl refl;
+      }
+
+  start-clear : (start .receiver .taken ≡ 0) × (start .receiver .ended ≡ false) × (alarmStands (start .receiver .phase) ≡ false)
+  unfolding freshReceiver
+  start-clear = (refl, refl, refl)
+
+-- ---- the end reported
+
+reported-ends : (M : ℕ) (v : Event) → reportsEnd M v ≡ true → news v .end ≡ true
+reported-ends M E.None h = h
+reported-ends M E.Sync h = h
+reported-ends M E.Bad h = h
+reported-ends M E.Accepted h = h
+reported-ends M E.Previous h = h
+reported-ends M E.SequenceAlarm h = h
+reported-ends M E.LengthAlarm h = h
+reported-ends M (E.Ended L) h = refl
+
+entry-ends : (M : ℕ) (e : Entry) → hears (λ y. reportsEnd M (eventOf y)) e ≡ true → isEnd e ≡ true
+entry-ends M (send-refused n) h = h
+entry-ends M (receive-refused n) h = h
+entry-ends M (sent x) h = h
+entry-ends M (heard y) h = reported-ends M (eventOf y) h
+
+some-implies : (f g : Entry → Bool) → ((e : Entry) → f e ≡ true → g e ≡ true) → (es : List Entry) → some f es ≡ true → some g es ≡ true
+some-implies f g h [] q = q
+some-implies f g h (e ∷ es) q =
+    ⊎-elim (λ a. ap (λ (b : Bool). b || some g es) (h e a))
+    (λ a. ap (λ (b : Bool). g e || b) (some-implies f g h es a) ∙ or-yes (g e)) (or-true (f e) (some f es) q)
+
+-- ---- the demand
+
+bit-true : (b : Bool) → 1 ≤ bit b → b ≡ true
+bit-true true h = refl
+bit-true false h = absurd (omega arith)
+
+basic-of : (o : Session) (w : World) (l d : ℕ) → Inv o w l d → Basic (N o) (endsOf w l d) × (bit (w .receiver .ended) ≡ 1 → w .receiver .taken ≡ N o)
+basic-of o w l d h = ⊎-elim (λ g. (g .idle .basic, g .idle .all)) (λ g. (g .line .busy .basic, g .line .busy .all)) (h .phase)
+
+-- five undisturbed periods in a row that begin before the end, if none was lost
+abbrev pub FivePeriods : ℕ → List Entry → Type 0
+FivePeriods k es =
+    some isLost es ≡ false → (before these behind : List Period) → group es .periods ≡ before ++ (these ++ behind)
+    → 5 ≤ length these → EachPeriod (Undisturbed k) these → brings isEnd before ≡ false → brings brought these ≡ true
+
+module _ (o : Session) (fit : Fit o) (calls : List Call) (w : World) (base : Base o w) (idle : IdleLine o w 0 0)
+    (none : w .receiver .taken ≡ 0) (still : w .receiver .ended ≡ false) (quiet : alarmStands (w .receiver .phase) ≡ false) where
+  abbrev es : List Entry
+  es = course w calls
+
+  abbrev w′ : World
+  w′ = final w calls
+
+  okay : Assumptions (o .k) (o .content) es → Okays o (alarmStands (w .receiver .phase)) 0 es
+  okay h = subst (λ (b : Bool). Okays o b 0 es) (sym quiet) (okays o es h)
+
+  five-from : Assumptions (o .k) (o .content) es → FivePeriods (o .k) es
+  five-from h = within-five o fit calls w 0 idle base still (okay h)
+
+  guarantees-from : Assumptions (o .k) (o .content) es → Guarantees (o .k) (o .L) (o .content) (o .first) es w′
+  guarantees-from h =
+      record {
+        items = omega (arith, basic .taken, taken);
+        stored =
+            subst (λ (n : ℕ). take (n * o .k) (bitsOf (w′ .store)) ≡ take (n * o .k) (filled (o .k) (o .L) (o .content))) taken
+            (s .inv .base .stored .front);
+        untouched =
+            subst (λ (n : ℕ). drop (n * o .k) (bitsOf (w′ .store)) ≡ drop (n * o .k) (bitsOf (o .first))) taken (s .inv .base .stored .rest);
+        ended = λ M e. (sym taken ∙ facts .1 (ap bit (ended ∙ some-implies _ isEnd (entry-ends M) es e)), s .length M e);
+        alarm = λ before behind e q a. bit-true (some isLost before) (omega (arith, s .alarm before behind e q a, losts-zero before));
+        finished = λ n f. sym ended ∙ bit-true (w′ .receiver .ended) (omega (arith, basic .finished, ap bit f, losts-zero es, ap bit n));
+        progress = λ n g before these behind e six un be. five-from h n before these behind e (omega (arith, six)) un be;
+        refusals = s .refusals;
+      }
+    where
+      s : Safe o w 0 0 es w′
+      s = safe o fit calls w 0 0 (record { base = base; phase = inl idle }) (okay h)
+
+      facts : Basic (N o) (endsOf w′ (losts 0 es) (dangers 0 es)) × (bit (w′ .receiver .ended) ≡ 1 → w′ .receiver .taken ≡ N o)
+      facts = basic-of o w′ (losts 0 es) (dangers 0 es) (s .inv)
+
+      basic : Basic (N o) (endsOf w′ (losts 0 es) (dangers 0 es))
+      basic = facts .0
+
+      taken : w′ .receiver .taken ≡ accepted es
+      taken = omega (arith, s .taken, none)
+
+      ended : w′ .receiver .ended ≡ some isEnd es
+      ended = s .ended ∙ ap (λ (b : Bool). b || some isEnd es) still
+
+-- ---- from the openings
+
+module _ (k speed loop-ms L : ℕ) (order : List ℕ) (s : Sender) (r : ReceiverOpened.Opened) (first : List ℕ)
+    (h : Openings k speed loop-ms L order s r first) where
+  pub opened-well : OpenedWell k L order s
+  opened-well = sender-opens k speed loop-ms L order s (h .sender .answers)
+
+  abbrev session : Session
+  session = record { k = k; L = L; content = orderBits L order; first = first }
+
+  fit : Fit session
+  fit =
+      record {
+        known = opened-well .known;
+        low = opened-well .low;
+        high = opened-well .high;
+        content = length-orderBits L order (opened-well .lent);
+        room = h .room;
+      }
+
+  -- the ends as opened are fresh
+  from-fresh : (P : World → Type 0) → P (start session) → P (opened s (r .state) first)
+  from-fresh P =
+      subst₂ (λ (a : Sender) (b : Receiver). P (opened a b first)) (sym (opened-well .fresh))
+      (sym (receiver-opens k r (h .receiver) (h .not-refused)))
+
+  pub guaranteed : (calls : List Call) → Assumptions k (orderBits L order) (course (opened s (r .state) first) calls)
+      → Guarantees k L (orderBits L order) first (course (opened s (r .state) first) calls) (final (opened s (r .state) first) calls)
+  guaranteed calls =
+      from-fresh
+      (λ w. Assumptions k (orderBits L order) (course w calls) → Guarantees k L (orderBits L order) first (course w calls) (final w calls))
+      (guarantees-from session fit calls (start session) (start-base session) (start-idle session)
+      (start-clear session .0) (start-clear session .1) (start-clear session .2))
+
+  pub five : (calls : List Call) → Assumptions k (orderBits L order) (course (opened s (r .state) first) calls)
+      → FivePeriods k (course (opened s (r .state) first) calls)
+  five calls =
+      from-fresh (λ w. Assumptions k (orderBits L order) (course w calls) → FivePeriods k (course w calls))
+      (five-from session fit calls (start session) (start-base session) (start-idle session)
+      (start-clear session .0) (start-clear session .1) (start-clear session .2))
+
+pub delivery : Delivery
+unfolding Delivery
+delivery k speed loop-ms L order s r first h calls run =
+    record {
+      answers = answers run (opened s (r .state) first) refl refl;
+      guarantees = guaranteed k speed loop-ms L order s r first h calls;
+    }

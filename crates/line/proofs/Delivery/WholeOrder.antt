@@ -1,0 +1,105 @@
+-- What a layer above takes from demand 3: with the end reported, the store begins with the order. Assumes nothing.
+use mathlib.Core.Path.{_≡_, refl, ap, ap₂, sym, _∙_}
+use mathlib.Core.Logic.{⊎-elim}
+use mathlib.Core.Bool.{Bool, true, _||_, false≢true}
+use mathlib.Core.List.{List, [], _∷_}
+use native.Mathlib.Omega.{arith}
+use Prim.Native.Nat.{ℕ, zero, suc, _-_, _*_, _≤_, _<_}
+use lib.ListN.{length, take, getD}
+use lib.Seq.{take-at, take-take}
+use borrow.Author.Tests.{eq-eqb}
+use Rattle.crc.specs.Bits.{Bits, bitsOf, bytesOf, zeros}
+use Rattle.crc.proofs.Bytes.{length-bitsOf, take-bitsOf, bytesOf-bitsOf}
+use Rattle.line.specs.Order.{itemCount, filled, orderBits}
+use Rattle.line.specs.Course.{Call, World, opened, Entry, send-refused, receive-refused, sent, heard, course, final}
+use Rattle.line.specs.Delivery.{some, news, hears, eventOf, isEnd, reportsEnd, accepted, Assumptions, Guarantees, Openings}
+use Rattle.line.specs.declared.sender.Sender.{Sender}
+use Rattle.line.specs.declared.receiver.Opened as ReceiverOpened
+use Rattle.line.specs.declared.receiver.Event.{Event}
+use Rattle.line.specs.declared.receiver.Event.the-variants as E
+use Rattle.block.proofs.Lengths.{length-facts}
+use Rattle.line.proofs.Items.{itemCount-holds, length-orderBits}
+use Rattle.line.proofs.Delivery.Tests.{or-true, or-yes}
+use Rattle.line.proofs.Delivery.Theorem.{opened-well, guaranteed}
+
+-- the end reported is reported with some length
+event-ends : (v : Event) → news v .end ≡ true → (M : ℕ) × (reportsEnd M v ≡ true)
+event-ends E.None h = absurd (false≢true h)
+event-ends E.Sync h = absurd (false≢true h)
+event-ends E.Bad h = absurd (false≢true h)
+event-ends E.Accepted h = absurd (false≢true h)
+event-ends E.Previous h = absurd (false≢true h)
+event-ends E.SequenceAlarm h = absurd (false≢true h)
+event-ends E.LengthAlarm h = absurd (false≢true h)
+event-ends (E.Ended L) h = (L, eq-eqb L L refl)
+
+-- the end reported with this length
+abbrev Reports : ℕ → Entry → Bool
+Reports M e = hears (λ y. reportsEnd M (eventOf y)) e
+
+entry-reports : (e : Entry) → isEnd e ≡ true → (M : ℕ) × (Reports M e ≡ true)
+entry-reports (send-refused n) h = absurd (false≢true h)
+entry-reports (receive-refused n) h = absurd (false≢true h)
+entry-reports (sent x) h = absurd (false≢true h)
+entry-reports (heard y) h = event-ends (eventOf y) h
+
+pub some-reports : (es : List Entry) → some isEnd es ≡ true → (M : ℕ) × (some (hears (λ y. reportsEnd M (eventOf y))) es ≡ true)
+some-reports [] h = absurd (false≢true h)
+some-reports (e ∷ es) h =
+    ⊎-elim
+    (λ a. let z = entry-reports e a in (z .0, ap (λ (b : Bool). b || some (Reports (z .0)) es) (z .1)))
+    (λ a. let z = some-reports es a in (z .0, ap (λ (b : Bool). Reports (z .0) e || b) (z .1) ∙ or-yes (Reports (z .0) e)))
+    (or-true (isEnd e) (some isEnd es) h)
+
+-- the order's bits are the first of its items'
+begins-filled : (k L : ℕ) (content : Bits) → length content ≡ L → take L (filled k L content) ≡ content
+unfolding filled
+begins-filled k L content h = take-at content (zeros (itemCount k L * k - L)) L h
+
+all-stored : (k L : ℕ) (content : Bits) (first : List ℕ) (es : List Entry) (w : World) → 0 < k → length content ≡ L
+    → Guarantees k L content first es w → some isEnd es ≡ true → take L (bitsOf (w .store)) ≡ content
+all-stored k L content first es w pos long g e =
+    let m = some-reports es e in
+    let n : accepted es * k ≡ itemCount k L * k = ap (λ (r : ℕ). r * k) (g .ended (m .0) (m .1) .0) in
+    let le : L ≤ accepted es * k = omega (arith, n, itemCount-holds k L pos) in
+    sym (take-take L (accepted es * k) (bitsOf (w .store)) le) ∙ ap (take L) (g .stored)
+    ∙ take-take L (accepted es * k) (filled k L content) le ∙ begins-filled k L content long
+
+-- ---- bits and bytes
+
+bytes-taken : (m : ℕ) (s : List ℕ) → ((i : ℕ) → getD s i 0 < 256) → (i : ℕ) → getD (take m s) i 0 < 256
+bytes-taken zero s h i = omega arith
+bytes-taken (suc m) [] h i = omega arith
+bytes-taken (suc m) (x ∷ s) h zero = h zero
+bytes-taken (suc m) (x ∷ s) h (suc i) = bytes-taken m s (λ j. h (suc j)) i
+
+same-bytes : (m : ℕ) (s t : List ℕ) → ((i : ℕ) → getD s i 0 < 256) → ((i : ℕ) → getD t i 0 < 256)
+    → take (8 * m) (bitsOf s) ≡ take (8 * m) (bitsOf t) → take m s ≡ take m t
+same-bytes m s t a b e =
+    let bits : bitsOf (take m s) ≡ bitsOf (take m t) = sym (take-bitsOf m s) ∙ e ∙ take-bitsOf m t in
+    let long : length (take m s) ≡ length (take m t) =
+    omega (arith, length-bitsOf (take m s), length-bitsOf (take m t), ap length bits) in
+    sym (bytesOf-bitsOf (take m s) (bytes-taken m s a)) ∙ ap₂ bytesOf long bits ∙ bytesOf-bitsOf (take m t) (bytes-taken m t b)
+
+-- ---- from the openings
+
+module _ (k speed loop-ms L : ℕ) (order : List ℕ) (s : Sender) (r : ReceiverOpened.Opened) (first : List ℕ)
+    (h : Openings k speed loop-ms L order s r first) (calls : List Call) where
+  abbrev start : World
+  start = opened s (r .state) first
+
+  -- with the end reported, the store's first L bits are the order's
+  pub delivered-order : Assumptions k (orderBits L order) (course start calls) → some isEnd (course start calls) ≡ true
+      → take L (bitsOf (final start calls .store)) ≡ take L (bitsOf order)
+  delivered-order a e =
+      let o = opened-well k speed loop-ms L order s r first h in
+      all-stored k L (orderBits L order) first (course start calls) (final start calls) (omega (arith, length-facts k (o .known)))
+      (length-orderBits L order (o .lent)) (guaranteed k speed loop-ms L order s r first h calls a) e
+
+  -- and where L is a whole number of bytes, its first bytes are the order's
+  pub delivered-bytes : (m : ℕ) → L ≡ 8 * m → ((i : ℕ) → getD (final start calls .store) i 0 < 256)
+      → ((i : ℕ) → getD order i 0 < 256) → Assumptions k (orderBits L order) (course start calls)
+      → some isEnd (course start calls) ≡ true → take m (final start calls .store) ≡ take m order
+  delivered-bytes m q b c a e =
+      same-bytes m (final start calls .store) order b c
+      (ap (λ (n : ℕ). take n (bitsOf (final start calls .store))) (sym q) ∙ delivered-order a e ∙ ap (λ (n : ℕ). take n (bitsOf order)) q)

@@ -1,0 +1,85 @@
+-- Document 01's example: k 240, L 8, the order a5; four undisturbed periods, and one call more. Assumes nothing.
+use mathlib.Core.Path.{_≡_, refl, ap}
+use mathlib.Core.Bool.{true, false}
+use mathlib.Core.List.{List, [], _∷_, _++_}
+use Prim.Native.Nat.{ℕ}
+use lib.ListN.{replicate}
+use Rattle.crc.specs.Bits.{Bits, binary, number, bitsOf, bytesOf, xorBits, parity}
+use Rattle.crc.specs.Check.{remainder, passes, check}
+use Rattle.block.specs.Answer as A
+use Rattle.block.specs.Lengths.{isLength}
+use Rattle.block.specs.Block.{blockBits, verdict, syncBlock, cancelled}
+use Rattle.line.specs.Order.{validLength, itemCount, letter, isLetter, orderBits, filled, endPayload, itemService, itemPayload, itemBits}
+use Rattle.line.specs.Sending.{synchronising, item, freshSender, senderInRange, send, transmit, plainBits, sentBits}
+use Rattle.line.specs.Receiving.{freshReceiver, noBytes, place, endRule, serviceRule, looksSync, judge, inStep, readings, receiverInRange, receive, storeAt}
+use Rattle.line.specs.Course.{sending, World, opened, course, final}
+use Rattle.line.specs.Delivery.{Assumptions}
+use Rattle.line.specs.declared.sender.Next.the-variants.{Sync, Older, Newer}
+use Rattle.line.specs.declared.receiver.Event.the-variants as E
+use Rattle.line.specs.declared.receiver.Phase.the-variants as P
+use Rattle.line.proofs.Delivery.Tally.{refuses, tallied, Row, Rows, Goes, allCalls, allTally, lastWorld, walk, goes-meets}
+use Rattle.line.proofs.Delivery.Witnesses.Periods.{sender, well, between, plain}
+
+abbrev order : List ℕ
+order = 0xa5 ∷ []
+
+abbrev content : Bits
+content = orderBits 8 order
+
+abbrev block : ℕ → Bits
+block i = itemBits 240 8 content i
+
+-- the store as first lent, and with item 0 in it
+abbrev first : List ℕ
+first = replicate 31 7
+
+abbrev stored : List ℕ
+stored = 0xa5 ∷ (replicate 29 0 ++ (7 ∷ []))
+
+abbrev pub w₀ : World
+w₀ = opened (freshSender 240 8) (freshReceiver 240) first
+
+abbrev rows : List Row
+rows =
+    plain order first first true (syncBlock 240) synchronising true true E.Sync (sender 8 1 0 true Older false) (well 0 false)
+    ∷ plain order first stored false (block 0) (item 0 false false false) false true E.Accepted
+    (sender 8 1 0 true Newer false) (well 1 false)
+    ∷ plain order stored stored false (block 1) (item 1 true true false) false true (E.Ended 8)
+    (sender 8 2 0 false Newer false) (well 1 true)
+    ∷ plain order stored stored false (block 2) (item 2 true true false) false true E.Previous
+    (sender 8 2 0 false Newer true) (well 1 true)
+    ∷ (record {
+      calls = sending order false (replicate 33 0) [] ∷ [];
+      tally = tallied true true false false (refuses A.rest ∷ []);
+      world = between (sender 8 2 0 false Newer true) (well 1 true) stored (item 2 true true false);
+    })
+    ∷ []
+
+computed : Rows 240 content false w₀ rows
+unfolding send senderInRange transmit plainBits sentBits freshSender itemBits itemPayload itemService filled cancelled xorBits parity receive receiverInRange readings inStep judge looksSync verdict passes remainder check blockBits syncBlock serviceRule endRule endPayload place letter isLetter validLength itemCount number binary bitsOf bytesOf noBytes freshReceiver isLength storeAt
+computed = (
+  record { counts = refl; leads = refl },
+  (
+    record { counts = refl; leads = refl },
+    (
+      record { counts = refl; leads = refl },
+      (
+        record { counts = refl; leads = refl },
+        (
+          record { counts = refl; leads = refl },
+          tt,
+        ),
+      ),
+    ),
+  ),
+)
+
+goes : Goes 240 content false w₀ (allCalls rows) (allTally false rows) (lastWorld w₀ rows)
+goes = walk false w₀ rows computed
+
+pub example : Assumptions 240 content (course w₀ (allCalls rows))
+example = goes-meets goes refl refl
+
+-- at the end the store has the order with its zero filling, and behind it what it had
+pub example-stored : final w₀ (allCalls rows) .store ≡ stored
+example-stored = ap (λ (w : World). w .store) (goes .leads)

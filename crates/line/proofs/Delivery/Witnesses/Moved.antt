@@ -1,0 +1,95 @@
+-- Why a good block between two losses is needed: document 01's list, which meets all else, and stores item 4 as item 1.
+-- Assumes nothing.
+use mathlib.Core.Path.{_≡_, refl, ap}
+use mathlib.Core.Bool.{true, false}
+use mathlib.Core.List.{List, [], _∷_, _++_}
+use Prim.Native.Nat.{ℕ}
+use lib.ListN.{replicate}
+use Rattle.crc.specs.Bits.{Bits, binary, number, bitsOf, bytesOf, xorBits, parity}
+use Rattle.crc.specs.Check.{remainder, passes, check}
+use Rattle.block.specs.Lengths.{isLength}
+use Rattle.block.specs.Block.{blockBits, verdict, syncBlock, cancelled}
+use Rattle.line.specs.Order.{validLength, itemCount, letter, isLetter, orderBits, filled, endPayload, itemService, itemPayload, itemBits}
+use Rattle.line.specs.Sending.{synchronising, item, freshSender, senderInRange, send, transmit, plainBits, sentBits}
+use Rattle.line.specs.Receiving.{freshReceiver, noBytes, place, endRule, serviceRule, looksSync, judge, inStep, readings, receiverInRange, receive, storeAt}
+use Rattle.line.specs.Course.{World, opened, course, final}
+use Rattle.line.specs.declared.sender.Next.the-variants.{Sync, Older, Newer}
+use Rattle.line.specs.declared.receiver.Event.the-variants as E
+use Rattle.line.proofs.Delivery.Spacing.{BetweenLosses}
+use Rattle.line.proofs.Delivery.Meets.{OtherClauses}
+use Rattle.line.proofs.Delivery.Tally.{Row, Rows, Goes, allCalls, allTally, lastWorld, walk, goes-otherwise}
+use Rattle.line.proofs.Delivery.Witnesses.Periods.{sender, well, bad, period, plain, damaged}
+
+-- five data items
+abbrev order : List ℕ
+order = replicate 30 1 ++ (replicate 30 2 ++ (replicate 30 3 ++ (replicate 30 4 ++ replicate 30 5)))
+
+abbrev content : Bits
+content = orderBits 1200 order
+
+abbrev block : ℕ → Bits
+block i = itemBits 240 1200 content i
+
+-- the store as first lent, and with item 0 in it
+abbrev first : List ℕ
+first = replicate 150 0
+
+abbrev one : List ℕ
+one = replicate 30 1 ++ replicate 120 0
+
+-- and with item 4 where item 1 belongs
+abbrev wrong : List ℕ
+wrong = replicate 30 1 ++ (replicate 30 5 ++ replicate 90 0)
+
+abbrev pub w₀ : World
+w₀ = opened (freshSender 240 1200) (freshReceiver 240) first
+
+-- Item 1 is damaged, item 2 too, and its reading lost; item 3 arrives whole with its reading lost, and passes as previous.
+abbrev pub moved : List Row
+moved =
+    plain order first first true (syncBlock 240) synchronising true true E.Sync
+    (sender 1200 1 0 true Older false) (well 0 false)
+    ∷ plain order first one false (block 0) (item 0 false false false) false true E.Accepted
+    (sender 1200 1 0 true Newer false) (well 1 false)
+    ∷ plain order one one false (damaged (block 1)) (item 1 false true false) false false E.Bad
+    (sender 1200 2 0 false Newer false) (bad 1 1)
+    ∷ period order one one false (damaged (block 2)) (item 2 false true false) true false E.Bad
+    (sender 1200 3 0 false Newer false) (bad 2 1) true false true
+    ∷ period order one one false (block 3) (item 3 false true false) true true E.Previous
+    (sender 1200 4 0 false Newer false) (well 1 false) false false false
+    ∷ plain order one wrong false (block 4) (item 4 false true false) false true E.Accepted
+    (sender 1200 5 0 false Newer false) (well 2 false)
+    ∷ []
+
+moved-computed : Rows 240 content false w₀ moved
+unfolding send senderInRange transmit plainBits sentBits freshSender itemBits itemPayload itemService filled cancelled xorBits parity receive receiverInRange readings inStep judge looksSync verdict passes remainder check blockBits syncBlock serviceRule endRule endPayload place letter isLetter validLength itemCount number binary bitsOf bytesOf noBytes freshReceiver isLength storeAt
+moved-computed = (
+  record { counts = refl; leads = refl },
+  (
+    record { counts = refl; leads = refl },
+    (
+      record { counts = refl; leads = refl },
+      (
+        record { counts = refl; leads = refl },
+        (
+          record { counts = refl; leads = refl },
+          (
+            record { counts = refl; leads = refl },
+            tt,
+          ),
+        ),
+      ),
+    ),
+  ),
+)
+
+moved-goes : Goes 240 content false w₀ (allCalls moved) (allTally false moved) (lastWorld w₀ moved)
+moved-goes = walk false w₀ moved moved-computed
+
+-- that clause alone is broken
+pub moved-breaks :
+    OtherClauses 240 content (course w₀ (allCalls moved)) × (BetweenLosses (course w₀ (allCalls moved)) → ⊥)
+moved-breaks = goes-otherwise moved-goes refl refl
+
+pub moved-stored : final w₀ (allCalls moved) .store ≡ wrong
+moved-stored = ap (λ (w : World). w .store) (moved-goes .leads)
