@@ -101,7 +101,7 @@ pub fn build_block(k: usize, service: u8, payload: &[u8], block: &mut [u8]) -> B
 }
 
 // The check bits received: the low half of a byte, a byte, and the high half of a third.
-fn received_check(a: u8, b: u8, c: u8) -> u16
+pub fn received_check(a: u8, b: u8, c: u8) -> u16
     ensures { λ r. ⌜ binary 16 r ≡ binary 4 a ++ (binary 8 b ++ binary 4 (c / 16)) ⌝ }
 {
     ((a & 15) as u16) << 12 | (b as u16) << 4 | (c >> 4) as u16

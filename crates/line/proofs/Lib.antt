@@ -3,6 +3,14 @@ pub mod Items
 pub mod Filling
 pub mod Building
 pub mod Sending
-pub mod Delivery
 pub mod SendingWitness
+pub mod Moved
+pub mod Judging
+pub mod Latest
+pub mod Accepting
+pub mod Handing
+pub mod Stepping
+pub mod Searching
+pub mod Calling
+pub mod Delivery
 pub mod Examples

@@ -5,6 +5,7 @@ pub mod Sending
 pub mod Receiving
 pub mod Course
 pub mod Delivery
+pub mod Examples
 pub mod SendCalls
 pub mod SendSteps
-pub mod Examples
+pub mod ReceiveCode

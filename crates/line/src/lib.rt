@@ -1,8 +1,11 @@
 // The order line's two ends: loop times, the order as items, the sending end and the receiving end.
+mod hold;
 pub mod loop_time;
 mod order;
 pub mod receiver;
+mod rules;
 pub mod sender;
+mod window;
 
 // Document 01, "What the ends turn away"; the crate block has the numbers of what it turns away itself.
 pub const SPEED: u8 = 2;

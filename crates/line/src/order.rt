@@ -18,16 +18,16 @@ pub const MOST_ITEMS: usize = 1093;
 // A block's service and check bits.
 pub const OVERHEAD: usize = 20;
 
-const LETTER_A: u8 = 0b0011;
+pub const LETTER_A: u8 = 0b0011;
 
-const LETTER_B: u8 = 0b1001;
+pub const LETTER_B: u8 = 0b1001;
 
-const LETTER_C: u8 = 0b1100;
+pub const LETTER_C: u8 = 0b1100;
 
-const END: u8 = 0b1000;
+pub const END: u8 = 0b1000;
 
 // The version that an end block carries.
-const VERSION: u8 = 1;
+pub const VERSION: u8 = 1;
 
 // Whether a slice holds fewer bits than these.
 pub fn too_short(s: &[u8], bits: usize) -> bool

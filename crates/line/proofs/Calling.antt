@@ -1,0 +1,129 @@
+-- A receiving call: its range, its refusals, and what it reads by its phase. Assumes nothing.
+use mathlib.Core.Path.{_≡_, refl, sym, ap, _∙_, subst}
+use mathlib.Core.Bool.{Bool, true, false, _&&_}
+use mathlib.Core.List.{List, []}
+use Prim.Native.Nat.{ℕ, _≤_, _<_}
+use borrow.Author.Tests.{ltb-true, leb-true, eq-eqb, ne-eqb}
+use lib.Dec.{ltb, leb}
+use lib.ListN.{take}
+use Rattle.crc.specs.Bits.{Bits, bitsOf}
+use Rattle.block.specs.Answer as A
+use Rattle.block.specs.Answer.{refused}
+use Rattle.block.specs.Lengths.{isLength, blockLength}
+use Rattle.block.specs.Calls.{tooShort}
+use Rattle.line.specs.Order.{mostItems}
+use Rattle.line.specs.Receiving as S
+use Rattle.line.specs.Receiving.{meaning, standing, stands, Reading, idleRule, idle, reading, readings, lastBad, heldInRange, receiverInRange, judgeStore, receive, reported, receiveState, receiveStore, Receive}
+use Rattle.line.specs.ReceiveCode.{stepped, handedBack, Handed}
+use Rattle.line.specs.declared.receiver.Receiver.{Receiver}
+use Rattle.line.specs.declared.receiver.Phase.{Phase}
+use Rattle.line.specs.declared.receiver.Phase.the-variants as P
+use Rattle.line.specs.declared.receiver.Event.{Event}
+use Rattle.line.specs.declared.receiver.Received.the-variants as R
+use Rattle.line.specs.declared.receiver.Step.{Step}
+use Rattle.line.proofs.Items.{and-left, and-right}
+use Rattle.line.proofs.Handing.{handed-plain}
+use Rattle.line.proofs.Searching.{search-stores}
+
+-- ---- the range
+
+pub record InRange (s : Receiver) : Type 0 where
+  pub known : isLength (s .setup .k) ≡ true
+  pub row : s .row < lastBad
+  pub taken : s .taken ≤ mostItems
+  pub held : heldInRange (s .phase) (blockLength (s .setup .k)) (s .held) ≡ true
+
+pub in-range : (s : Receiver) → receiverInRange s ≡ true → InRange s
+unfolding receiverInRange
+in-range s e =
+    let k : Bool = isLength (s .setup .k) in
+    let r : Bool = ltb (s .row) lastBad in
+    let t : Bool = leb (s .taken) mostItems in
+    let h : Bool = heldInRange (s .phase) (blockLength (s .setup .k)) (s .held) in
+    let a : k && r && t ≡ true = and-left (k && r && t) h e in
+    let b : k && r ≡ true = and-left (k && r) t a in
+    record {
+      known = and-left k r b;
+      row = ltb-true (s .row) lastBad (and-right k r b);
+      taken = leb-true (s .taken) mostItems (and-right (k && r) t a);
+      held = and-right (k && r && t) h e;
+    }
+
+module _ (s : Receiver) (r : InRange s) where
+  pub held-search : s .phase ≡ P.Search → s .held ≤ 15
+  held-search e = leb-true (s .held) 15 (sym (ap (λ (p : Phase). heldInRange p (blockLength (s .setup .k)) (s .held)) e) ∙ r .held)
+
+  pub held-step : s .phase ≡ P.InStep → s .held < blockLength (s .setup .k)
+  held-step e =
+      ltb-true (s .held) (blockLength (s .setup .k)) (sym (ap (λ (p : Phase). heldInRange p (blockLength (s .setup .k)) (s .held)) e) ∙ r .held)
+
+-- ---- by the phase
+
+pub idle-stores : (p : Phase) → meaning (idleRule p) .stores ≡ false
+idle-stores P.Search = refl
+idle-stores P.InStep = refl
+idle-stores P.SequenceAlarm = refl
+idle-stores P.LengthAlarm = refl
+
+module _ (s : Receiver) (store : List ℕ) (new : Bits) (count : ℕ) where
+  pub handed-idle : count ≡ 0 → (r : Step) → r ≡ handedBack (idle s) → Handed s store (readings s new count) r store
+  unfolding readings
+  handed-idle e r h = rw (eq-eqb count 0 e, h) (handed-plain s store (idle s) (idle-stores (s .phase)))
+
+  module _ (n : count ≡ 0 → ⊥) where
+    pub readings-some : (p : Phase) → s .phase ≡ p → reading s p new ≡ readings s new count
+    unfolding readings
+    readings-some p e = sym (rw (ne-eqb count 0 n, e))
+
+    pub handed-by : (p : Phase) → s .phase ≡ p → (r : Step) (store′ : List ℕ) → Handed s store (reading s p new) r store′
+        → Handed s store (readings s new count) r store′
+    handed-by p e r store′ h = subst (λ (x : Reading). Handed s store x r store′) (readings-some p e) h
+
+-- a search
+pub handed-search : (s : Receiver) (store : List ℕ) (window new : Bits) (used : ℕ) (r : Step) → r ≡ handedBack (S.search s window new used)
+    → Handed s store (S.search s window new used) r store
+handed-search s store window new used r h =
+    subst (λ (x : Step). Handed s store (S.search s window new used) x store) (sym h)
+    (handed-plain s store (S.search s window new used) (search-stores s window new used))
+
+-- a standing alarm
+pub handed-stands : (s : Receiver) (store : List ℕ) (alarm : Event) (count n : ℕ) → count ≡ n → (r : Step) → r ≡ stepped (stands s) alarm count
+    → Handed s store (record { rule = standing alarm; row = []; used = n; state = stands s }) r store
+handed-stands s store alarm count n e r h =
+    subst (λ (x : Step). Handed s store (record { rule = standing alarm; row = []; used = n; state = stands s }) x store)
+    (sym (h ∙ ap (stepped (stands s) alarm) e))
+    (handed-plain s store (record { rule = standing alarm; row = []; used = n; state = stands s }) refl)
+
+-- ---- the call
+
+module _ (s : Receiver) (line : List ℕ) (count : ℕ) (store : List ℕ) where
+  refuses : (n : ℕ) → receive s line count store ≡ refused n → Receive s line count store (record { state = s; answer = R.Refused n }) store
+  refuses n e =
+      record {
+        answers = ap reported (sym e);
+        state = ap (receiveState s) (sym e);
+        writes = ap (receiveStore s store) (sym e);
+      }
+
+  pub refuses-spoiled : receiverInRange s ≡ false → Receive s line count store (record { state = s; answer = R.Refused A.spoiled }) store
+  unfolding receive
+  refuses-spoiled e = refuses A.spoiled (rw e)
+
+  module _ (e : receiverInRange s ≡ true) where
+    pub refuses-short : tooShort line count ≡ true → Receive s line count store (record { state = s; answer = R.Refused A.short }) store
+    unfolding receive
+    refuses-short t = refuses A.short (rw (e, t))
+
+    module _ (t : tooShort line count ≡ false) where
+      goes : judgeStore s store (readings s (take count (bitsOf line)) count) ≡ receive s line count store
+      unfolding receive
+      goes = sym (rw (e, t))
+
+      pub receives : (r : Step) (store′ : List ℕ) → Handed s store (readings s (take count (bitsOf line)) count) r store′
+          → Receive s line count store r store′
+      receives r store′ h =
+          record {
+            answers = h .answers ∙ ap reported goes;
+            state = h .state ∙ ap (receiveState s) goes;
+            writes = h .writes ∙ ap (receiveStore s store) goes;
+          }

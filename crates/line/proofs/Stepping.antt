@@ -1,0 +1,96 @@
+-- What is handed back in step: where the block stays unfinished, and where its last bit comes. Assumes nothing.
+use mathlib.Core.Path.{_≡_, refl, sym, ap, ap₂, _∙_, subst}
+use mathlib.Core.List.{List, [], _++_, append-assoc}
+use Prim.Native.Nat.{ℕ, _+_, _-_, _*_, _≤_, _<_}
+use native.Mathlib.Omega.{arith}
+use borrow.Author.Tests.{lt-ltb, le-ltb}
+use lib.ListN.{length, take, drop, length-append, length-drop}
+use lib.Seq.{take-at, take-take, take-append-le, length-take-le}
+use Rattle.crc.specs.Bits.{Bits, zeros, bitsOf, bytesOf}
+use Rattle.crc.proofs.Bytes.{length-bitsOf, bitsOf-bytesOf}
+use Rattle.block.specs.Lengths.{blockLength}
+use Rattle.line.specs.Receiving.{arrayBytes, unfinished, overwrite, holding, missing, finishedRow, Reading, inStep}
+use Rattle.line.specs.ReceiveCode.{stepped, judged, Handed}
+use Rattle.line.specs.declared.receiver.Receiver.{Receiver}
+use Rattle.line.specs.declared.receiver.Event.the-variants as E
+use Rattle.line.specs.declared.receiver.Step.{Step}
+use Rattle.line.proofs.Handing.{handed-plain}
+
+-- the first bits of an array into which new ones were written
+module _ (array : List ℕ) (new : Bits) (held : ℕ) (h : held + length new ≤ 8 * length array) where
+  front : Bits
+  front = take held (bitsOf array) ++ new
+
+  length-held : length (take held (bitsOf array)) ≡ held
+  length-held = length-take-le held (bitsOf array) (omega (arith, length-bitsOf array))
+
+  length-front : length front ≡ held + length new
+  unfolding front
+  length-front = length-append (take held (bitsOf array)) new ∙ ap (λ (n : ℕ). n + length new) length-held
+
+  in-order : overwrite held new (bitsOf array) ≡ front ++ drop (held + length new) (bitsOf array)
+  unfolding front
+  in-order = sym (append-assoc (take held (bitsOf array)) new (drop (held + length new) (bitsOf array)))
+
+  length-overwrite : length (overwrite held new (bitsOf array)) ≡ 8 * length array
+  length-overwrite =
+      ap length in-order ∙ length-append front (drop (held + length new) (bitsOf array))
+      ∙ omega (arith, length-front, length-drop (held + length new) (bitsOf array), length-bitsOf array)
+
+  pub written-row : (m : ℕ) → length array ≡ m
+      → take (held + length new) (bitsOf (bytesOf m (overwrite held new (bitsOf array)))) ≡ take held (bitsOf array) ++ new
+  unfolding front
+  written-row m e =
+      let row : Bits = overwrite held new (bitsOf array) in
+      let l : length row ≤ 8 * m = omega (arith, length-overwrite) in
+      let n : held + length new ≤ length row = omega (arith, length-overwrite) in
+      ap (take (held + length new)) (bitsOf-bytesOf m row l)
+      ∙ take-append-le (held + length new) row (zeros (8 * m - length row)) n
+      ∙ ap (take (held + length new)) in-order
+      ∙ take-at front (drop (held + length new) (bitsOf array)) (held + length new) length-front
+
+-- no block is complete
+module _ (s : Receiver) (store : List ℕ) (new : Bits) where
+  more : length new < missing s
+      → inStep s new ≡ record { rule = unfinished; row = []; used = length new; state = holding s new }
+  unfolding inStep
+  more h = rw (lt-ltb (length new) (missing s) h)
+
+  abbrev held-with : List ℕ → ℕ → Step
+  held-with array n =
+      stepped
+      (record {
+        setup = s .setup;
+        bits = array;
+        held = s .held + n;
+        row = s .row;
+        back = s .back;
+        taken = s .taken;
+        ended = s .ended;
+        phase = s .phase;
+      }) E.None n
+
+  pub in-step-more : (array : List ℕ) (n : ℕ) → array ≡ bytesOf arrayBytes (overwrite (s .held) new (bitsOf (s .bits))) → n ≡ length new
+      → n < missing s → Handed s store (inStep s new) (held-with array n) store
+  in-step-more array n e l h =
+      subst (λ (x : Reading). Handed s store x (held-with array n) store) (sym (more (subst (λ (k : ℕ). k < missing s) l h)))
+      (subst (λ (r : Step). Handed s store (record { rule = unfinished; row = []; used = length new; state = holding s new }) r store)
+      (sym (ap₂ held-with e l)) (handed-plain s store (record { rule = unfinished; row = []; used = length new; state = holding s new }) refl))
+
+  -- a block is complete
+  pub in-step-done : missing s ≤ length new → inStep s new ≡ judged s (finishedRow s new) (missing s)
+  unfolding inStep
+  in-step-done h = rw (le-ltb (length new) (missing s) h)
+
+module _ (s : Receiver) (line : List ℕ) (count : ℕ) (h : count ≤ 8 * length line) (l : missing s ≤ count)
+    (k : s .held + missing s ≡ blockLength (s .setup .k)) (n : length (s .bits) ≡ arrayBytes) (f : blockLength (s .setup .k) ≤ 8 * arrayBytes) where
+  pub finished-row : take (blockLength (s .setup .k)) (bitsOf (bytesOf arrayBytes (overwrite (s .held) (take (missing s) (bitsOf line)) (bitsOf (s .bits)))))
+      ≡ finishedRow s (take count (bitsOf line))
+  finished-row =
+      let new : Bits = take (missing s) (bitsOf line) in
+      let w : length new ≡ missing s = length-take-le (missing s) (bitsOf line) (omega (arith, length-bitsOf line)) in
+      let e : blockLength (s .setup .k) ≡ s .held + length new = sym k ∙ ap (λ (x : ℕ). s .held + x) (sym w) in
+      let b : s .held + length new ≤ 8 * length (s .bits) = omega arith in
+      ap (λ (x : ℕ). take x (bitsOf (bytesOf arrayBytes (overwrite (s .held) new (bitsOf (s .bits)))))) e
+      ∙ written-row (s .bits) new (s .held) b arrayBytes n
+      ∙ ap (λ (x : Bits). take (s .held) (bitsOf (s .bits)) ++ x) (sym (take-take (missing s) count (bitsOf line) l))

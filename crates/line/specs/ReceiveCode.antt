@@ -1,0 +1,61 @@
+-- What the receiver's private functions promise: the code's rules, and what is handed back for a reading. Assumes nothing.
+use mathlib.Core.Path.{_≡_}
+use mathlib.Core.Bool.{Bool, cond}
+use mathlib.Core.List.{List, []}
+use Prim.Native.Nat.{ℕ, _+_, _*_}
+use lib.ListN.{take}
+use Rattle.crc.specs.Bits.{Bits, binary, bitsOf}
+use Rattle.block.specs.Answer as A
+use Rattle.block.specs.Calls.{tooShort}
+use Rattle.line.specs.declared.receiver.Receiver.{Receiver}
+use Rattle.line.specs.declared.receiver.Event.{Event}
+use Rattle.line.specs.declared.receiver.Step.{Step}
+use Rattle.line.specs.declared.receiver.Received.the-variants as R
+use Rattle.line.specs.declared.window.Window.{Window}
+use Rattle.line.specs.declared.rules.Rule as D
+use Rattle.line.specs.declared.rules.Rule.the-variants as C
+use Rattle.line.specs.Receiving.{Rule, accepts, previous, out-of-sequence, ends, wrong-length, ends-again, anything-else, meaning, judge, stops, storeAt, Reading, judgeStore, receivedAnswer, reported, receiveState, receiveStore}
+
+-- the rule that each case of the code's enum stands for
+abbrev pub ruleOf : D.Rule → Rule
+ruleOf C.Accepts = accepts
+ruleOf C.Previous = previous
+ruleOf C.OutOfSequence = out-of-sequence
+ruleOf (C.Ends L) = ends L
+ruleOf C.WrongLength = wrong-length
+ruleOf C.EndsAgain = ends-again
+ruleOf C.AnythingElse = anything-else
+
+-- the bits that a window holds
+abbrev pub windowBits : Window → Bits
+windowBits w = binary (w .held) (w .number)
+
+-- a state, an event and the bits used, as a call hands them back
+abbrev pub stepped : Receiver → Event → ℕ → Step
+stepped s event used = record { state = s; answer = R.Used event used }
+
+-- what a call hands back for what it read where nothing is stored
+abbrev pub handedBack : Reading → Step
+handedBack x = stepped (x .state) (meaning (x .rule) .event) (x .used)
+
+-- a block to be accepted: refused where the store is too short, and otherwise its k bits go to the store
+abbrev pub noRoom : Receiver → List ℕ → Bool
+noRoom s store = tooShort store (s .taken * s .setup .k + s .setup .k)
+
+abbrev pub acceptance : Receiver → List ℕ → ℕ → Step
+acceptance s store used =
+    cond (noRoom s store) (record { state = s; answer = R.Refused A.short }) (handedBack (stops s accepts [] used))
+
+abbrev pub acceptedStore : Receiver → List ℕ → List ℕ → List ℕ
+acceptedStore s payload store =
+    cond (noRoom s store) store (storeAt (s .taken * s .setup .k) (take (s .setup .k) (bitsOf payload)) store)
+
+-- what is read where these n bits complete a block
+abbrev pub judged : Receiver → Bits → ℕ → Reading
+judged s row used = stops s (judge (s .setup .k) (s .taken) (s .ended) row) row used
+
+-- what a call hands back for what it read, the store judged
+pub record Handed (s : Receiver) (store : List ℕ) (x : Reading) (result : Step) (store′ : List ℕ) : Type 0 where
+  pub answers : receivedAnswer (result .answer) ≡ reported (judgeStore s store x)
+  pub state : result .state ≡ receiveState s (judgeStore s store x)
+  pub writes : store′ ≡ receiveStore s store (judgeStore s store x)

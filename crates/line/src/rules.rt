@@ -1,0 +1,137 @@
+// Rule 1, and rules 3 to 7: what a finished block comes to, and what one whose check passes.
+ghost use mathlib.Core.Path.{_≡_};
+ghost use mathlib.Core.Bool.{true, _&&_};
+ghost use Prim.Native.Nat.{_-_, _*_, _≤_};
+ghost use lib.Dec.{eqb, leb};
+ghost use lib.ListN.{length, take, drop};
+ghost use Rattle.crc.specs.Bits.{number, bitsOf};
+ghost use Rattle.block.specs.Lengths.{isLength, blockLength};
+ghost use Rattle.line.specs.Order.{mostItems, letter, isLetter};
+ghost use Rattle.line.specs.Receiving.{looksSync, place, letterRule, endRule, serviceRule};
+ghost use Rattle.line.specs.ReceiveCode.{ruleOf};
+use crate::order::END;
+use crate::order::LETTER_A;
+use crate::order::LETTER_B;
+use crate::order::LETTER_C;
+use crate::order::LONGEST_ORDER;
+use crate::order::MOST_ITEMS;
+use crate::order::VERSION;
+use crate::order::item_count;
+use crate::order::letter;
+
+// The synchronising block's service bits, and its last sixteen bits.
+const SYNC: u8 = 0b0101;
+
+pub const SEQUENCE: u16 = 0b0101000010100101;
+
+pub enum Rule {
+    Accepts,
+    Previous,
+    OutOfSequence,
+    // With the order's length in bits.
+    Ends(usize),
+    WrongLength,
+    EndsAgain,
+    AnythingElse,
+}
+
+// Rule 1: first four bits 0101, last sixteen the sequence.
+pub fn looks_sync(k: usize, row: &[u8]) -> bool
+    requires { ⌜ (isLength k ≡ true) × (blockLength k ≤ 8 * length (now row)) ⌝ }
+    ensures { λ r. ⌜ r ≡ looksSync k (take (blockLength k) (bitsOf (now (row .entry)))) ⌝ }
+{
+    if row[0] >> 4 != SYNC {
+        return false;
+    }
+    let m = k / 8;
+    block::received_check(row[m], row[m + 1], row[m + 2]) == SEQUENCE
+}
+
+fn is_letter(service: u8) -> bool
+    ensures { λ r. ⌜ r ≡ isLetter service ⌝ }
+{
+    match service {
+        LETTER_A | LETTER_B | LETTER_C => true,
+        _ => false,
+    }
+}
+
+// The letter of the item before.
+fn is_last(taken: usize, service: u8) -> bool
+    ensures { λ r. ⌜ r ≡ (leb 1 taken && eqb service (letter (taken - 1))) ⌝ }
+{
+    if taken == 0 {
+        return false;
+    }
+    service == letter(taken - 1)
+}
+
+// A letter, the end not taken.
+fn letter_rule(taken: usize, service: u8) -> Rule
+    requires { ⌜ taken ≤ mostItems ⌝ }
+    ensures { λ r. ⌜ ruleOf r ≡ letterRule taken (place taken service) ⌝ }
+{
+    if service == letter(taken) {
+        if taken < MOST_ITEMS {
+            return Rule::Accepts;
+        }
+        return Rule::AnythingElse;
+    }
+    if is_last(taken, service) {
+        return Rule::Previous;
+    }
+    if service == letter(taken + 1) {
+        return Rule::OutOfSequence;
+    }
+    Rule::AnythingElse
+}
+
+// The length that an end block's data give.
+fn end_length(payload: &[u8]) -> usize
+    requires { ⌜ 5 ≤ length (now payload) ⌝ }
+    ensures { λ r. ⌜ r ≡ number (take 32 (drop 8 (bitsOf (now (payload .entry))))) ⌝ }
+{
+    let high = (payload[1] as usize) * 256 + (payload[2] as usize);
+    let low = (payload[3] as usize) * 256 + (payload[4] as usize);
+    high * 65536 + low
+}
+
+fn end_rule(k: usize, taken: usize, ended: bool, payload: &[u8]) -> Rule
+    requires { ⌜ (isLength k ≡ true) × (5 ≤ length (now payload)) ⌝ }
+    ensures { λ r. ⌜ ruleOf r ≡ endRule k taken ended (bitsOf (now (payload .entry))) ⌝ }
+{
+    if ended {
+        return Rule::EndsAgain;
+    }
+    if payload[0] != VERSION {
+        return Rule::WrongLength;
+    }
+    let bits = end_length(payload);
+    if bits == 0 {
+        return Rule::WrongLength;
+    }
+    if LONGEST_ORDER < bits {
+        return Rule::WrongLength;
+    }
+    if item_count(k, bits) != taken {
+        return Rule::WrongLength;
+    }
+    Rule::Ends(bits)
+}
+
+// By the service bits.
+pub fn service_rule(k: usize, taken: usize, ended: bool, service: u8, payload: &[u8]) -> Rule
+    requires { ⌜ (isLength k ≡ true) × (taken ≤ mostItems) × (5 ≤ length (now payload)) ⌝ }
+    ensures { λ r. ⌜ ruleOf r ≡ serviceRule k taken ended service (bitsOf (now (payload .entry))) ⌝ }
+{
+    if is_letter(service) {
+        if ended {
+            return Rule::OutOfSequence;
+        }
+        return letter_rule(taken, service);
+    }
+    if service == END {
+        return end_rule(k, taken, ended, payload);
+    }
+    Rule::AnythingElse
+}
