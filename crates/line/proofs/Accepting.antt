@@ -1,9 +1,9 @@
 -- Laws of accepting a block: where its data go, in whole bytes, and the room for them. Assumes nothing.
-use mathlib.Core.Path.{_≡_, sym, ap, _∙_}
+use mathlib.Core.Path.{_≡_, ap, _∙_}
 use mathlib.Core.Bool.{true, false}
 use mathlib.Core.List.{List}
 use Prim.Native.Nat.{ℕ, _+_, _*_, _/_, _≤_, _<_}
-use native.Mathlib.Nat.{mul-left-comm, mul-le-mul}
+use native.Mathlib.Nat.{mul-le-mul}
 use native.Mathlib.Omega.{arith}
 use borrow.Author.Tests.{lt-ltb, le-ltb}
 use lib.ListN.{length, take, getD}
@@ -14,26 +14,23 @@ use Rattle.block.specs.Calls.{tooShort}
 use Rattle.block.proofs.Lengths.{length-facts, length-bytes}
 use Rattle.line.specs.Order.{mostItems}
 use Rattle.line.specs.Receiving.{storeAt}
+use Rattle.line.proofs.Building.{item-byte}
 use Rattle.line.proofs.Moved.{copied-store}
 
 module _ (k taken : ℕ) (known : isLength k ≡ true) where
-  -- the first bit of an item is the first of a byte
-  pub item-start : 8 * (taken * (k / 8)) ≡ taken * k
-  item-start = sym (mul-left-comm taken 8 (k / 8)) ∙ ap (λ (x : ℕ). taken * x) (length-bytes k known)
-
   pub start-lt : taken ≤ mostItems → taken * (k / 8) ≤ mostItems * 480
   start-lt h = let f = length-facts k known in mul-le-mul {m₂ = 480} h (omega arith)
 
   module _ (store : List ℕ) where
     pub no-room : length store < taken * (k / 8) + k / 8 → tooShort store (taken * k + k) ≡ true
     no-room h =
-        let e = item-start in
+        let e = item-byte taken k known in
         let f = length-bytes k known in
         lt-ltb (8 * length store) (taken * k + k) (omega arith)
 
     pub room : taken * (k / 8) + k / 8 ≤ length store → tooShort store (taken * k + k) ≡ false
     room h =
-        let e = item-start in
+        let e = item-byte taken k known in
         let f = length-bytes k known in
         le-ltb (8 * length store) (taken * k + k) (omega arith)
 
@@ -43,5 +40,5 @@ module _ (k taken : ℕ) (known : isLength k ≡ true) where
     kept-store payload hp hs bs bp =
         let f = length-bytes k known in
         copied-store store payload (taken * (k / 8)) (k / 8) (omega arith) hs bs bp
-        ∙ ap (λ (x : ℕ). storeAt x (take (8 * (k / 8)) (bitsOf payload)) store) item-start
+        ∙ ap (λ (x : ℕ). storeAt x (take (8 * (k / 8)) (bitsOf payload)) store) (item-byte taken k known)
         ∙ ap (λ (x : ℕ). storeAt (taken * k) (take x (bitsOf payload)) store) f

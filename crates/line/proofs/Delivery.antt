@@ -21,11 +21,8 @@ pub mod Stretch
 pub mod Periods
 pub mod Theorem
 pub mod WholeOrder
+pub mod BitByBit
 pub mod Unharmed
 pub mod Answers
 pub mod Prefixes
-pub mod Corners
 pub mod Spacing
-pub mod Meets
-pub mod Tally
-pub mod Witnesses

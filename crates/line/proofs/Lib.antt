@@ -3,7 +3,6 @@ pub mod Items
 pub mod Filling
 pub mod Building
 pub mod Sending
-pub mod SendingWitness
 pub mod Moved
 pub mod Judging
 pub mod Latest

@@ -1,17 +1,16 @@
--- Bits moved by bytes: the first and the last bits of a byte, bytes joined of two, and a row written into an array byte by
--- byte. Assumes nothing.
-use mathlib.Core.Path.{_≡_, sym, ap, ap₂, _∙_, subst}
+-- Bits moved by bytes: parts of a byte, bytes joined of two, a row written into an array byte by byte, and bytes copied
+-- over a part of the store. Assumes nothing.
+use mathlib.Core.Path.{_≡_, sym, ap, ap₂, _∙_}
 use mathlib.Core.List.{List, [], _∷_, _++_, append-assoc}
 use mathlib.Core.Logic.{⊎-elim}
 use Prim.Native.Nat.{ℕ, zero, suc, _+_, _-_, _*_, _/_, _%_, _^_, _≤_, _<_}
-use native.Mathlib.Nat.{mod-lt, le-of-lt, one-mul, eq-or-lt-of-le}
+use native.Mathlib.Nat.{mod-lt, le-of-lt, eq-or-lt-of-le}
 use native.Mathlib.Numerals.{add-one}
 use native.Mathlib.Omega.{arith}
-use lib.Arith.{digits-lt}
 use lib.Bits.{bitOr, bitAnd, or-shifted, and-mask, and-high}
 use lib.ListN.{length, take, drop, getD, set, take-append-drop}
 use lib.Dec.{lit<}
-use lib.Pow.{pow-pos, pow-add, shl-exact, shr-lt, ones-split, ones-lt, high}
+use lib.Pow.{pow-pos, shl-exact, ones-split, ones-lt, high}
 use lib.Seq.{take-at, drop-at, take-append-le, take-append-add, take-add, drop-append-add, drop-append-le, take-suc, take-suc-set, take-take, take-all, drop-drop, drop-cons, set-split, length-take-le, paste, length-paste}
 use Rattle.crc.specs.Bits.{Bits, binary, bitsOf, bytesOf}
 use Rattle.crc.proofs.Rows.{length-binary, binary-mod, binary-join}
@@ -41,54 +40,22 @@ module _ (n : ℕ) (h : n ≤ 8) where
   pub byte-join : (a b : ℕ) → b < 2 ^ (8 - n) → binary 8 (a * 2 ^ (8 - n) + b) ≡ binary n a ++ binary (8 - n) b
   byte-join a b l = ap (λ (w : ℕ). binary w (a * 2 ^ (8 - n) + b)) (sym both) ∙ binary-join n (8 - n) a b l
 
-  pub byte-high-lt : (x : ℕ) → x < 256 → x / 2 ^ (8 - n) < 2 ^ n
-  byte-high-lt x l = shr-lt n (8 - n) (subst (λ (w : ℕ). x < 2 ^ w) (sym both) l)
-
-  pub byte-low-lt : (x : ℕ) → x < 256 → x / 2 ^ n < 2 ^ (8 - n)
-  byte-low-lt x l = let e : 8 ≡ (8 - n) + n = omega arith in shr-lt (8 - n) n (subst (λ (w : ℕ). x < 2 ^ w) e l)
-
 -- ---- as the code has them
 
 module _ (n : ℕ) (h : n < 8) where
   within : n ≤ 8
   within = le-of-lt h
 
-  one-shifted : (1 * 2 ^ n) % 256 ≡ 2 ^ n
-  one-shifted = shl-exact {a = 1} 1 n 8 (lit< tt) (omega arith) ∙ one-mul (2 ^ n)
+  module _ (c x : ℕ) (lc : c < 256) (lx : x < 256) where
+    both-bytes : bitOr ((c * 256) % 65536) x ≡ c * 256 + x
+    both-bytes = ap (λ (m : ℕ). bitOr m x) (shl-exact 8 8 16 lc (omega arith)) ∙ or-shifted c 8 x lx
 
-  pub mask-positive : 1 ≤ (1 * 2 ^ n) % 256
-  mask-positive = subst (λ (x : ℕ). 1 ≤ x) (sym one-shifted) (pow-pos n)
-
-  pub masked : (x : ℕ) → bitAnd x ((1 * 2 ^ n) % 256 - 1) ≡ x % 2 ^ n
-  masked x = ap (λ (m : ℕ). bitAnd x (m - 1)) one-shifted ∙ and-mask x n
-
-  pub last-bits : (x : ℕ) → binary n (bitAnd x ((1 * 2 ^ n) % 256 - 1)) ≡ drop (8 - n) (binary 8 x)
-  last-bits x =
-      let l : 8 - n ≤ 8 = omega arith in
-      let e : 8 - (8 - n) ≡ n = omega arith in
-      ap (binary n) (masked x) ∙ binary-mod n x ∙ ap (λ (w : ℕ). binary w x) (sym e) ∙ sym (drop-byte (8 - n) l x)
-
-  module _ (c x : ℕ) (lc : c < 2 ^ n) (lx : x < 256) where
-    pub joined : bitOr ((c * 2 ^ (8 - n)) % 65536) (x / 2 ^ n) ≡ c * 2 ^ (8 - n) + x / 2 ^ n
-    joined =
-        ap (λ (m : ℕ). bitOr m (x / 2 ^ n)) (shl-exact n (8 - n) 16 lc (omega arith))
-        ∙ or-shifted c (8 - n) (x / 2 ^ n) (byte-low-lt n within x lx)
-
-    pub joined-lt : bitOr ((c * 2 ^ (8 - n)) % 65536) (x / 2 ^ n) < 256
-    joined-lt =
-        subst (λ (m : ℕ). m < 256) (sym joined)
-        (subst (λ (m : ℕ). c * 2 ^ (8 - n) + x / 2 ^ n < m) (sym (pow-add 2 n (8 - n)) ∙ ap (λ (w : ℕ). 2 ^ w) (both n within))
-        (digits-lt lc (byte-low-lt n within x lx)))
-
-    pub joined-bits : binary 8 (bitOr ((c * 2 ^ (8 - n)) % 65536) (x / 2 ^ n)) ≡ take 8 (binary n c ++ binary 8 x)
+    pub joined-bits : binary 8 (bitAnd (bitOr ((c * 256) % 65536) x / 2 ^ n) 255) ≡ take 8 (binary n c ++ binary 8 x)
     joined-bits =
-        let e : 8 - (8 - n) ≡ n = omega arith in
-        let l : 8 - n ≤ 8 = omega arith in
-        ap (binary 8) joined ∙ byte-join n within c (x / 2 ^ n) (byte-low-lt n within x lx)
-        ∙ ap (λ (m : ℕ). binary n c ++ binary (8 - n) (x / 2 ^ m)) (sym e)
-        ∙ ap (λ (r : Bits). binary n c ++ r) (sym (take-byte (8 - n) l x))
-        ∙ sym (take-append-add (binary n c) (binary 8 x) (8 - n))
-        ∙ ap (λ (m : ℕ). take m (binary n c ++ binary 8 x)) (ap (λ (m : ℕ). m + (8 - n)) (length-binary n c) ∙ both n within)
+        let w : ℕ = c * 256 + x in
+        let e : 8 + n ≡ n + 8 = omega arith in
+        ap (λ (m : ℕ). binary 8 (bitAnd (m / 2 ^ n) 255)) both-bytes ∙ ap (binary 8) (and-mask (w / 2 ^ n) 8) ∙ binary-mod 8 (w / 2 ^ n)
+        ∙ sym (take-binary 8 n w) ∙ ap (λ (v : ℕ). take 8 (binary v w)) e ∙ ap (take 8) (binary-join n 8 c x lx)
 
   ones : 255 / 2 ^ n ≡ 2 ^ (8 - n) - 1
   ones =
@@ -135,24 +102,26 @@ held-bits array held at s c e hs ha h =
     ∙ ap (λ (k : ℕ). take k (bitsOf array)) e
 
 -- a byte joined of carried bits and a new byte, and the bits carried on
-carry-on : (s c x v y : ℕ) → s ≤ 8 → binary 8 v ≡ take 8 (binary s c ++ binary 8 x) → binary s y ≡ drop (8 - s) (binary 8 x)
-    → binary 8 v ++ binary s y ≡ binary s c ++ binary 8 x
-carry-on s c x v y h e f =
+carry-on : (s c x v : ℕ) → s ≤ 8 → binary 8 v ≡ take 8 (binary s c ++ binary 8 x) → binary 8 v ++ binary s x ≡ binary s c ++ binary 8 x
+carry-on s c x v h e =
+    let l : 8 - s ≤ 8 = omega arith in
+    let k : 8 - (8 - s) ≡ s = omega arith in
+    let f : binary s x ≡ drop (8 - s) (binary 8 x) = sym (drop-byte (8 - s) l x ∙ ap (λ (w : ℕ). binary w x) k) in
     let n : 8 ≡ length (binary s c) + (8 - s) = omega (arith, length-binary s c) in
     ap₂ (λ (a b : Bits). a ++ b) e (f ∙ sym (drop-past (binary s c) (binary 8 x) 8 (8 - s) n))
     ∙ take-append-drop 8 (binary s c ++ binary 8 x)
 
-pub one-byte-more : (array line : List ℕ) (at i s c v y : ℕ) (front : Bits) → at < length array → i < length line → s ≤ 8
-    → binary 8 v ≡ take 8 (binary s c ++ binary 8 (getD line i 0)) → binary s y ≡ drop (8 - s) (binary 8 (getD line i 0))
+pub one-byte-more : (array line : List ℕ) (at i s c v : ℕ) (front : Bits) → at < length array → i < length line → s ≤ 8
+    → binary 8 v ≡ take 8 (binary s c ++ binary 8 (getD line i 0))
     → bitsOf (take at array) ++ binary s c ≡ front ++ bitsOf (take i line)
-    → bitsOf (take (suc at) (set array at v)) ++ binary s y ≡ front ++ bitsOf (take (suc i) line)
-one-byte-more array line at i s c v y front ha hl hs e f h =
+    → bitsOf (take (suc at) (set array at v)) ++ binary s (getD line i 0) ≡ front ++ bitsOf (take (suc i) line)
+one-byte-more array line at i s c v front ha hl hs e h =
     let x : ℕ = getD line i 0 in
     let t : Bits = bitsOf (take at array) in
-    ap (λ (l : List ℕ). bitsOf l ++ binary s y) (take-suc-set array at v ha)
-    ∙ ap (λ (l : Bits). l ++ binary s y) (bitsOf-last (take at array) v)
-    ∙ append-assoc t (binary 8 v) (binary s y)
-    ∙ ap (λ (l : Bits). t ++ l) (carry-on s c x v y hs e f)
+    ap (λ (l : List ℕ). bitsOf l ++ binary s x) (take-suc-set array at v ha)
+    ∙ ap (λ (l : Bits). l ++ binary s x) (bitsOf-last (take at array) v)
+    ∙ append-assoc t (binary 8 v) (binary s x)
+    ∙ ap (λ (l : Bits). t ++ l) (carry-on s c x v hs e)
     ∙ sym (append-assoc t (binary s c) (binary 8 x))
     ∙ ap (λ (l : Bits). l ++ binary 8 x) h
     ∙ append-assoc front (bitsOf (take i line)) (binary 8 x)

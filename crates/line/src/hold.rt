@@ -1,33 +1,25 @@
 // The bits of one unfinished block: new ones are moved in behind those held, by bytes.
 ghost use mathlib.Core.Path.{_≡_};
 ghost use mathlib.Core.List.{_++_};
-ghost use Prim.Native.Nat.{_+_, _-_, _*_, _^_, _≤_, _<_};
+ghost use Prim.Native.Nat.{_+_, _*_, _≤_, _<_};
 ghost use lib.ListN.{length, take, drop, getD};
 ghost use Rattle.crc.specs.Bits.{binary, bitsOf, bytesOf};
 ghost use Rattle.line.specs.Receiving.{arrayBytes, overwrite};
 
-// The first n bits of a byte, as a number.
+// The first n bits of a byte, as the last n of a byte.
 fn first_bits(x: u8, n: usize) -> u8
     requires { ⌜ n < 8 ⌝ }
-    ensures { λ r. ⌜ (r < 2 ^ n) × (binary n r ≡ take n (binary 8 x)) ⌝ }
+    ensures { λ r. ⌜ binary n r ≡ take n (binary 8 x) ⌝ }
 {
     ((x as u16) >> (8 - n)) as u8
 }
 
-// The last n bits of a byte, as a number.
-fn last_bits(x: u8, n: usize) -> u8
-    requires { ⌜ n < 8 ⌝ }
-    ensures { λ r. ⌜ (r < 2 ^ n) × (binary n r ≡ drop (8 - n) (binary 8 x)) ⌝ }
-{
-    x & ((1 << n) - 1)
-}
-
-// The n bits of carry, then the first bits of x.
+// The last n bits of carry, then the first bits of x.
 fn join(carry: u8, n: usize, x: u8) -> u8
-    requires { ⌜ (n < 8) × (carry < 2 ^ n) ⌝ }
+    requires { ⌜ n < 8 ⌝ }
     ensures { λ r. ⌜ binary 8 r ≡ take 8 (binary n carry ++ binary 8 x) ⌝ }
 {
-    ((carry as u16) << (8 - n) | (x as u16) >> n) as u8
+    (((carry as u16) << 8 | x as u16) >> n & 255) as u8
 }
 
 // The first n bits of one byte, then the others of another.
@@ -47,7 +39,7 @@ fn byte_at(s: &[u8], i: usize) -> u8
 
 // The first count bits of the line become the array's from place held on; no other bit of the array changes.
 pub fn put_bits(array: &mut [u8], held: usize, line: &[u8], count: usize)
-    requires { ⌜ (length (now array) ≡ arrayBytes) × (held + count ≤ 3863) × (count ≤ 8 * length (now line)) ⌝ }
+    requires { ⌜ (length (now array) ≡ arrayBytes) × (held + count < 8 * arrayBytes) × (count ≤ 8 * length (now line)) ⌝ }
     ensures { λ _. ⌜ now (array .exit) ≡ bytesOf arrayBytes (overwrite held (take count (bitsOf (now (line .entry)))) (bitsOf (now (array .entry)))) ⌝ }
 {
     let shift = held % 8;
@@ -58,7 +50,7 @@ pub fn put_bits(array: &mut [u8], held: usize, line: &[u8], count: usize)
     while i < whole {
         let x = line[i];
         array[from + i] = join(carry, shift, x);
-        carry = last_bits(x, shift);
+        carry = x;
         i += 1;
     }
     let to = from + whole;

@@ -31,10 +31,12 @@ pub const VERSION: u8 = 1;
 
 // Whether a slice holds fewer bits than these.
 pub fn too_short(s: &[u8], bits: usize) -> bool
-    requires { ⌜ bits ≤ longestOrder ⌝ }
     ensures { λ r. ⌜ r ≡ tooShort (now (s .entry)) bits ⌝ }
 {
-    s.len() < (bits + 7) / 8
+    if bits == 0 {
+        return false;
+    }
+    s.len() <= (bits - 1) / 8
 }
 
 // The number of data items that an order of these bits makes.

@@ -1,6 +1,6 @@
 // The receiving end.
 ghost use mathlib.Core.Path.{_≡_};
-ghost use mathlib.Core.Bool.{true, false, cond, _||_};
+ghost use mathlib.Core.Bool.{true, _||_};
 ghost use mathlib.Core.List.{[]};
 ghost use Prim.Native.Nat.{_+_, _*_, _^_, _≤_, _<_};
 ghost use lib.Dec.{leb};
@@ -15,12 +15,17 @@ ghost use Rattle.line.specs.Receiving.{OpenReceiver, freshReceiver, rece
 ghost use Rattle.line.specs.ReceiveCode.{windowBits, ruleOf, stepped, handedBack, acceptance, acceptedStore, judged, Handed};
 use crate::hold::put_bits;
 use crate::order::MOST_ITEMS;
+use crate::order::OVERHEAD;
+use crate::order::too_short;
 use crate::rules::Rule;
 use crate::rules::looks_sync;
 use crate::rules::service_rule;
 use crate::window::Window;
 use crate::window::bit_at;
 use block::Read;
+
+// The eighth bad block in a row starts a search.
+const LAST_BAD: usize = 8;
 
 pub enum Phase {
     Search,
@@ -83,16 +88,6 @@ pub struct Opened {
     pub answer: Opening,
 }
 
-// Whether a slice holds fewer bits than these.
-fn short(s: &[u8], bits: usize) -> bool
-    ensures { λ r. ⌜ r ≡ tooShort (now (s .entry)) bits ⌝ }
-{
-    if bits == 0 {
-        return false;
-    }
-    s.len() <= (bits - 1) / 8
-}
-
 // The first m bytes of the data become the store's from byte from on.
 fn keep(payload: &[u8], m: usize, from: usize, store: &mut [u8])
     requires { ⌜ (m ≤ length (now payload)) × (from + m ≤ length (now store)) ⌝ }
@@ -122,6 +117,7 @@ impl Receiver {
         }
     }
 
+    // A receiver of blocks of k data bits.
     pub fn open(k: usize) -> Opened
         ensures { λ r. ⌜ OpenReceiver k r ⌝ }
     {
@@ -145,7 +141,7 @@ impl Receiver {
         if !block::known_length(k) {
             return false;
         }
-        if 8 <= self.row {
+        if LAST_BAD <= self.row {
             return false;
         }
         if MOST_ITEMS < self.taken {
@@ -154,7 +150,7 @@ impl Receiver {
         let phase = self.phase;
         match phase {
             Phase::Search => self.held <= 15,
-            _ => self.held < k + 20,
+            _ => self.held < k + OVERHEAD,
         }
     }
 
@@ -206,37 +202,15 @@ impl Receiver {
         ensures { λ r. ⌜ r ≡ stepped (S.badly self (leb S.lastBad (self .row + 1) || lost)) Event.Bad used ⌝ }
     {
         let row = self.row + 1;
-        if 8 <= row {
-            return self.after(
-                0,
-                true,
-                self.taken,
-                self.ended,
-                Phase::Search,
-                Event::Bad,
-                used,
-            );
+        let taken = self.taken;
+        let ended = self.ended;
+        if LAST_BAD <= row {
+            return self.after(0, true, taken, ended, Phase::Search, Event::Bad, used);
         }
         if lost {
-            return self.after(
-                0,
-                true,
-                self.taken,
-                self.ended,
-                Phase::Search,
-                Event::Bad,
-                used,
-            );
+            return self.after(0, true, taken, ended, Phase::Search, Event::Bad, used);
         }
-        self.after(
-            row,
-            true,
-            self.taken,
-            self.ended,
-            Phase::InStep,
-            Event::Bad,
-            used,
-        )
+        self.after(row, true, taken, ended, Phase::InStep, Event::Bad, used)
     }
 
     // What a rule comes to, the store apart.
@@ -304,7 +278,7 @@ impl Receiver {
         ensures { λ r. ⌜ Handed self (now (store .entry)) (S.inStep self (take bits (bitsOf (now (line .entry))))) r (now (store .exit)) ⌝ }
     {
         let held = self.held;
-        let missing = self.setup.k + 20 - held;
+        let missing = self.setup.k + OVERHEAD - held;
         let mut array = self.bits;
         if bits < missing {
             put_bits(&mut array, held, line, bits);
@@ -412,6 +386,7 @@ impl Receiver {
         }
     }
 
+    // The next event among these bits of a line, with the number of them used; an accepted block's data go to the store.
     pub fn receive(self, line: &[u8], bits: usize, store: &mut [u8]) -> Step
         ensures { λ r. ⌜ Receive self (now (line .entry)) bits (now (store .entry)) r (now (store .exit)) ⌝ }
     {
@@ -421,7 +396,7 @@ impl Receiver {
                 answer: Received::Refused(block::SPOILED),
             };
         }
-        if short(line, bits) {
+        if too_short(line, bits) {
             return Step {
                 state: self,
                 answer: Received::Refused(block::SHORT),

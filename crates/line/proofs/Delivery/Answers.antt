@@ -2,17 +2,21 @@
 -- the openings and the arguments. Assumes nothing.
 use mathlib.Core.Path.{_≡_, refl, ap₂, _∙_}
 use mathlib.Core.Bool.{Bool}
-use mathlib.Core.List.{List, _∷_}
+use mathlib.Core.List.{List, [], _∷_}
 use Prim.Native.Nat.{ℕ}
 use Rattle.crc.specs.Bits.{Bits}
 use Rattle.block.specs.Answer.{Answer, refused, done}
-use Rattle.line.specs.Sending.{Block, send, sendState, sentAnswer, Send}
-use Rattle.line.specs.Receiving.{Reading, receive, receiveState, receivedAnswer, Receive}
+use Rattle.line.specs.Sending.{Block, synchronising, item, send, sendState, sendBytes, sentAnswer, Send}
+use Rattle.line.specs.Receiving.{meaning, Reading, receive, receiveState, receiveStore, reported, receivedAnswer, Receive}
 use Rattle.line.specs.Course.{Call, sending, receiving, World, sendAfter, receiveAfter, next, Result, result, results, Run, none, sends, receives, observed}
 use Rattle.line.specs.declared.sender.Sender.{Sender}
 use Rattle.line.specs.declared.sender.Step as SenderStep
+use Rattle.line.specs.declared.sender.Sent.{Sent}
+use Rattle.line.specs.declared.sender.Sent.the-variants as W
 use Rattle.line.specs.declared.receiver.Receiver.{Receiver}
 use Rattle.line.specs.declared.receiver.Step as ReceiverStep
+use Rattle.line.specs.declared.receiver.Received.{Received}
+use Rattle.line.specs.declared.receiver.Received.the-variants as R
 
 -- ---- the states that the course hands on are those that the calls hand back
 
@@ -66,3 +70,36 @@ answers (receives {r = r} {line = line} {count = count} {store = store} step sto
     ap₂ _∷_ (receive-result w r f line count store step store′ kept)
     (answers run (next w (receiving line count store))
     (sender-heard w store (receive (w .receiver) line count store) ∙ e) (receive-next w r f line count store step store′ kept))
+
+-- ---- every list of calls has such a run: the promises can be kept
+
+sentOf : Answer Block → Sent
+sentOf (refused n) = W.Refused n
+sentOf (done synchronising) = W.Synchronising
+sentOf (done (item i end used cancel)) = W.Item i end used cancel
+
+sent-of : (a : Answer Block) → sentAnswer (sentOf a) ≡ a
+unfolding sentOf
+sent-of (refused n) = refl
+sent-of (done synchronising) = refl
+sent-of (done (item i end used cancel)) = refl
+
+receivedOf : Answer Reading → Received
+receivedOf (refused n) = R.Refused n
+receivedOf (done x) = R.Used (meaning (x .rule) .event) (x .used)
+
+received-of : (a : Answer Reading) → receivedAnswer (receivedOf a) ≡ reported a
+unfolding receivedOf
+received-of (refused n) = refl
+received-of (done x) = refl
+
+pub runs : (s : Sender) (r : Receiver) (calls : List Call) → Run s r calls
+runs s r [] = none
+runs s r (sending order reading slice arrives ∷ calls) =
+    let a = send s order reading slice in
+    sends (record { state = sendState s reading a; answer = sentOf a }) (sendBytes s order slice a)
+    (record { answers = sent-of a; state = refl; writes = refl }) (runs (sendState s reading a) r calls)
+runs s r (receiving line count store ∷ calls) =
+    let a = receive r line count store in
+    receives (record { state = receiveState r a; answer = receivedOf a }) (receiveStore r store a)
+    (record { answers = received-of a; state = refl; writes = refl }) (runs s (receiveState r a) calls)

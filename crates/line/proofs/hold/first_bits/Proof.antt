@@ -1,10 +1,10 @@
 -- `first_bits` meets its contract: a byte shifted right. Assumes nothing.
 use mathlib.Core.Path.{sym}
-use Prim.Native.Nat.{_-_, _≤_}
+use Prim.Native.Nat.{_-_}
 use native.Mathlib.Nat.{lt-of-le-of-lt}
 use native.Mathlib.Omega.{arith}
 use lib.Pow.{shr-le}
-use Rattle.line.proofs.Moved.{byte-high-lt, take-byte}
+use Rattle.line.proofs.Moved.{take-byte}
 use borrow.Author.Needs.{needs}
 use Rattle.line.proofs.hold.first_bits.Statement.{statement}
 use Rattle.line.proofs.hold.first_bits.Tie as tie
@@ -22,9 +22,7 @@ cast-result-2 : tie.Need-cast-result-2
 cast-result-2 c = record { fits = lt-of-le-of-lt (shr-le (c .args .x) (8 - c .args .n)) (search needs) }
 
 returns : tie.Need-returns
-returns c =
-    let h : c .args .n ≤ 8 = omega arith in
-    (byte-high-lt (c .args .n) h (c .args .x) (search needs), sym (take-byte (c .args .n) h (c .args .x)))
+returns c = sym (take-byte (c .args .n) (omega arith) (c .args .x))
 
 pub first-bits-spec : {M : Type 1} → statement M
 first-bits-spec = tie.close (tie.spec sub-result cast-result shr-result cast-result-2 returns)

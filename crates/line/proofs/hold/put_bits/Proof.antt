@@ -1,9 +1,9 @@
 -- `put_bits` meets its contract: after i turns the array's first bytes and the carried bits are the bits held and i bytes of the line. Assumes nothing.
 use mathlib.Core.Path.{_≡_, refl, sym, ap, _∙_}
 use mathlib.Core.List.{_++_, append-nil}
-use Prim.Native.Nat.{ℕ, suc, _+_, _-_, _*_, _/_, _%_, _^_, _≤_, _<_}
+use Prim.Native.Nat.{ℕ, suc, _+_, _-_, _*_, _/_, _%_, _≤_}
 use native.Mathlib.Omega.{arith}
-use lib.ListN.{length, take, drop, set, length-set}
+use lib.ListN.{length, take, drop, getD, set, length-set}
 use Rattle.crc.specs.Bits.{binary, bitsOf}
 use native.Mathlib.Nat.{add-zero}
 use native.Mathlib.Numerals.{add-one}
@@ -18,7 +18,7 @@ use Rattle.line.proofs.hold.put_bits.Tie as tie
 
 abbrev Inv-loop : tie.InvT-loop
 Inv-loop array₀ held line count shift from whole carry₀ i₀ array carry i =
-    (i ≤ whole) × (length array ≡ length array₀) × (carry < 2 ^ shift) × (drop (from + i) array ≡ drop (from + i) array₀)
+    (i ≤ whole) × (length array ≡ length array₀) × (drop (from + i) array ≡ drop (from + i) array₀)
     × (bitsOf (take (from + i) array) ++ binary shift carry ≡ take held (bitsOf array₀) ++ bitsOf (take i line))
 
 abbrev μ-loop : tie.MeasureT-loop
@@ -41,10 +41,9 @@ loop-holds c =
     let e : 8 * from + a .held % 8 ≡ a .held = omega arith in (
       search needs,
       refl,
-      c .first-bits .ensures .0,
       refl,
       ap (λ (k : ℕ). bitsOf (take k (a .array .now)) ++ binary (a .held % 8) (c .first-bits .result)) (add-zero from)
-          ∙ held-bits (a .array .now) (a .held) from (a .held % 8) (c .first-bits .result) e (omega arith) (omega arith) (c .first-bits .ensures .1)
+          ∙ held-bits (a .array .now) (a .held) from (a .held % 8) (c .first-bits .result) e (omega arith) (omega arith) (c .first-bits .ensures)
           ∙ sym (append-nil (take (a .held) (bitsOf (a .array .now)))),
     )
 
@@ -60,9 +59,6 @@ add-array c = omega arith
 slice-write-array : tie.Need-slice-write-array Inv-loop μ-loop
 slice-write-array c = omega arith
 
-last-bits-requires : tie.Need-last-bits-requires Inv-loop μ-loop
-last-bits-requires c κs = search needs
-
 add-i : tie.Need-add-i Inv-loop μ-loop
 add-i c = omega arith
 
@@ -71,22 +67,21 @@ loop-less c = omega arith
 
 loop-again : tie.Need-loop-again Inv-loop μ-loop
 loop-again c =
-    let a = c .before .before .before .before .before .before .before .before .before .args in
-    let l = c .before .before .before .before .loop in
+    let a = c .before .before .before .before .before .before .before .before .args in
+    let l = c .before .before .before .loop in
     let from : ℕ = a .held / 8 in
     let s : ℕ = a .held % 8 in
     let at : ℕ = from + l .i in
     let e : from + (l .i + 1) ≡ suc at = omega arith in (
       omega arith,
-      length-set (l .array) at (c .before .join .result) ∙ l .inv .1,
-      c .last-bits .ensures .0,
-      ap (λ (k : ℕ). drop k (set (l .array) at (c .before .join .result))) e
-          ∙ drop-set-lt (suc at) (l .array) at (c .before .join .result) (omega arith)
-          ∙ further (l .array) (a .array .now) at (l .inv .3)
+      length-set (l .array) at (c .join .result) ∙ l .inv .1,
+      ap (λ (k : ℕ). drop k (set (l .array) at (c .join .result))) e
+          ∙ drop-set-lt (suc at) (l .array) at (c .join .result) (omega arith)
+          ∙ further (l .array) (a .array .now) at (l .inv .2)
           ∙ ap (λ (k : ℕ). drop k (a .array .now)) (sym e),
-      ap (λ (k : ℕ). bitsOf (take k (set (l .array) at (c .before .join .result))) ++ binary s (c .last-bits .result)) e
-          ∙ one-byte-more (l .array) (a .line .now) at (l .i) s (l .carry) (c .before .join .result) (c .last-bits .result) (take (a .held) (bitsOf (a .array .now)))
-          (omega arith) (omega arith) (omega arith) (c .before .join .ensures) (c .last-bits .ensures .1) (l .inv .4)
+      ap (λ (k : ℕ). bitsOf (take k (set (l .array) at (c .join .result))) ++ binary s (getD (a .line .now) (l .i) 0)) e
+          ∙ one-byte-more (l .array) (a .line .now) at (l .i) s (l .carry) (c .join .result) (take (a .held) (bitsOf (a .array .now)))
+          (omega arith) (omega arith) (omega arith) (c .join .ensures) (l .inv .3)
           ∙ ap (λ (k : ℕ). take (a .held) (bitsOf (a .array .now)) ++ bitsOf (take k (a .line .now))) (sym (add-one (l .i))),
     )
 
@@ -129,10 +124,10 @@ returns c =
     (length-set (l .array) at (c .merge .result) ∙ l .inv .1 ∙ c .before .before .before .before .before .before .before .before .before .before .pre .0)
     (set-bytes (l .array) at (c .merge .result) (w .fits) (λ j. c .before .slice-known3 .given j .fits))
     (last-byte (l .array) (a .array .now) (a .line .now) (a .held) (a .count) at whole s ((s + a .count) % 8) (l .carry) (c .before .before .join2 .result) (c .merge .result)
-    (omega arith) (omega arith) (rw done at (l .inv .3)) (omega arith) (omega arith) (omega arith) (omega arith) (omega arith)
+    (omega arith) (omega arith) (rw done at (l .inv .2)) (omega arith) (omega arith) (omega arith) (omega arith) (omega arith)
     (c .before .before .join2 .ensures ∙ ap (λ (x : ℕ). take 8 (binary s (l .carry) ++ binary 8 x)) (c .before .before .before .byte-at .ensures))
     (c .merge .ensures)
-    (rw done at (l .inv .4)))
+    (rw done at (l .inv .3)))
 
 pub put-bits-spec : {M : Type 1} → statement M
 put-bits-spec =
@@ -148,7 +143,6 @@ put-bits-spec =
     join-requires
     add-array
     slice-write-array
-    last-bits-requires
     add-i
     loop-less
     loop-again

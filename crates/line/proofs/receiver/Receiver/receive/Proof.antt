@@ -14,19 +14,19 @@ returns c =
     let a = c .before .before .before .before .args in
     refuses-spoiled (a .self) (a .line .now) (a .bits) (a .store .now) (sym (c .before .in-range .ensures) ∙ not-true _ (c .if1 .taken))
 
-short-requires : tie.Need-short-requires
-short-requires c κs = search needs
+too-short-requires : tie.Need-too-short-requires
+too-short-requires c κs = search needs
 
 returns-2 : tie.Need-returns-2
 returns-2 c =
     let a = c .before .before .before .before .before .before .args in
     refuses-short (a .self) (a .line .now) (a .bits) (a .store .now) (sym (c .before .before .before .in-range .ensures) ∙ not-false _ (c .before .before .if1 .left))
-    (sym (c .before .short .ensures) ∙ c .if2 .taken)
+    (sym (c .before .too-short .ensures) ∙ c .if2 .taken)
 
 read-requires : tie.Need-read-requires
 read-requires c κs = (
   sym (c .before .before .before .before .in-range .ensures) ∙ not-false _ (c .before .before .before .if1 .left),
-  ltb-false _ _ (sym (c .before .before .short .ensures) ∙ c .before .if2 .left),
+  ltb-false _ _ (sym (c .before .before .too-short .ensures) ∙ c .before .if2 .left),
 )
 
 same-length : tie.Need-same-length
@@ -36,7 +36,7 @@ returns-3 : tie.Need-returns-3
 returns-3 c =
     let a = c .before .before .before .before .before .before .before .before .before .before .args in
     receives (a .self) (a .line .now) (a .bits) (a .store .now) (sym (c .before .before .before .before .before .before .before .in-range .ensures) ∙ not-false _ (c .before .before .before .before .before .before .if1 .left))
-    (sym (c .before .before .before .before .before .short .ensures) ∙ c .before .before .before .before .if2 .left) _ _ (c .before .before .read .ensures)
+    (sym (c .before .before .before .before .before .too-short .ensures) ∙ c .before .before .before .before .if2 .left) _ _ (c .before .before .read .ensures)
 
 pub receive-spec : {M : Type 1} → statement M
 receive-spec =
@@ -44,7 +44,7 @@ receive-spec =
     (tie.spec
     in-range-requires
     returns
-    short-requires
+    too-short-requires
     returns-2
     read-requires
     same-length

@@ -51,9 +51,7 @@ returns-2 c =
     (rest-call (a .self) (a .order .now) (a .reading) (a .block .now) (ranged e) (sym (c .before .at-rest .ensures) ∙ c .if2 .taken))
 
 too-short-requires : tie.Need-too-short-requires
-too-short-requires c κs =
-    let e = c .before .before .before in
-    valid-length _ (in-range _ (ranged e) .valid) .1
+too-short-requires c κs = search needs
 
 returns-3 : tie.Need-returns-3
 returns-3 c =

@@ -2,6 +2,7 @@
 use mathlib.Core.Path.{_≡_, refl, ap}
 use mathlib.Core.Bool.{true, false}
 use mathlib.Core.List.{List, [], _∷_, _++_}
+use native.Mathlib.Omega.{arith}
 use Prim.Native.Nat.{ℕ}
 use lib.ListN.{replicate}
 use Rattle.crc.specs.Bits.{Bits, binary, number, bitsOf, bytesOf, xorBits, parity}
@@ -9,16 +10,21 @@ use Rattle.crc.specs.Check.{remainder, passes, check}
 use Rattle.block.specs.Answer as A
 use Rattle.block.specs.Lengths.{isLength}
 use Rattle.block.specs.Block.{blockBits, verdict, syncBlock, cancelled}
 use Rattle.line.specs.Order.{validLength, itemCount, letter, isLetter, orderBits, filled, endPayload, itemService, itemPayload, itemBits}
-use Rattle.line.specs.Sending.{synchronising, item, freshSender, senderInRange, send, transmit, plainBits, sentBits}
-use Rattle.line.specs.Receiving.{freshReceiver, noBytes, place, endRule, serviceRule, looksSync, judge, inStep, readings, receiverInRange, receive, storeAt}
+use Rattle.line.specs.LoopTime.{isSpeed, blockTime, hasEntry, longestLoop, loopTime}
+use Rattle.line.specs.Sending.{synchronising, item, freshSender, openSender, senderInRange, send, transmit, plainBits, sentBits}
+use Rattle.line.specs.Receiving.{freshReceiver, openReceiver, noBytes, place, endRule, serviceRule, looksSync, judge, inStep, readings, receiverInRange, receive, storeAt}
 use Rattle.line.specs.Course.{sending, World, opened, course, final}
-use Rattle.line.specs.Delivery.{Assumptions}
+use Rattle.line.specs.Delivery.{Assumptions, Openings, Delivered, Delivery}
 use Rattle.line.specs.declared.sender.Next.the-variants.{Sync, Older, Newer}
 use Rattle.line.specs.declared.receiver.Event.the-variants as E
+use Rattle.line.specs.declared.receiver.Opened.{Opened}
+use Rattle.line.specs.declared.receiver.Opening.the-variants as Opening
+use Rattle.line.proofs.Delivery.Answers.{runs}
+use Rattle.line.proofs.Delivery.Theorem.{delivery}
 use Rattle.line.specs.declared.receiver.Phase.the-variants as P
-use Rattle.line.proofs.Delivery.Tally.{refuses, tallied, Row, Rows, Goes, allCalls, allTally, lastWorld, walk, goes-meets}
-use Rattle.line.proofs.Delivery.Witnesses.Periods.{sender, well, between, plain}
+use Rattle.witness.proofs.Tally.{refuses, tallied, Row, Rows, Goes, allCalls, allTally, lastWorld, walk, goes-meets}
+use Rattle.witness.proofs.Periods.{sender, well, between, plain}
 
 abbrev order : List ℕ
 order = 0xa5 ∷ []
@@ -83,3 +89,23 @@ example = goes-meets goes refl refl
 -- at the end the store has the order with its zero filling, and behind it what it had
 pub example-stored : final w₀ (allCalls rows) .store ≡ stored
 example-stored = ap (λ (w : World). w .store) (goes .leads)
+
+-- both ends opened at 200 bit/s with loop 0, and what demand 3 says of the calls as they run
+abbrev ready : Opened
+ready = record { state = freshReceiver 240; answer = Opening.Opened }
+
+pub example-opened : Openings 240 200 0 8 order (freshSender 240 8) ready first
+unfolding openSender loopTime isSpeed hasEntry longestLoop blockTime openReceiver isLength itemCount
+example-opened =
+    record {
+      sender = record { answers = refl };
+      receiver = record { answers = refl; state = refl };
+      not-refused = refl;
+      room = omega arith;
+    }
+
+pub example-delivered : Delivered 240 8 content first (runs (freshSender 240 8) (freshReceiver 240) (allCalls rows))
+unfolding Delivery
+example-delivered =
+    delivery 240 200 0 8 order (freshSender 240 8) ready first example-opened (allCalls rows)
+    (runs (freshSender 240 8) (freshReceiver 240) (allCalls rows))

@@ -1,6 +1,11 @@
+pub mod Corners
+pub mod Sends
+pub mod Meets
+pub mod Tally
 pub mod Periods
 pub mod TwoItems
 pub mod Example
 pub mod Repeats
 pub mod Losses
 pub mod Moved
+pub mod FourPeriods

@@ -2,6 +2,7 @@
 use mathlib.Core.Path.{_≡_, refl}
 use mathlib.Core.Bool.{Bool, true, false, not}
 use mathlib.Core.List.{[], _∷_, _++_}
+use native.Mathlib.Omega.{arith}
 use Prim.Native.Nat.{ℕ}
 use lib.ListN.{length, take, drop, replicate}
 use Rattle.crc.specs.Bits.{Bits, binary, number, bitsOf, bytesOf, zeros}
@@ -10,12 +11,14 @@ use Rattle.block.specs.Answer as A
 use Rattle.block.specs.Answer.{Answer, refused, done}
 use Rattle.block.specs.Lengths.{isLength}
 use Rattle.block.specs.Block.{blockBits, verdict, syncBlock, syncSequence}
 use Rattle.line.specs.Order.{validLength, itemCount, letter, letterA, letterB, letterC, isLetter, endPayload, endService}
 use Rattle.line.specs.Receiving.{freshReceiver, noBytes, Rule, found, sync-block, check-fails, accepts, previous, out-of-sequence, ends, wrong-length, ends-again, anything-else, unfinished, standing, place, endRule, serviceRule, looksSync, judge, blank, Reading, idle, searching, inStep, readings, receiverInRange, receive}
 use Rattle.line.specs.declared.receiver.Receiver.{Receiver}
 use Rattle.line.specs.declared.receiver.Phase.{Phase}
 use Rattle.line.specs.declared.receiver.Phase.the-variants as P
 use Rattle.line.specs.declared.receiver.Event.the-variants as E
+use Rattle.line.proofs.Delivery.Holding.{length-noBytes}
+use Rattle.line.proofs.Delivery.BitByBit.{bitByBit, Waiting, bit-by-bit}
 
 -- ---- states and blocks
 
@@ -160,3 +163,24 @@ corners =
       store-enough = refl;
       store-not-judged = refl;
     }
+
+-- a block split into calls of one bit is read as in one call
+abbrev tail : Bits
+tail = drop 1 (block letterA)
+
+waiting : Waiting (state 2 true 0 false P.InStep) (length (false ∷ tail))
+unfolding check remainder blockBits binary freshReceiver isLength
+waiting =
+    record {
+      known = refl;
+      row = omega arith;
+      taken = omega arith;
+      phase = refl;
+      array = length-noBytes;
+      held = refl;
+    }
+
+pub one-bit-calls : bitByBit (state 2 true 0 false P.InStep) (replicate 30 0) (false ∷ tail) (refused 0)
+    ≡ done (record { rule = accepts; row = block letterA; used = 1; state = good 1 false })
+unfolding judge looksSync verdict passes remainder check blockBits serviceRule place letter isLetter number binary bitsOf bytesOf freshReceiver
+one-bit-calls = bit-by-bit (state 2 true 0 false P.InStep) (replicate 30 0) false tail (refused 0) waiting

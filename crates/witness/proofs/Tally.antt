@@ -5,13 +5,13 @@ use mathlib.Core.Bool.{Bool, true, false, _&&_, _||_, true≢false}
 use mathlib.Core.List.{List, [], _∷_, _++_}
 use Prim.Native.Nat.{ℕ}
 use Rattle.crc.specs.Bits.{Bits}
 use Rattle.line.specs.Sending.{Block}
 use Rattle.line.specs.Course.{Call, World, Entry, send-refused, receive-refused, sent, heard, course, final}
 use Rattle.line.specs.Delivery.{some, eventOf, isAlarm, Assumptions}
 use Rattle.line.specs.declared.receiver.Event.{Event}
 use Rattle.line.proofs.Delivery.Prefixes.{course-append, final-append}
 use Rattle.line.proofs.Delivery.Spacing.{spaced, pendsAll, spaced-append, pendsAll-append, BetweenLosses, between-spaced}
-use Rattle.line.proofs.Delivery.Meets.{sameBits, entryMeets, eachMeets, OtherClauses, others-meet, meets}
+use Rattle.witness.proofs.Meets.{sameBits, entryMeets, eachMeets, OtherClauses, others-meet, meets}
 
 -- what a call did: its refusal; or the block sent, the reading, the return bit then standing and whether the copy is as
 -- sent; or the event and the number of bits used

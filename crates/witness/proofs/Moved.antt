@@ -9,16 +9,16 @@ use Rattle.crc.specs.Bits.{Bits, binary, number, bitsOf, bytesOf, xorBits, pari
 use Rattle.crc.specs.Check.{remainder, passes, check}
 use Rattle.block.specs.Lengths.{isLength}
 use Rattle.block.specs.Block.{blockBits, verdict, syncBlock, cancelled}
 use Rattle.line.specs.Order.{validLength, itemCount, letter, isLetter, orderBits, filled, endPayload, itemService, itemPayload, itemBits}
 use Rattle.line.specs.Sending.{synchronising, item, freshSender, senderInRange, send, transmit, plainBits, sentBits}
 use Rattle.line.specs.Receiving.{freshReceiver, noBytes, place, endRule, serviceRule, looksSync, judge, inStep, readings, receiverInRange, receive, storeAt}
 use Rattle.line.specs.Course.{World, opened, course, final}
 use Rattle.line.specs.declared.sender.Next.the-variants.{Sync, Older, Newer}
 use Rattle.line.specs.declared.receiver.Event.the-variants as E
 use Rattle.line.proofs.Delivery.Spacing.{BetweenLosses}
-use Rattle.line.proofs.Delivery.Meets.{OtherClauses}
-use Rattle.line.proofs.Delivery.Tally.{Row, Rows, Goes, allCalls, allTally, lastWorld, walk, goes-otherwise}
-use Rattle.line.proofs.Delivery.Witnesses.Periods.{sender, well, bad, period, plain, damaged}
+use Rattle.witness.proofs.Meets.{OtherClauses}
+use Rattle.witness.proofs.Tally.{Row, Rows, Goes, allCalls, allTally, lastWorld, walk, goes-otherwise}
+use Rattle.witness.proofs.Periods.{sender, well, bad, period, plain, damaged}
 
 -- five data items
 abbrev order : List ℕ

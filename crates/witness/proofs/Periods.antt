@@ -5,16 +5,16 @@ use mathlib.Core.List.{List, [], _∷_}
 use Prim.Native.Nat.{ℕ}
 use lib.ListN.{replicate}
 use Rattle.crc.specs.Bits.{Bits, bytesOf}
 use Rattle.line.specs.Sending.{Block}
 use Rattle.line.specs.Receiving.{freshReceiver, blank}
 use Rattle.line.specs.Course.{sending, receiving, World}
 use Rattle.line.specs.declared.sender.Sender.{Sender}
 use Rattle.line.specs.declared.sender.Next.{Next}
 use Rattle.line.specs.declared.receiver.Receiver.{Receiver}
 use Rattle.line.specs.declared.receiver.Event.{Event}
 use Rattle.line.specs.declared.receiver.Phase.{Phase}
 use Rattle.line.specs.declared.receiver.Phase.the-variants as P
-use Rattle.line.proofs.Delivery.Tally.{sends, hears, tallied, Row}
+use Rattle.witness.proofs.Tally.{sends, hears, tallied, Row}
 
 -- a sender of an order of L bits: its newer item, the run, whether opening lasts, what is next, whether it is finished
 abbrev pub sender : (L newer run : ℕ) → Bool → Next → Bool → Sender

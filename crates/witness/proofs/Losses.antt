@@ -6,17 +6,17 @@ use Rattle.crc.specs.Bits.{binary, number, bitsOf, bytesOf, xorBits, parity}
 use Rattle.crc.specs.Check.{remainder, passes, check}
 use Rattle.block.specs.Lengths.{isLength}
 use Rattle.block.specs.Block.{blockBits, verdict, syncBlock, cancelled}
 use Rattle.line.specs.Order.{validLength, itemCount, letter, isLetter, filled, endPayload, itemService, itemPayload, itemBits}
 use Rattle.line.specs.Sending.{synchronising, item, freshSender, senderInRange, send, transmit, plainBits, sentBits}
 use Rattle.line.specs.Receiving.{freshReceiver, noBytes, place, endRule, serviceRule, looksSync, judge, inStep, readings, receiverInRange, receive, storeAt}
 use Rattle.line.specs.Course.{course}
 use Rattle.line.specs.Delivery.{Assumptions}
 use Rattle.line.specs.declared.sender.Next.the-variants.{Sync, Older, Newer}
 use Rattle.line.specs.declared.receiver.Event.the-variants as E
 use Rattle.line.specs.declared.receiver.Phase.the-variants as P
-use Rattle.line.proofs.Delivery.Tally.{Row, Rows, Goes, allCalls, allTally, lastWorld, walk, goes-meets}
-use Rattle.line.proofs.Delivery.Witnesses.Periods.{sender, receiver, well, bad, period, plain, damaged}
-use Rattle.line.proofs.Delivery.Witnesses.TwoItems.{order, content, block, first, one, two, w₀}
+use Rattle.witness.proofs.Tally.{Row, Rows, Goes, allCalls, allTally, lastWorld, walk, goes-meets}
+use Rattle.witness.proofs.Periods.{sender, receiver, well, bad, period, plain, damaged}
+use Rattle.witness.proofs.TwoItems.{order, content, block, first, one, two, w₀}
 
 -- Item 0 is damaged and its request lost: item 1 brings the sequence alarm, which stays.
 abbrev pub alarms : List Row

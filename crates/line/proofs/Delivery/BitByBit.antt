@@ -1,0 +1,126 @@
+-- A block split into calls of one bit is read as it is in one call. Assumes nothing.
+use mathlib.Core.Path.{_≡_, refl, ap, ap₂, _∙_}
+use mathlib.Core.Bool.{Bool, true, false, _&&_, false≢true}
+use mathlib.Core.List.{List, [], _∷_, _++_, append-assoc}
+use native.Mathlib.Omega.{arith}
+use Prim.Native.Nat.{ℕ, suc, _+_, _*_, _≤_, _<_}
+use lib.ListN.{length, take}
+use borrow.Author.Tests.{lt-ltb, le-ltb, le-leb}
+use Rattle.crc.specs.Bits.{Bits, binary, number, bitsOf, bytesOf}
+use Rattle.crc.proofs.Bytes.{length-bytesOf}
+use Rattle.block.specs.Answer.{Answer, done}
+use Rattle.block.specs.Lengths.{isLength, blockLength}
+use Rattle.block.proofs.Lengths.{length-facts}
+use Rattle.line.specs.Order.{mostItems}
+use Rattle.line.specs.Receiving.{arrayBytes, lastBad, Rule, unfinished, standing, found, sync-block, check-fails, accepts, previous, out-of-sequence, ends, wrong-length, ends-again, anything-else, meaning, judge, after, heldBits, Reading, stops, holding, missing, inStep, readings, heldInRange, receiverInRange, judgeStore, receive, receiveState}
+use Rattle.line.specs.declared.receiver.Receiver.{Receiver}
+use Rattle.line.specs.declared.receiver.Phase.{Phase}
+use Rattle.line.specs.declared.receiver.Phase.the-variants as P
+use Rattle.line.proofs.Delivery.Judging.{Judged, as-sync, fails, as-data, as-other, judged}
+use Rattle.line.proofs.Delivery.Holding.{length-holding, heldBits-holding}
+
+-- one call for each bit, each given the state that the last handed back; the last call's answer
+abbrev pub bitByBit : Receiver → List ℕ → Bits → Answer Reading → Answer Reading
+bitByBit s store [] last = last
+bitByBit s store (b ∷ bs) last =
+    bitByBit (receiveState s (receive s (bytesOf 1 (b ∷ [])) 1 store)) store bs (receive s (bytesOf 1 (b ∷ [])) 1 store)
+
+-- in step, and so many bits of the block missing
+pub record Waiting (s : Receiver) (m : ℕ) : Type 0 where
+  pub known : isLength (s .setup .k) ≡ true
+  pub row : s .row < lastBad
+  pub taken : s .taken ≤ mostItems
+  pub phase : s .phase ≡ P.InStep
+  pub array : length (s .bits) ≡ arrayBytes
+  pub held : s .held + m ≡ blockLength (s .setup .k)
+
+in-range : (s : Receiver) (m : ℕ) → Waiting s (suc m) → receiverInRange s ≡ true
+unfolding receiverInRange
+in-range s m w =
+    ap₂ _&&_ (ap₂ _&&_ (ap₂ _&&_ (w .known) (lt-ltb (s .row) lastBad (w .row))) (le-leb (s .taken) mostItems (w .taken)))
+    (ap (λ (p : Phase). heldInRange p (blockLength (s .setup .k)) (s .held)) (w .phase)
+    ∙ lt-ltb (s .held) (blockLength (s .setup .k)) (omega (arith, w .held)))
+
+bit-lent : (b : Bool) → take 1 (bitsOf (bytesOf 1 (b ∷ []))) ≡ b ∷ []
+unfolding bitsOf bytesOf binary number
+bit-lent true = refl
+bit-lent false = refl
+
+one-call : (s : Receiver) (b : Bool) (store : List ℕ) → receiverInRange s ≡ true → s .phase ≡ P.InStep
+    → receive s (bytesOf 1 (b ∷ [])) 1 store ≡ judgeStore s store (inStep s (b ∷ []))
+unfolding receive readings
+one-call s b store range phase =
+    rw (range, le-ltb (8 * length (bytesOf 1 (b ∷ []))) 1 (omega (arith, length-bytesOf 1 (b ∷ []))), bit-lent b, phase)
+
+module _ (s : Receiver) (b : Bool) where
+  abbrev oneMore : Reading
+  oneMore = record { rule = unfinished; row = []; used = 1; state = holding s (b ∷ []) }
+
+  -- not the block's last
+  bit-held : (m : ℕ) → Waiting s (suc (suc m))
+      → inStep s (b ∷ []) ≡ oneMore
+  unfolding inStep
+  bit-held m w = rw (lt-ltb 1 (missing s) (omega (arith, w .held)))
+
+  waits-on : (m : ℕ) → Waiting s (suc (suc m)) → Waiting (holding s (b ∷ [])) (suc m)
+  waits-on m w =
+      record {
+        known = w .known;
+        row = w .row;
+        taken = w .taken;
+        phase = w .phase;
+        array = length-holding s (b ∷ []);
+        held = omega (arith, w .held);
+      }
+
+  -- the block's last
+  bit-last : Waiting s 1
+      → inStep s (b ∷ []) ≡ stops s (judge (s .setup .k) (s .taken) (s .ended) (heldBits s ++ (b ∷ []))) (heldBits s ++ (b ∷ [])) 1
+  unfolding inStep
+  bit-last w = let one : missing s ≡ 1 = omega (arith, w .held) in rw one refl
+
+-- what a rule that ends a block leaves does not depend on the bits held
+after-holding : (s : Receiver) (new : Bits) {x : Rule} → Judged x → after (holding s new) x ≡ after s x
+after-holding s new as-sync = refl
+after-holding s new fails = refl
+after-holding s new {x} (as-data h) = data-or-end x h
+  where
+    data-or-end : (x : Rule) → meaning x .data-or-end ≡ true → after (holding s new) x ≡ after s x
+    data-or-end unfinished e = absurd (false≢true e)
+    data-or-end (standing alarm) e = absurd (false≢true e)
+    data-or-end found e = refl
+    data-or-end sync-block e = refl
+    data-or-end check-fails e = refl
+    data-or-end accepts e = refl
+    data-or-end previous e = refl
+    data-or-end out-of-sequence e = refl
+    data-or-end (ends L) e = refl
+    data-or-end wrong-length e = refl
+    data-or-end ends-again e = refl
+    data-or-end anything-else e = refl
+after-holding s new as-other = refl
+
+-- what the whole block comes to, at its last bit
+abbrev pub finished : Receiver → List ℕ → Bits → Answer Reading
+finished s store row = judgeStore s store (stops s (judge (s .setup .k) (s .taken) (s .ended) row) row 1)
+
+finished-holding : (s : Receiver) (store : List ℕ) (new row row′ : Bits) → row ≡ row′ → finished (holding s new) store row ≡ finished s store row′
+finished-holding s store new row row′ e =
+    ap (finished (holding s new) store) e
+    ∙ ap (λ (t : Receiver). judgeStore s store (record { rule = rule; row = row′; used = 1; state = t }))
+    (after-holding s new (judged (s .setup .k) (s .taken) (s .ended) row′))
+  where
+    rule : Rule
+    rule = judge (s .setup .k) (s .taken) (s .ended) row′
+
+pub bit-by-bit : (s : Receiver) (store : List ℕ) (b : Bool) (row : Bits) (last : Answer Reading) → Waiting s (length (b ∷ row))
+    → bitByBit s store (b ∷ row) last ≡ finished s store (heldBits s ++ (b ∷ row))
+bit-by-bit s store b [] last w =
+    one-call s b store (in-range s 0 w) (w .phase) ∙ ap (judgeStore s store) (bit-last s b w)
+bit-by-bit s store b (c ∷ row) last w =
+    ap (λ (a : Answer Reading). bitByBit (receiveState s a) store (c ∷ row) a)
+    (one-call s b store (in-range s (length (c ∷ row)) w) (w .phase) ∙ ap (judgeStore s store) (bit-held s b (length row) w))
+    ∙ bit-by-bit (holding s (b ∷ [])) store c row (done (oneMore s b)) (waits-on s b (length row) w)
+    ∙ finished-holding s store (b ∷ []) (heldBits (holding s (b ∷ [])) ++ (c ∷ row)) (heldBits s ++ (b ∷ (c ∷ row)))
+    (ap (λ (r : Bits). r ++ (c ∷ row)) (heldBits-holding s (b ∷ []) (w .array) (omega (arith, w .held, length-facts (s .setup .k) (w .known))))
+    ∙ append-assoc (heldBits s) (b ∷ []) (c ∷ row))
