@@ -1,12 +1,15 @@
 //! The calls that every implementation offers, so that one comparison serves each of them.
 //!
-//! States and answers are those of the second implementation, as plain values.
+//! Those of the two ends are as the linked library has them: a state stands in lent bytes, and an
+//! answer is a number.
 
+use crate::interface::{self, load_receiver, load_sender, store_receiver, store_sender, Counts};
+use crate::interface::{FINISHED, GAVE_UP, GOING_ON, RECEIVER_BYTES, SENDER_BYTES};
 use crate::reference::block::{self, Read};
 use crate::reference::loop_time;
-use crate::reference::receiver::{self, Received, Receiver};
-use crate::reference::refusal::Refusal;
-use crate::reference::sender::{self, Sender, Sent};
+use crate::reference::receiver;
+use crate::reference::refusal::{Refusal, SHORT, SPOILED};
+use crate::reference::sender;
 use crate::reference::session;
 use crate::table;
 
@@ -23,34 +26,48 @@ pub trait Blocks {
     fn read_block(&self, k: usize, block: &[u8], payload: &mut [u8]) -> Read;
 }
 
-/// "Sending" and "Loop time".
-pub trait SendingEnd {
-    fn test_loop(&self, k: usize, speed: usize, loop_ms: usize) -> Result<(), Refusal>;
+/// "Loop time": 0 or the refusal's number.
+pub trait LoopTimes {
+    fn loop_time(&self, k: usize, speed: u32, loop_ms: u32) -> u8;
+}
 
+/// "Sending".
+pub trait SendingEnd {
+    /// 0 or the refusal's number.
     fn open_sender(
         &self,
         k: usize,
-        speed: usize,
-        loop_ms: usize,
+        speed: u32,
+        loop_ms: u32,
         length: usize,
         order: &[u8],
-    ) -> Result<Sender, Refusal>;
+        state: &mut [u8],
+    ) -> u8;
 
-    fn send(&self, sender: Sender, order: &[u8], reading: bool, block: &mut [u8])
-        -> (Sender, Sent);
+    /// The word of the block that goes out, or the refusal's number.
+    fn send(&self, state: &mut [u8], order: &[u8], reading: bool, block: &mut [u8]) -> u32;
+
+    /// Whether the sender goes on, is finished or gave up, or the refusal's number.
+    fn sender_rest(&self, state: &[u8]) -> u8;
 }
 
 /// "Receiving".
 pub trait ReceivingEnd {
-    fn open_receiver(&self, k: usize) -> Result<Receiver, Refusal>;
+    /// 0 or the refusal's number.
+    fn open_receiver(&self, k: usize, state: &mut [u8]) -> u8;
 
+    /// The event's number or the refusal's.
     fn receive(
         &self,
-        receiver: Receiver,
+        state: &mut [u8],
         line: &[u8],
         bits: usize,
         store: &mut [u8],
-    ) -> (Receiver, Received);
+        counts: &mut Counts,
+    ) -> u8;
+
+    /// The return bit, or the refusal's number.
+    fn return_bit(&self, state: &[u8]) -> u8;
 }
 
 /// The run program: standard input to standard output.
@@ -77,46 +94,78 @@ impl Blocks for Reference {
     }
 }
 
-impl SendingEnd for Reference {
-    fn test_loop(&self, k: usize, speed: usize, loop_ms: usize) -> Result<(), Refusal> {
-        loop_time::test_loop(k, speed, loop_ms)
+impl LoopTimes for Reference {
+    fn loop_time(&self, k: usize, speed: u32, loop_ms: u32) -> u8 {
+        let tested = loop_time::test_loop(k, speed as usize, loop_ms as usize);
+        tested.err().unwrap_or(0)
     }
+}
 
+impl SendingEnd for Reference {
     fn open_sender(
         &self,
         k: usize,
-        speed: usize,
-        loop_ms: usize,
+        speed: u32,
+        loop_ms: u32,
         length: usize,
         order: &[u8],
-    ) -> Result<Sender, Refusal> {
-        sender::open(k, speed, loop_ms, length, order)
+        state: &mut [u8],
+    ) -> u8 {
+        match sender::open(k, speed as usize, loop_ms as usize, length, order) {
+            Err(refusal) => refusal,
+            Ok(_) if state.len() < SENDER_BYTES => SHORT,
+            Ok(sender) => {
+                store_sender(&sender, state);
+                0
+            }
+        }
     }
 
-    fn send(
-        &self,
-        sender: Sender,
-        order: &[u8],
-        reading: bool,
-        block: &mut [u8],
-    ) -> (Sender, Sent) {
-        sender.send(order, reading, block)
+    fn send(&self, state: &mut [u8], order: &[u8], reading: bool, block: &mut [u8]) -> u32 {
+        interface::send(state, |sender| sender.send(order, reading, block))
+    }
+
+    fn sender_rest(&self, state: &[u8]) -> u8 {
+        match load_sender(state) {
+            Some(sender) if sender.is_spoiled() => SPOILED,
+            Some(sender) if sender.finished => FINISHED,
+            Some(sender) if sender.gave_up() => GAVE_UP,
+            Some(_) => GOING_ON,
+            None => SPOILED,
+        }
     }
 }
 
 impl ReceivingEnd for Reference {
-    fn open_receiver(&self, k: usize) -> Result<Receiver, Refusal> {
-        receiver::open(k)
+    fn open_receiver(&self, k: usize, state: &mut [u8]) -> u8 {
+        match receiver::open(k) {
+            Err(refusal) => refusal,
+            Ok(_) if state.len() < RECEIVER_BYTES => SHORT,
+            Ok(receiver) => {
+                store_receiver(&receiver, state);
+                0
+            }
+        }
     }
 
     fn receive(
         &self,
-        receiver: Receiver,
+        state: &mut [u8],
         line: &[u8],
         bits: usize,
         store: &mut [u8],
-    ) -> (Receiver, Received) {
-        receiver.receive(line, bits, store)
+        counts: &mut Counts,
+    ) -> u8 {
+        interface::receive(state, counts, |receiver| {
+            receiver.receive(line, bits, store)
+        })
+    }
+
+    fn return_bit(&self, state: &[u8]) -> u8 {
+        match load_receiver(state) {
+            Some(receiver) if !receiver.is_spoiled() => u8::from(receiver.return_bit),
+            _ => SPOILED,
+        }
     }
 }
 
@@ -126,7 +175,8 @@ impl RunProgram for Reference {
     }
 }
 
-/// The table-driven sibling, which is compared too: a fast wrong answer measures nothing.
+/// The table-driven sibling, which is compared too: a fast wrong answer measures nothing. What it
+/// does not have of its own, and the benchmark does not measure, is the second implementation's.
 pub struct TableDriven;
 
 impl Blocks for TableDriven {
@@ -145,47 +195,51 @@ impl Blocks for TableDriven {
     }
 }
 
+impl SendingEnd for TableDriven {
+    fn open_sender(
+        &self,
+        k: usize,
+        speed: u32,
+        loop_ms: u32,
+        length: usize,
+        order: &[u8],
+        state: &mut [u8],
+    ) -> u8 {
+        Reference.open_sender(k, speed, loop_ms, length, order, state)
+    }
+
+    fn send(&self, state: &mut [u8], order: &[u8], reading: bool, block: &mut [u8]) -> u32 {
+        interface::send(state, |sender| {
+            table::sender::send(sender, order, reading, block)
+        })
+    }
+
+    fn sender_rest(&self, state: &[u8]) -> u8 {
+        Reference.sender_rest(state)
+    }
+}
+
 impl ReceivingEnd for TableDriven {
-    fn open_receiver(&self, k: usize) -> Result<Receiver, Refusal> {
-        table::receiver::open(k).map(from_table)
+    fn open_receiver(&self, k: usize, state: &mut [u8]) -> u8 {
+        Reference.open_receiver(k, state)
     }
 
     fn receive(
         &self,
-        receiver: Receiver,
+        state: &mut [u8],
         line: &[u8],
         bits: usize,
         store: &mut [u8],
-    ) -> (Receiver, Received) {
-        let (state, received) = to_table(&receiver).receive(line, bits, store);
-        (from_table(state), received)
+        counts: &mut Counts,
+    ) -> u8 {
+        interface::receive(state, counts, |receiver| {
+            let receiver = table::receiver::Receiver::from(receiver);
+            let (receiver, received) = receiver.receive(line, bits, store);
+            (receiver.into(), received)
+        })
     }
-}
 
-fn to_table(state: &Receiver) -> table::receiver::Receiver {
-    table::receiver::Receiver {
-        k: state.k,
-        held: state.held,
-        row: state.row,
-        taken: state.taken,
-        search: state.search,
-        return_bit: state.return_bit,
-        end_taken: state.end_taken,
-        alarm: state.alarm,
-        array: state.array,
-    }
-}
-
-fn from_table(state: table::receiver::Receiver) -> Receiver {
-    Receiver {
-        k: state.k,
-        search: state.search,
-        array: state.array,
-        held: state.held,
-        row: state.row,
-        return_bit: state.return_bit,
-        taken: state.taken,
-        end_taken: state.end_taken,
-        alarm: state.alarm,
+    fn return_bit(&self, state: &[u8]) -> u8 {
+        Reference.return_bit(state)
     }
 }

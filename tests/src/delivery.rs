@@ -9,7 +9,7 @@ use crate::reference::block::{block_bits, block_bytes, cancel, passes};
 use crate::reference::order::{item_payload, items};
 use crate::reference::receiver::{Event, Received, Receiver};
 use crate::reference::refusal::{REST, SHORT};
-use crate::reference::sender::{Next, Sender, Sent};
+use crate::reference::sender::{Sender, Sent};
 
 /// What demand 3 supposes of a list.
 #[derive(Clone, Copy, Debug, PartialEq, Eq)]
@@ -141,8 +141,8 @@ impl Delivery {
         assert_eq!(used, block_bits(self.k), "all bits used before the next");
         self.broken = self.broken_by_sending(call);
         self.period = Some(self.period_of(call));
-        self.finished |= call.after.next == Next::Finished;
-        self.gave_up |= call.after.next == Next::GivenUp;
+        self.finished |= call.after.finished;
+        self.gave_up |= call.after.gave_up();
         claim(
             self.broken.is_some() || self.lost > 0 || !self.finished || self.ended,
             "none lost: a finished sender means the machine reported the end",

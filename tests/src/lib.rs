@@ -5,6 +5,7 @@ pub mod calls;
 pub mod comparison;
 pub mod damage;
 pub mod delivery;
+pub mod interface;
 #[cfg(feature = "linked")]
 pub mod link;
 pub mod program;

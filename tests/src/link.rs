@@ -1,13 +1,16 @@
 //! The library under test, as other languages link it: `target/staticlib/libline_c.a`.
 //!
 //! A slice passes as a pointer and then a length. Nothing checks these declarations against the
-//! library, so they stand here alone, each beside the safe function that wraps it.
+//! library, so they stand here alone, with the safe functions that wrap them.
 
-use crate::calls::Blocks;
+use crate::calls::{Blocks, LoopTimes, ReceivingEnd, SendingEnd};
+use crate::interface::Counts;
 use crate::reference::block::Read;
 use crate::reference::refusal::Refusal;
 
 extern "C" {
+    fn order_line_loop_time(k: usize, speed: u32, loop_ms: u32) -> u8;
+
     fn order_line_build_block(
         k: usize,
         service: u8,
@@ -24,6 +27,45 @@ extern "C" {
         payload: *mut u8,
         payload_len: usize,
     ) -> u16;
+
+    fn order_line_open_sender(
+        k: usize,
+        speed: u32,
+        loop_ms: u32,
+        length: usize,
+        order: *const u8,
+        order_len: usize,
+        state: *mut u8,
+        state_len: usize,
+    ) -> u8;
+
+    fn order_line_send(
+        state: *mut u8,
+        state_len: usize,
+        order: *const u8,
+        order_len: usize,
+        reading: bool,
+        block: *mut u8,
+        block_len: usize,
+    ) -> u32;
+
+    fn order_line_sender_rest(state: *const u8, state_len: usize) -> u8;
+
+    fn order_line_open_receiver(k: usize, state: *mut u8, state_len: usize) -> u8;
+
+    fn order_line_receive(
+        state: *mut u8,
+        state_len: usize,
+        line: *const u8,
+        line_len: usize,
+        bits: usize,
+        store: *mut u8,
+        store_len: usize,
+        used: *mut usize,
+        length: *mut usize,
+    ) -> u8;
+
+    fn order_line_return_bit(state: *const u8, state_len: usize) -> u8;
 }
 
 /// Answers of `order_line_read_block` that are not refusal numbers.
@@ -33,6 +75,15 @@ const FAILED: u16 = 0x200;
 /// The linked library.
 pub struct Library;
 
+// SAFETY, of every call below: each pointer comes with the length of the slice it was taken from,
+// and no slice that is written overlaps another.
+
+impl LoopTimes for Library {
+    fn loop_time(&self, k: usize, speed: u32, loop_ms: u32) -> u8 {
+        unsafe { order_line_loop_time(k, speed, loop_ms) }
+    }
+}
+
 impl Blocks for Library {
     fn build_block(
         &self,
@@ -41,7 +92,6 @@ impl Blocks for Library {
         payload: &[u8],
         block: &mut [u8],
     ) -> Result<(), Refusal> {
-        // SAFETY: each pointer comes with the length of the slice it was taken from.
         let number = unsafe {
             order_line_build_block(
                 k,
@@ -59,7 +109,6 @@ impl Blocks for Library {
     }
 
     fn read_block(&self, k: usize, block: &[u8], payload: &mut [u8]) -> Read {
-        // SAFETY: each pointer comes with the length of the slice it was taken from.
         let number = unsafe {
             order_line_read_block(
                 k,
@@ -70,9 +119,86 @@ impl Blocks for Library {
             )
         };
         match number {
+            ..PASSED => Read::Refused(number as u8),
+            PASSED..FAILED => Read::Passed((number - PASSED) as u8),
             FAILED => Read::Failed,
-            PASSED.. => Read::Passed((number - PASSED) as u8),
-            refusal => Read::Refused(refusal as u8),
+            _ => panic!("{number:x} is no answer of order_line_read_block"),
         }
+    }
+}
+
+impl SendingEnd for Library {
+    fn open_sender(
+        &self,
+        k: usize,
+        speed: u32,
+        loop_ms: u32,
+        length: usize,
+        order: &[u8],
+        state: &mut [u8],
+    ) -> u8 {
+        unsafe {
+            order_line_open_sender(
+                k,
+                speed,
+                loop_ms,
+                length,
+                order.as_ptr(),
+                order.len(),
+                state.as_mut_ptr(),
+                state.len(),
+            )
+        }
+    }
+
+    fn send(&self, state: &mut [u8], order: &[u8], reading: bool, block: &mut [u8]) -> u32 {
+        unsafe {
+            order_line_send(
+                state.as_mut_ptr(),
+                state.len(),
+                order.as_ptr(),
+                order.len(),
+                reading,
+                block.as_mut_ptr(),
+                block.len(),
+            )
+        }
+    }
+
+    fn sender_rest(&self, state: &[u8]) -> u8 {
+        unsafe { order_line_sender_rest(state.as_ptr(), state.len()) }
+    }
+}
+
+impl ReceivingEnd for Library {
+    fn open_receiver(&self, k: usize, state: &mut [u8]) -> u8 {
+        unsafe { order_line_open_receiver(k, state.as_mut_ptr(), state.len()) }
+    }
+
+    fn receive(
+        &self,
+        state: &mut [u8],
+        line: &[u8],
+        bits: usize,
+        store: &mut [u8],
+        counts: &mut Counts,
+    ) -> u8 {
+        unsafe {
+            order_line_receive(
+                state.as_mut_ptr(),
+                state.len(),
+                line.as_ptr(),
+                line.len(),
+                bits,
+                store.as_mut_ptr(),
+                store.len(),
+                &mut counts.used,
+                &mut counts.length,
+            )
+        }
+    }
+
+    fn return_bit(&self, state: &[u8]) -> u8 {
+        unsafe { order_line_return_bit(state.as_ptr(), state.len()) }
     }
 }

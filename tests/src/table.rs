@@ -2,6 +2,7 @@
 //! 256-entry table of the cyclic check. The benchmark measures the library against it.
 
 pub mod receiver;
+pub mod sender;
 
 use crate::reference::block::Read;
 

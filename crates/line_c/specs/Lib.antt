@@ -1,1 +1,4 @@
+pub mod State
 pub mod BlockCalls
+pub mod SenderCalls
+pub mod ReceiverCalls

@@ -1,2 +1,7 @@
-// The order line's calls for C and Rust: numbers and lent bytes.
+// The order line's calls for C and Rust: numbers and lent bytes, the ends' states in lent bytes too.
 pub mod block_calls;
+mod layout;
+mod receiver_bytes;
+pub mod receiver_calls;
+mod sender_bytes;
+pub mod sender_calls;

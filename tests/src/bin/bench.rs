@@ -1,90 +1,338 @@
 //! Measures the linked library against the table-driven sibling and the second implementation.
 //!
-//! All three run in turn in the same rounds, on the same buffers, which nobody clears between
-//! calls. The ratios of the medians are what the figures are for; nanoseconds stand beside them.
+//! Those that are compared run in turn in the same rounds, on the same buffers, which nobody
+//! clears between calls. The ratios of the medians are what the figures are for; nanoseconds of
+//! one call stand beside them. The library's states stand in lent bytes, and the other two take
+//! a state by value and hand it back.
 
-use order_line_tests::calls::{Blocks, Reference, TableDriven};
+use order_line_tests::calls::{Blocks, ReceivingEnd, Reference, SendingEnd, TableDriven};
+use order_line_tests::interface::{received, sent, store_receiver, store_sender, Counts};
+use order_line_tests::interface::{RECEIVER_BYTES, SENDER_BYTES};
 use order_line_tests::link::Library;
-use order_line_tests::reference::block::{block_bytes, payload_bytes, Read, LENGTHS};
+use order_line_tests::reference::bits::{pack, unpack};
+use order_line_tests::reference::block::{block_bits, block_bytes, payload_bytes, Read, LENGTHS};
+use order_line_tests::reference::order::letter;
+use order_line_tests::reference::receiver::{self, Received, Receiver};
+use order_line_tests::reference::sender::{self, Next, Sender, Sent};
 use order_line_tests::rng::Rng;
+use order_line_tests::table;
 use std::hint::black_box;
 use std::time::{Duration, Instant};
 
 const ROUNDS: usize = 101;
 /// Different blocks in turn, so that no call sees the data of the call before it.
 const BUFFERS: usize = 16;
-/// Least time of one round of the library and the sibling.
+/// Least time of one round of one implementation.
 const ROUND: Duration = Duration::from_micros(400);
 
-/// Data and their packed blocks, and a place to write to.
+/// An order of more items than a pass sends, the packed blocks of its first items, and a place to
+/// write to.
 struct Buffers {
     k: usize,
-    payloads: Vec<Vec<u8>>,
+    order: Vec<u8>,
     blocks: Vec<Vec<u8>>,
     place: Vec<u8>,
+    store: Vec<u8>,
 }
 
 impl Buffers {
     fn new(rng: &mut Rng, k: usize) -> Buffers {
-        let payloads: Vec<_> = (0..BUFFERS).map(|_| rng.bytes(payload_bytes(k))).collect();
-        let blocks = payloads.iter().map(|payload| {
+        let order = rng.bytes((BUFFERS + 2) * payload_bytes(k));
+        let items = order.chunks(payload_bytes(k)).take(BUFFERS).enumerate();
+        let blocks = items.map(|(item, payload)| {
             let mut block = vec![0; block_bytes(k)];
-            let built = Reference.build_block(k, 0b0011, payload, &mut block);
+            let built = Reference.build_block(k, letter(item), payload, &mut block);
             assert_eq!(built, Ok(()));
             block
         });
         Buffers {
             k,
             blocks: blocks.collect(),
-            payloads,
+            order,
             place: vec![0; block_bytes(k)],
+            store: vec![0; BUFFERS * payload_bytes(k)],
         }
     }
 
-    fn build(&mut self, tested: &dyn Blocks) {
-        for payload in &self.payloads {
-            let built = tested.build_block(black_box(self.k), 0b0011, payload, &mut self.place);
+    fn build(&mut self, tested: &impl Blocks) {
+        let payloads = self.order.chunks(payload_bytes(self.k)).take(BUFFERS);
+        for (item, payload) in payloads.enumerate() {
+            let k = black_box(self.k);
+            let built = tested.build_block(k, letter(item), payload, &mut self.place);
             assert_eq!(black_box(built), Ok(()));
         }
     }
 
-    fn read(&mut self, tested: &dyn Blocks) {
-        for block in &self.blocks {
+    fn read(&mut self, tested: &impl Blocks) {
+        for (item, block) in self.blocks.iter().enumerate() {
             let read = tested.read_block(black_box(self.k), block, &mut self.place);
-            assert_eq!(black_box(read), Read::Passed(0b0011));
+            assert_eq!(black_box(read), Read::Passed(letter(item)));
+        }
+    }
+
+    /// Sends the order's items from item 1 on, each reading a 0 that is used.
+    fn send<S: Sends>(&mut self, tested: &S) {
+        let length = 8 * self.order.len();
+        let opened = sender::open(self.k, 200, 0, length, &self.order);
+        let mut state = tested.state(Sender {
+            next: Next::Newer,
+            ..opened.expect("an opening that document 01 accepts")
+        });
+        for _ in 0..BUFFERS {
+            let sent = tested.send(&mut state, &self.order, &mut self.place);
+            assert!(black_box(sent));
+        }
+    }
+
+    /// Receives the blocks in step; each is accepted.
+    fn receive<R: Receives>(&mut self, tested: &R, lines: &Lines) {
+        let n = block_bits(self.k);
+        let mut state = tested.state(Receiver {
+            search: false,
+            return_bit: false,
+            ..receiver::open(self.k).expect("one of the four")
+        });
+        for block in &lines.blocks {
+            for (call, line) in block.chunks(lines.stride).enumerate() {
+                let bits = lines.most.min(n - call * lines.most);
+                let used = tested.receive(&mut state, line, bits, &mut self.store);
+                assert_eq!(black_box(used), bits);
+            }
         }
     }
 }
 
-/// The library, the table-driven sibling and the second implementation.
-const IMPLEMENTATIONS: [&dyn Blocks; 3] = [&Library, &TableDriven, &Reference];
+/// The blocks' bits as calls are lent them: at most so many bits, in a stride of bytes.
+struct Lines {
+    most: usize,
+    stride: usize,
+    blocks: Vec<Vec<u8>>,
+}
 
-fn main() {
-    println!("call    k  library ns    table ns   second ns  table/library  second/library");
-    let mut rng = Rng::new(41);
-    let mut lengths = LENGTHS.map(|k| Buffers::new(&mut rng, k));
-    for buffers in &mut lengths {
-        let medians = medians(IMPLEMENTATIONS, |tested| buffers.build(tested));
-        print_row("build", buffers.k, medians);
+impl Lines {
+    fn new(buffers: &Buffers, most: usize) -> Lines {
+        let n = block_bits(buffers.k);
+        let stride = most.div_ceil(8);
+        let split = |block: &Vec<u8>| {
+            let mut lines = Vec::new();
+            for at in (0..n).step_by(most) {
+                let mut line = pack(&unpack(block, at, most.min(n - at)));
+                line.resize(stride, 0);
+                lines.extend(line);
+            }
+            lines
+        };
+        Lines {
+            most,
+            stride,
+            blocks: buffers.blocks.iter().map(split).collect(),
+        }
     }
-    for buffers in &mut lengths {
-        let medians = medians(IMPLEMENTATIONS, |tested| buffers.read(tested));
-        print_row("read", buffers.k, medians);
+
+    fn calls(&self) -> usize {
+        self.blocks
+            .iter()
+            .map(|block| block.len() / self.stride)
+            .sum()
     }
 }
 
-/// The median time of one call, in nanoseconds, of each implementation; they take turns.
-/// A pass is one call for each of the buffers.
-fn medians<T: ?Sized>(implementations: [&T; 3], mut pass: impl FnMut(&T)) -> [f64; 3] {
-    let repeats = implementations.map(|tested| repeats(|| pass(tested)));
-    let mut times = [const { Vec::new() }; 3];
+/// A sending end with its state as it keeps it.
+trait Sends {
+    type State;
+    fn state(&self, sender: Sender) -> Self::State;
+    /// A call with reading 0; whether an item was sent.
+    fn send(&self, state: &mut Self::State, order: &[u8], block: &mut [u8]) -> bool;
+}
+
+impl Sends for Library {
+    type State = [u8; SENDER_BYTES];
+
+    fn state(&self, sender: Sender) -> Self::State {
+        let mut bytes = [0; SENDER_BYTES];
+        store_sender(&sender, &mut bytes);
+        bytes
+    }
+
+    fn send(&self, state: &mut Self::State, order: &[u8], block: &mut [u8]) -> bool {
+        let word = SendingEnd::send(self, state, order, black_box(false), block);
+        matches!(sent(word), Sent::Item { .. })
+    }
+}
+
+impl Sends for TableDriven {
+    type State = Sender;
+
+    fn state(&self, sender: Sender) -> Sender {
+        sender
+    }
+
+    fn send(&self, state: &mut Sender, order: &[u8], block: &mut [u8]) -> bool {
+        let (next, sent) = table::sender::send(state.clone(), order, black_box(false), block);
+        *state = next;
+        matches!(sent, Sent::Item { .. })
+    }
+}
+
+impl Sends for Reference {
+    type State = Sender;
+
+    fn state(&self, sender: Sender) -> Sender {
+        sender
+    }
+
+    fn send(&self, state: &mut Sender, order: &[u8], block: &mut [u8]) -> bool {
+        let (next, sent) = state.clone().send(order, black_box(false), block);
+        *state = next;
+        matches!(sent, Sent::Item { .. })
+    }
+}
+
+/// A receiving end with its state as it keeps it.
+trait Receives {
+    type State;
+    fn state(&self, receiver: Receiver) -> Self::State;
+    /// The number of bits used.
+    fn receive(&self, state: &mut Self::State, line: &[u8], bits: usize, store: &mut [u8])
+        -> usize;
+}
+
+fn used(received: Received) -> usize {
+    match received {
+        Received::Heard { used, .. } => used,
+        Received::Refused(number) => panic!("refused {number}"),
+    }
+}
+
+impl Receives for Library {
+    type State = [u8; RECEIVER_BYTES];
+
+    fn state(&self, receiver: Receiver) -> Self::State {
+        let mut bytes = [0; RECEIVER_BYTES];
+        store_receiver(&receiver, &mut bytes);
+        bytes
+    }
+
+    fn receive(
+        &self,
+        state: &mut Self::State,
+        line: &[u8],
+        bits: usize,
+        store: &mut [u8],
+    ) -> usize {
+        let mut counts = Counts { used: 0, length: 0 };
+        let number = ReceivingEnd::receive(self, state, line, bits, store, &mut counts);
+        used(received(number, counts))
+    }
+}
+
+impl Receives for TableDriven {
+    type State = table::receiver::Receiver;
+
+    fn state(&self, receiver: Receiver) -> Self::State {
+        table::receiver::Receiver::from(receiver)
+    }
+
+    fn receive(
+        &self,
+        state: &mut Self::State,
+        line: &[u8],
+        bits: usize,
+        store: &mut [u8],
+    ) -> usize {
+        let (next, received) = state.receive(line, bits, store);
+        *state = next;
+        used(received)
+    }
+}
+
+impl Receives for Reference {
+    type State = Receiver;
+
+    fn state(&self, receiver: Receiver) -> Receiver {
+        receiver
+    }
+
+    fn receive(&self, state: &mut Receiver, line: &[u8], bits: usize, store: &mut [u8]) -> usize {
+        let (next, received) = state.clone().receive(line, bits, store);
+        *state = next;
+        used(received)
+    }
+}
+
+/// One implementation's calls on the buffers.
+type Pass<'a> = &'a dyn Fn(&mut Buffers);
+
+/// A pass of the library, the table-driven sibling and the second implementation.
+macro_rules! three {
+    ($pass:ident $(, $argument:expr)?) => {
+        [
+            &|b: &mut Buffers| b.$pass(&Library $(, $argument)?),
+            &|b: &mut Buffers| b.$pass(&TableDriven $(, $argument)?),
+            &|b: &mut Buffers| b.$pass(&Reference $(, $argument)?),
+        ]
+    };
+}
+
+fn main() {
+    println!(
+        "call               k  library ns    table ns   second ns  table/library  second/library"
+    );
+    let mut rng = Rng::new(41);
+    let mut lengths = LENGTHS.map(|k| Buffers::new(&mut rng, k));
+    for buffers in &mut lengths {
+        measure(buffers, "build", BUFFERS, three!(build));
+    }
+    for buffers in &mut lengths {
+        measure(buffers, "read", BUFFERS, three!(read));
+    }
+    for buffers in &mut lengths {
+        measure(buffers, "send", BUFFERS, three!(send));
+    }
+    for (call, most) in [
+        ("receive block", usize::MAX),
+        ("receive 64 bits", 64),
+        ("receive 1 bit", 1),
+    ] {
+        for buffers in &mut lengths {
+            let lines = Lines::new(buffers, most.min(block_bits(buffers.k)));
+            measure(buffers, call, lines.calls(), three!(receive, &lines));
+            let payloads = &buffers.order[..buffers.store.len()];
+            assert_eq!(buffers.store, payloads, "what was received");
+        }
+    }
+    println!("the library alone  k   receive ns     read ns   receive/read");
+    for buffers in &mut lengths {
+        let lines = Lines::new(buffers, block_bits(buffers.k));
+        let passes: [Pass; 2] = [&|b| b.receive(&Library, &lines), &|b| b.read(&Library)];
+        let [receive, read] = medians(buffers, BUFFERS, passes);
+        let (k, ratio) = (buffers.k, receive / read);
+        println!(
+            "{:15} {k:4} {receive:11.1} {read:11.1} {ratio:14.2}",
+            "a whole block"
+        );
+    }
+}
+
+fn measure(buffers: &mut Buffers, call: &str, calls: usize, passes: [Pass; 3]) {
+    let [library, table, second] = medians(buffers, calls, passes);
+    let (k, by_table, by_second) = (buffers.k, table / library, second / library);
+    println!(
+        "{call:15} {k:4} {library:11.1} {table:11.1} {second:11.1} {by_table:14.2} {by_second:15.1}"
+    );
+}
+
+/// The median time of one call, in nanoseconds, of each pass; they take turns.
+fn medians<const M: usize>(buffers: &mut Buffers, calls: usize, passes: [Pass; M]) -> [f64; M] {
+    let repeats = passes.map(|pass| repeats(buffers, pass));
+    let mut times = [const { Vec::new() }; M];
     for _ in 0..ROUNDS {
-        for (i, tested) in implementations.into_iter().enumerate() {
+        for (i, pass) in passes.into_iter().enumerate() {
             let start = Instant::now();
             for _ in 0..repeats[i] {
-                pass(tested);
+                pass(buffers);
             }
-            let calls = (repeats[i] * BUFFERS) as f64;
+            let calls = (repeats[i] * calls) as f64;
             times[i].push(start.elapsed().as_nanos() as f64 / calls);
         }
     }
@@ -94,24 +342,17 @@ fn medians<T: ?Sized>(implementations: [&T; 3], mut pass: impl FnMut(&T)) -> [f6
     })
 }
 
-/// How many passes fill a round.
-fn repeats(mut pass: impl FnMut()) -> usize {
+/// How often a pass fills a round.
+fn repeats(buffers: &mut Buffers, pass: Pass) -> usize {
     let mut repeats = 1;
     loop {
         let start = Instant::now();
         for _ in 0..repeats {
-            pass();
+            pass(buffers);
         }
         if start.elapsed() >= ROUND {
             return repeats;
         }
         repeats *= 2;
     }
-}
-
-fn print_row(call: &str, k: usize, [library, table, second]: [f64; 3]) {
-    let (by_table, by_second) = (table / library, second / library);
-    println!(
-        "{call:5} {k:4} {library:11.1} {table:11.1} {second:11.1} {by_table:14.2} {by_second:15.1}"
-    );
 }

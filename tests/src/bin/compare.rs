@@ -4,7 +4,8 @@
 //! scripts through the run program at PATH, and `compare blocks FILE` writes blocks that the
 //! library built, for `crc_hqx.py`.
 
-use order_line_tests::comparison::{block, session, Difference, Tally};
+use order_line_tests::comparison::{block, both_ends, loop_time, receiver, sender, session};
+use order_line_tests::comparison::{Difference, Tally};
 use order_line_tests::link::Library;
 use order_line_tests::program::Program;
 use std::process::ExitCode;
@@ -12,13 +13,28 @@ use std::{env, fs};
 
 const SEED: u64 = 41;
 const BLOCK_CASES: usize = 120_000;
+const SENDER_SESSIONS: usize = 25_000;
+const RECEIVER_CALLS: usize = 300_000;
+const SESSIONS: usize = 25_000;
 const SCRIPTS: usize = 6_000;
 const BLOCKS_WRITTEN: usize = 800;
 
 /// A group's name and the run of all its cases.
 type Group = (&'static str, fn() -> Result<Tally, Difference>);
 
-const GROUPS: [Group; 1] = [("block", || block::compare(&Library, SEED, BLOCK_CASES))];
+const GROUPS: [Group; 5] = [
+    ("loop_time", || loop_time::compare(&Library)),
+    ("block", || block::compare(&Library, SEED, BLOCK_CASES)),
+    ("sender", || {
+        sender::compare(&Library, SEED, SENDER_SESSIONS)
+    }),
+    ("receiver", || {
+        receiver::compare(&Library, SEED, RECEIVER_CALLS)
+    }),
+    ("both_ends", || {
+        both_ends::compare(&Library, &Library, SEED, SESSIONS)
+    }),
+];
 
 fn main() -> ExitCode {
     let arguments: Vec<String> = env::args().skip(1).collect();

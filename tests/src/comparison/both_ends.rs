@@ -1,18 +1,19 @@
 //! Random sessions of both ends over a bad line. Along those that meet the suppositions of
 //! demand 3, its claims are checked as well.
 
-use super::lockstep::{Lockstep, Twin};
+use super::lockstep::{Lockstep, Opening, Twin};
 use super::orders::Order;
 use super::sender::refused_word;
-use super::{spoil, Difference, Tally};
+use super::{spoil, Difference, Lent, Tally};
 use crate::calls::{ReceivingEnd, SendingEnd};
 use crate::damage::{invert, Damage, ADMITTED, FURTHER};
 use crate::delivery::{Delivery, Receiving, Sending};
+use crate::interface::{load_receiver, load_sender, RECEIVER_BYTES, SENDER_BYTES};
 use crate::reference::bits::{bits_of, pack, unpack, Bits};
 use crate::reference::block::{assemble, block_bits, block_bytes, cancel, synchronising_block};
 use crate::reference::order::{letter, LONGEST};
 use crate::reference::receiver::{Event, Received, Receiver};
-use crate::reference::sender::{Next, Sender, Sent};
+use crate::reference::sender::{Sender, Sent};
 use crate::rng::Rng;
 
 /// Runs this many sessions, one in a thousand with the longest order.
@@ -91,8 +92,8 @@ struct Session<'a, S, R> {
     rng: Rng,
     tally: &'a mut Tally,
     order: Order,
-    sender: Sender,
-    receiver: Receiver,
+    sender: Twin,
+    receiver: Twin,
     store: Twin,
     delivery: Delivery,
     climate: Climate,
@@ -106,9 +107,18 @@ impl<'a, S: SendingEnd, R: ReceivingEnd> Session<'a, S, R> {
         order: Order,
         tally: &'a mut Tally,
     ) -> Result<Session<'a, S, R>, Difference> {
-        let opened = ends.open_sender(order.k, 200, 0, order.length, &order.bytes)?;
-        let sender = opened.expect("an opening that document 01 accepts");
-        let receiver = ends.open_receiver(order.k)?.expect("the same k");
+        let mut sender = Twin::random(&mut rng, SENDER_BYTES);
+        let mut receiver = Twin::random(&mut rng, RECEIVER_BYTES);
+        let opening = Opening {
+            k: order.k,
+            speed: 200,
+            loop_ms: 0,
+            length: order.length,
+        };
+        let refused = ends.open_sender(opening, &order.bytes, &mut sender)?;
+        assert_eq!(refused, 0, "an opening that document 01 accepts");
+        let refused = ends.open_receiver(order.k, &mut receiver)?;
+        assert_eq!(refused, 0, "the same k");
         let further = rng.pick(&[0, 0, 1, 40]);
         let store = Twin::random(&mut rng, order.items() * order.k / 8 + further);
         let delivery = Delivery::new(order.k, order.length, &order.bytes, store.slice());
@@ -135,7 +145,7 @@ impl<'a, S: SendingEnd, R: ReceivingEnd> Session<'a, S, R> {
                 self.weather = self.climate.weather(&mut self.rng);
             }
             self.aside()?;
-            let over = self.sender.rests() || self.receiver.alarm.is_some();
+            let over = self.sender().rests() || self.receiver().alarm.is_some();
             if over && self.rng.chance(30) {
                 break;
             }
@@ -145,29 +155,32 @@ impl<'a, S: SendingEnd, R: ReceivingEnd> Session<'a, S, R> {
         Ok(())
     }
 
+    fn sender(&self) -> Sender {
+        load_sender(self.sender.slice()).expect("a state that a call handed back")
+    }
+
+    fn receiver(&self) -> Receiver {
+        load_receiver(self.receiver.slice()).expect("a state that a call handed back")
+    }
+
     /// A sending call, and receiving calls until the block's bits are all used.
     fn period(&mut self) -> Result<(), Difference> {
         let reading = self.reading();
         let bytes = block_bytes(self.order.k) + self.rng.below(3);
         let order = self.order.bytes.len();
-        let (sender, sent, block) = self.send(order, bytes, reading)?;
-        self.sender = sender;
-        match sent {
-            Sent::Refused(_) => Ok(()),
-            _ => self.deliver(&block),
-        }
+        let arrives = self.send(order, bytes, reading)?;
+        self.deliver(&arrives)
     }
 
-    /// A sending call, lent this much of the order and of a block; the copy that arrives.
-    fn send(
-        &mut self,
-        order: usize,
-        bytes: usize,
-        reading: bool,
-    ) -> Result<(Sender, Sent, Bits), Difference> {
+    /// A sending call, lent this much of the order and of a block; the copy that arrives, empty
+    /// if the call is refused.
+    fn send(&mut self, order: usize, bytes: usize, reading: bool) -> Result<Bits, Difference> {
+        let before = self.sender();
         let mut place = Twin::random(&mut self.rng, bytes);
         let lent = &self.order.bytes[..order];
-        let (after, sent) = self.ends.send(&self.sender, lent, reading, &mut place)?;
+        let sent = self
+            .ends
+            .send(&mut self.sender, lent, reading, &mut place)?;
         let (mut block, mut arrives) = (Bits::new(), Bits::new());
         if let Sent::Refused(number) = sent {
             self.tally.count(refused_word(number));
@@ -176,22 +189,22 @@ impl<'a, S: SendingEnd, R: ReceivingEnd> Session<'a, S, R> {
             arrives = self.arriving(&block, sent);
         }
         self.delivery.sent(&Sending {
-            before: &self.sender,
-            after: &after,
+            before: &before,
+            after: &self.sender(),
             sent,
             order_bytes: order,
             block_bytes: bytes,
             reading,
-            receiver: &self.receiver,
+            receiver: &self.receiver(),
             block: &block,
             arrives: &arrives,
         })?;
-        Ok((after, sent, arrives))
+        Ok(arrives)
     }
 
     /// The reading of the return bit, as the line lets it through.
     fn reading(&mut self) -> bool {
-        match self.receiver.return_bit {
+        match self.receiver().return_bit {
             true => !self.rng.chance(self.weather.lost),
             false => self.rng.chance(self.weather.invented),
         }
@@ -270,17 +283,16 @@ impl<'a, S: SendingEnd, R: ReceivingEnd> Session<'a, S, R> {
     fn receive(&mut self, bits: &[bool]) -> Result<usize, Difference> {
         let line = self.line(bits);
         let lent = self.store.slice().len();
-        let (receiver, received) =
+        let stood = self.receiver().alarm.is_some();
+        let received =
             self.ends
-                .receive(&self.receiver, &line, bits.len(), &mut self.store, lent)?;
+                .receive(&mut self.receiver, &line, bits.len(), &mut self.store, lent)?;
         self.delivery.received(&Receiving {
             received,
             bits: bits.len(),
             line_bytes: line.len(),
             store: self.store.slice(),
         })?;
-        let stood = self.receiver.alarm.is_some();
-        self.receiver = receiver;
         match received {
             Received::Heard { event, used } => {
                 let kind = if stood {
@@ -336,16 +348,16 @@ impl<'a, S: SendingEnd, R: ReceivingEnd> Session<'a, S, R> {
 
     /// The line is shorter than its number of bits, or the store too short for the next item.
     fn short_receiving(&mut self) -> Result<(), Difference> {
-        let (k, taken) = (self.order.k, self.receiver.taken);
+        let (k, taken) = (self.order.k, self.receiver().taken);
         let mut line = pack(&assemble(letter(taken), &vec![false; k]));
         if self.rng.bit() {
             line.pop();
         }
-        let mut store = self.store.clone();
+        let (mut state, mut store) = (self.receiver.clone(), self.store.clone());
         let lent = ((taken + 1) * k / 8 - 1).min(store.slice().len());
-        let (_, received) = self
+        let received = self
             .ends
-            .receive(&self.receiver, &line, k + 20, &mut store, lent)?;
+            .receive(&mut state, &line, k + 20, &mut store, lent)?;
         let Received::Refused(number) = received else {
             return Ok(());
         };
@@ -359,12 +371,12 @@ impl<'a, S: SendingEnd, R: ReceivingEnd> Session<'a, S, R> {
     }
 
     fn spoiled_sending(&mut self) -> Result<(), Difference> {
-        let sender = spoil::sender(&mut self.rng, &self.sender);
+        let bytes = spoil::sender(&mut self.rng, self.sender.slice());
+        let mut state = Twin::new(Lent::around(&mut self.rng, &bytes));
         let mut block = Twin::random(&mut self.rng, 483);
         let reading = self.rng.bit();
-        let (_, sent) = self
-            .ends
-            .send(&sender, &self.order.bytes, reading, &mut block)?;
+        let order = &self.order.bytes;
+        let sent = self.ends.send(&mut state, order, reading, &mut block)?;
         if let Sent::Refused(number) = sent {
             self.tally.count(refused_word(number));
         }
@@ -372,14 +384,15 @@ impl<'a, S: SendingEnd, R: ReceivingEnd> Session<'a, S, R> {
     }
 
     fn spoiled_receiving(&mut self) -> Result<(), Difference> {
-        let receiver = spoil::receiver(&mut self.rng, &self.receiver);
+        let bytes = spoil::receiver(&mut self.rng, self.receiver.slice());
+        let mut state = Twin::new(Lent::around(&mut self.rng, &bytes));
         let line = self.rng.bytes(90);
         let bits = self.rng.below(721);
         let mut store = self.store.clone();
         let lent = store.slice().len();
-        let (_, received) = self
+        let received = self
             .ends
-            .receive(&receiver, &line, bits, &mut store, lent)?;
+            .receive(&mut state, &line, bits, &mut store, lent)?;
         if let Received::Refused(number) = received {
             self.tally.count(refused_word(number));
         }
@@ -397,10 +410,11 @@ impl<'a, S: SendingEnd, R: ReceivingEnd> Session<'a, S, R> {
                 self.tally.count("within demand 3 to the end");
             }
         }
-        match self.sender.next {
-            Next::Finished => self.tally.count("finished"),
-            Next::GivenUp => self.tally.count("gave up"),
-            _ => {}
+        let sender = self.sender();
+        if sender.finished {
+            self.tally.count("finished");
+        } else if sender.gave_up() {
+            self.tally.count("gave up");
         }
     }
 }
@@ -449,8 +463,8 @@ mod tests {
     }
 
     #[test]
-    fn the_table_driven_receiver_agrees() {
-        compare(&Reference, &TableDriven, 7, 500)
+    fn the_table_driven_ends_agree() {
+        compare(&TableDriven, &TableDriven, 7, 500)
             .unwrap_or_else(|difference| panic!("{difference}"));
     }
 }

@@ -1,11 +1,11 @@
-//! Both implementations call by call: every answer, state and lent byte of one is held against
-//! that of the other.
+//! Both implementations call by call: every answer and every lent byte, those of the states too,
+//! of one is held against that of the other.
 
 use super::{hex, same, Difference, Lent};
 use crate::calls::{ReceivingEnd, Reference, SendingEnd};
-use crate::reference::receiver::{Received, Receiver};
-use crate::reference::refusal::Refusal;
-use crate::reference::sender::{Sender, Sent};
+use crate::interface::{received, sent, Counts};
+use crate::reference::receiver::Received;
+use crate::reference::sender::Sent;
 use crate::rng::Rng;
 
 /// The same bytes, lent to both.
@@ -27,12 +27,40 @@ impl Twin {
         }
     }
 
+    /// The bytes as the tested implementation left them.
     pub fn slice(&self) -> &[u8] {
-        self.expected.slice()
+        self.got.slice()
+    }
+
+    /// Writes into both.
+    pub fn write(&mut self, at: usize, bytes: &[u8]) {
+        for lent in [&mut self.expected, &mut self.got] {
+            lent.slice_mut()[at..at + bytes.len()].copy_from_slice(bytes);
+        }
     }
 
     fn same(&self, case: &dyn Fn() -> String) -> Result<(), Difference> {
         same(case, &self.expected, &self.got)
+    }
+
+    /// What a refused call must find true: nothing was written.
+    fn untouched(&self, before: &Twin, case: &dyn Fn() -> String) -> Result<(), Difference> {
+        same(case, &before.got, &self.got)
+    }
+}
+
+/// What opening a sender is given besides the slices.
+#[derive(Clone, Copy, Debug)]
+pub struct Opening {
+    pub k: usize,
+    pub speed: u32,
+    pub loop_ms: u32,
+    pub length: usize,
+}
+
+impl Opening {
+    fn call(self, end: &impl SendingEnd, order: &[u8], state: &mut [u8]) -> u8 {
+        end.open_sender(self.k, self.speed, self.loop_ms, self.length, order, state)
     }
 }
 
@@ -43,88 +71,122 @@ pub struct Lockstep<'a, S, R> {
 }
 
 impl<S: SendingEnd, R> Lockstep<'_, S, R> {
-    pub fn test_loop(
-        &self,
-        k: usize,
-        speed: usize,
-        loop_ms: usize,
-    ) -> Result<Result<(), Refusal>, Difference> {
-        let case = || format!("loop time: k {k}, speed {speed}, loop {loop_ms}");
-        let expected = Reference.test_loop(k, speed, loop_ms);
-        let got = self.sending.test_loop(k, speed, loop_ms);
-        same(&case, &expected, &got)?;
-        Ok(expected)
-    }
-
+    /// 0 or the refusal's number.
     pub fn open_sender(
         &self,
-        k: usize,
-        speed: usize,
-        loop_ms: usize,
-        length: usize,
+        opening: Opening,
         order: &[u8],
-    ) -> Result<Result<Sender, Refusal>, Difference> {
+        state: &mut Twin,
+    ) -> Result<u8, Difference> {
+        let before = state.clone();
         let case = || {
-            let bytes = order.len();
-            format!("open sender: k {k}, {speed} bit/s, loop {loop_ms}, L {length}, {bytes} bytes")
+            let (order, bytes) = (order.len(), before.slice().len());
+            format!("open sender: {opening:?}, {order} bytes of order, {bytes} for the state")
         };
-        let expected = Reference.open_sender(k, speed, loop_ms, length, order);
-        let got = self.sending.open_sender(k, speed, loop_ms, length, order);
+        let expected = opening.call(&Reference, order, state.expected.slice_mut());
+        let got = opening.call(self.sending, order, state.got.slice_mut());
         same(&case, &expected, &got)?;
-        Ok(expected)
+        state.same(&case)?;
+        if got != 0 {
+            state.untouched(&before, &case)?;
+        }
+        Ok(got)
     }
 
+    /// A sending call, and whether the sender rests after it.
     pub fn send(
         &self,
-        sender: &Sender,
+        state: &mut Twin,
         order: &[u8],
         reading: bool,
         block: &mut Twin,
-    ) -> Result<(Sender, Sent), Difference> {
-        let lent = block.slice().len();
+    ) -> Result<Sent, Difference> {
+        let (before, place) = (state.clone(), block.clone());
         let case = || {
-            let order = hex(order);
-            format!(
-                "send: {sender:?}, reading {reading}, {lent} bytes for the block, order {order}"
-            )
+            let (state, lent, order) = (hex(before.slice()), place.slice().len(), hex(order));
+            format!("send: {state}, reading {reading}, {lent} bytes for the block, order {order}")
         };
-        let place = block.expected.slice_mut();
-        let expected = Reference.send(sender.clone(), order, reading, place);
-        let place = block.got.slice_mut();
-        let got = self.sending.send(sender.clone(), order, reading, place);
+        let (bytes, out) = (state.expected.slice_mut(), block.expected.slice_mut());
+        let expected = Reference.send(bytes, order, reading, out);
+        let (bytes, out) = (state.got.slice_mut(), block.got.slice_mut());
+        let got = self.sending.send(bytes, order, reading, out);
         same(&case, &expected, &got)?;
+        state.same(&case)?;
         block.same(&case)?;
-        Ok(expected)
+        let sent = sent(got);
+        if let Sent::Refused(_) = sent {
+            state.untouched(&before, &case)?;
+            block.untouched(&place, &case)?;
+        }
+        self.sender_rest(state)?;
+        Ok(sent)
+    }
+
+    fn sender_rest(&self, state: &Twin) -> Result<(), Difference> {
+        let case = || format!("sender rest: {}", hex(state.slice()));
+        let expected = Reference.sender_rest(state.slice());
+        same(&case, &expected, &self.sending.sender_rest(state.slice()))
     }
 }
 
 impl<S, R: ReceivingEnd> Lockstep<'_, S, R> {
-    pub fn open_receiver(&self, k: usize) -> Result<Result<Receiver, Refusal>, Difference> {
-        let expected = Reference.open_receiver(k);
-        let got = self.receiving.open_receiver(k);
-        same(&|| format!("open receiver: k {k}"), &expected, &got)?;
-        Ok(expected)
+    /// 0 or the refusal's number.
+    pub fn open_receiver(&self, k: usize, state: &mut Twin) -> Result<u8, Difference> {
+        let before = state.clone();
+        let case = || format!("open receiver: k {k}, {} bytes", before.slice().len());
+        let expected = Reference.open_receiver(k, state.expected.slice_mut());
+        let got = self.receiving.open_receiver(k, state.got.slice_mut());
+        same(&case, &expected, &got)?;
+        state.same(&case)?;
+        if got != 0 {
+            state.untouched(&before, &case)?;
+        }
+        Ok(got)
     }
 
-    /// A receiving call that is lent the first `lent` bytes of the store.
+    /// A receiving call that is lent the first `lent` bytes of the store, and the return bit
+    /// after it.
     pub fn receive(
         &self,
-        receiver: &Receiver,
+        state: &mut Twin,
         line: &[u8],
         bits: usize,
         store: &mut Twin,
         lent: usize,
-    ) -> Result<(Receiver, Received), Difference> {
+    ) -> Result<Received, Difference> {
+        let before = state.clone();
         let case = || {
-            let line = hex(line);
-            format!("receive: {receiver:x?}, {bits} bits, line {line}, store of {lent} bytes")
+            let (state, line) = (hex(before.slice()), hex(line));
+            format!("receive: {state}, {bits} bits, line {line}, store of {lent} bytes")
         };
-        let place = &mut store.expected.slice_mut()[..lent];
-        let expected = Reference.receive(receiver.clone(), line, bits, place);
-        let place = &mut store.got.slice_mut()[..lent];
-        let got = self.receiving.receive(receiver.clone(), line, bits, place);
-        same(&case, &expected, &got)?;
+        let unwritten = Counts {
+            used: !bits,
+            length: !lent,
+        };
+        let (mut expected_counts, mut counts) = (unwritten, unwritten);
+        let (bytes, place) = (state.expected.slice_mut(), store.expected.slice_mut());
+        let place = &mut place[..lent];
+        let expected = Reference.receive(bytes, line, bits, place, &mut expected_counts);
+        let (bytes, place) = (state.got.slice_mut(), store.got.slice_mut());
+        let place = &mut place[..lent];
+        let got = self
+            .receiving
+            .receive(bytes, line, bits, place, &mut counts);
+        same(&case, &(expected, expected_counts), &(got, counts))?;
+        state.same(&case)?;
         store.same(&case)?;
-        Ok(expected)
+        let received = received(got, counts);
+        if let Received::Refused(_) = received {
+            state.untouched(&before, &case)?;
+            same(&case, &unwritten, &counts)?;
+        }
+        self.return_bit(state)?;
+        Ok(received)
+    }
+
+    fn return_bit(&self, state: &Twin) -> Result<(), Difference> {
+        let case = || format!("return bit: {}", hex(state.slice()));
+        let expected = Reference.return_bit(state.slice());
+        same(&case, &expected, &self.receiving.return_bit(state.slice()))
     }
 }

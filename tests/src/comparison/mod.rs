@@ -6,11 +6,15 @@
 pub mod block;
 pub mod both_ends;
 pub mod lockstep;
+pub mod loop_time;
 pub mod orders;
 pub mod receiver;
 pub mod sender;
 pub mod session;
 mod spoil;
+
+#[cfg(test)]
+mod faults;
 
 use crate::rng::Rng;
 use std::collections::BTreeMap;
@@ -62,6 +66,13 @@ impl Lent {
     pub fn random(rng: &mut Rng, length: usize) -> Lent {
         let bytes = rng.bytes(length + 2 * GUARD);
         Lent { bytes }
+    }
+
+    /// These bytes, between random guards.
+    pub fn around(rng: &mut Rng, bytes: &[u8]) -> Lent {
+        let mut lent = Lent::random(rng, bytes.len());
+        lent.slice_mut().copy_from_slice(bytes);
+        lent
     }
 
     /// Every byte the same, guards included: cheap, for long slices.

@@ -8,6 +8,7 @@ use super::sender::refused_word;
 use super::{spoil, Difference, Lent, Tally};
 use crate::calls::ReceivingEnd;
 use crate::damage::{invert, Damage};
+use crate::interface::{load_receiver, store_receiver, RECEIVER_BYTES};
 use crate::reference::bits::{bits_of, pack, set_bit, unpack, Bits};
 use crate::reference::block::{assemble, block_bits, cancel, synchronising_block};
 use crate::reference::block::{END, LENGTHS, SEQUENCE};
@@ -22,14 +23,10 @@ pub fn compare(tested: &impl ReceivingEnd, seed: u64, cases: usize) -> Result<Ta
         receiving: tested,
     };
     let mut tally = Tally::default();
-    for k in LENGTHS.into_iter().chain(REFUSED_LENGTHS) {
-        tally.count(match ends.open_receiver(k)? {
-            Ok(_) => "opened",
-            Err(_) => "opening refused",
-        });
-    }
+    open(&ends, &mut Rng::new(seed), &mut tally)?;
     for number in 0..cases {
         let mut case = Case::random(Rng::for_case(seed, number));
+        tally.count(case.kind());
         let received = case.call(&ends);
         let received = received.map_err(|difference| format!("case {number}: {difference}"))?;
         tally.count(match received {
@@ -40,10 +37,30 @@ pub fn compare(tested: &impl ReceivingEnd, seed: u64, cases: usize) -> Result<Ta
     Ok(tally)
 }
 
-/// A state, and the bits that come next on the line.
+/// Every k, good and refused, into slices that are empty, short by one, right and long.
+fn open<R: ReceivingEnd>(
+    ends: &Lockstep<(), R>,
+    rng: &mut Rng,
+    tally: &mut Tally,
+) -> Result<(), Difference> {
+    for k in LENGTHS.into_iter().chain(REFUSED_LENGTHS) {
+        for length in [0, RECEIVER_BYTES - 1, RECEIVER_BYTES, RECEIVER_BYTES + 5] {
+            let mut state = Twin::random(rng, length);
+            tally.count(match ends.open_receiver(k, &mut state)? {
+                0 => "opened",
+                1 => "opening refused 1",
+                _ => "opening refused 6",
+            });
+        }
+    }
+    Ok(())
+}
+
+/// A state, its bytes, which may be spoiled, and the bits that come next on the line.
 struct Case {
     rng: Rng,
     state: Receiver,
+    bytes: Vec<u8>,
     line: Bits,
 }
 
@@ -71,10 +88,26 @@ impl Case {
         let mut line = coming[state.held..].to_vec();
         let garbage = rng.bytes(12);
         line.extend(unpack(&garbage, 0, 96));
-        if rng.chance(10) {
-            state = spoil::receiver(&mut rng, &state);
+        let mut bytes = vec![0; RECEIVER_BYTES];
+        store_receiver(&state, &mut bytes);
+        if rng.chance(15) {
+            bytes = spoil::receiver(&mut rng, &bytes);
         }
-        Case { rng, state, line }
+        Case {
+            rng,
+            state,
+            bytes,
+            line,
+        }
+    }
+
+    fn kind(&self) -> &'static str {
+        match load_receiver(&self.bytes) {
+            _ if self.bytes.len() < RECEIVER_BYTES => "states too short",
+            None => "flags and enums out of range",
+            Some(state) if state.is_spoiled() => "fields out of range",
+            Some(_) => "states",
+        }
     }
 
     /// One call with some number of bits, a line of some length and some part of the store.
@@ -96,14 +129,13 @@ impl Case {
             1 => line.truncate(bits.div_ceil(8)),
             _ => {}
         }
-        let k = self.state.k.min(3840);
-        let right = (self.state.taken.min(MOST_ITEMS) + 1) * k / 8;
+        let right = (self.state.taken + 1) * self.state.k / 8;
         let byte = rng.below(256) as u8;
         let mut store = Twin::new(Lent::filled(byte, right + 3));
         let short = right.saturating_sub(1);
         let lent = rng.pick(&[right, right, right, right, right, right + 3, short, 0]);
-        let (_, received) = ends.receive(&self.state, &line, bits, &mut store, lent)?;
-        Ok(received)
+        let mut state = Twin::new(Lent::around(rng, &self.bytes));
+        ends.receive(&mut state, &line, bits, &mut store, lent)
     }
 }
 
@@ -221,6 +253,9 @@ mod tests {
             "length alarm",
             "refused 6",
             "refused 7",
+            "states too short",
+            "flags and enums out of range",
+            "fields out of range",
         ];
         for kind in kinds {
             assert!(tally.of(kind) > 100, "{kind}: {tally}");

@@ -1,19 +1,23 @@
-//! Loop times, opening a sender, and random sessions of sending calls.
+//! Opening a sender, and random sessions of sending calls on state bytes of every kind.
 
 use super::block::REFUSED_LENGTHS;
-use super::lockstep::{Lockstep, Twin};
+use super::lockstep::{Lockstep, Opening, Twin};
+use super::loop_time::REFUSED_SPEEDS;
 use super::orders::Order;
-use super::{spoil, Difference, Tally};
+use super::{spoil, Difference, Lent, Tally};
 use crate::calls::SendingEnd;
-use crate::reference::block::{block_bytes, LENGTHS};
+use crate::interface::{load_sender, store_word, SENDER_BYTES};
+use crate::reference::bits::bit_at;
+use crate::reference::block::block_bytes;
 use crate::reference::loop_time::{longest_loop, SPEEDS};
 use crate::reference::order::LONGEST;
 use crate::reference::refusal::Refusal;
-use crate::reference::sender::{Next, Sender, Sent};
+use crate::reference::sender::{Sender, Sent};
 use crate::rng::Rng;
 
-/// Speeds that no table has.
-const REFUSED_SPEEDS: [usize; 7] = [0, 1, 199, 201, 300, 9600, u32::MAX as usize];
+/// Where the layout has the newer item and the run of cancels.
+const NEWER: usize = 8;
+const RUN: usize = 12;
 
 /// Runs the whole group.
 pub fn compare(tested: &impl SendingEnd, seed: u64, sessions: usize) -> Result<Tally, Difference> {
@@ -22,7 +26,6 @@ pub fn compare(tested: &impl SendingEnd, seed: u64, sessions: usize) -> Result<T
         receiving: &(),
     };
     let mut tally = Tally::default();
-    loop_times(&ends, &mut tally)?;
     for session in 0..sessions {
         let rng = Rng::for_case(seed, session);
         let run = Session::open(&ends, rng, &mut tally).and_then(Session::run);
@@ -32,29 +35,13 @@ pub fn compare(tested: &impl SendingEnd, seed: u64, sessions: usize) -> Result<T
     Ok(tally)
 }
 
-/// Every block length and speed, good and refused, with loops around the table's entry.
-fn loop_times<S: SendingEnd>(ends: &Lockstep<S, ()>, tally: &mut Tally) -> Result<(), Difference> {
-    for k in LENGTHS.into_iter().chain(REFUSED_LENGTHS) {
-        for speed in SPEEDS.into_iter().chain(REFUSED_SPEEDS) {
-            let known = LENGTHS.contains(&k) && SPEEDS.contains(&speed);
-            let longest = known.then(|| longest_loop(k, speed)).flatten().unwrap_or(0);
-            for loop_ms in [0, longest.saturating_sub(1), longest, longest + 1, 65_536] {
-                tally.count(match ends.test_loop(k, speed, loop_ms)? {
-                    Ok(()) => "loops good",
-                    Err(_) => "loops refused",
-                });
-            }
-        }
-    }
-    Ok(())
-}
-
 struct Session<'a, S> {
     ends: &'a Lockstep<'a, S, ()>,
     rng: Rng,
     tally: &'a mut Tally,
     order: Order,
-    sender: Sender,
+    /// The sender's bytes, and some behind them.
+    state: Twin,
     /// Readings of 1 in a hundred.
     requests: usize,
 }
@@ -66,27 +53,45 @@ impl<'a, S: SendingEnd> Session<'a, S> {
         tally: &'a mut Tally,
     ) -> Result<Session<'a, S>, Difference> {
         let order = Order::random(&mut rng);
+        count_order(&order, tally);
         refused_opening(ends, &mut rng, &order, tally)?;
-        let speed = rng.pick(&[200, 600, 1200, 2400]);
-        let opened = ends.open_sender(order.k, speed, 0, order.length, &order.bytes)?;
-        let mut sender = opened.expect("an opening that document 01 accepts");
-        if rng.chance(40) {
-            sender.newer = rng.between(1, order.items() + 1);
-        } else if rng.chance(20) {
-            sender.newer = order.items();
-        }
-        if rng.chance(10) {
-            sender.run = rng.below(64);
-        }
+        let further = rng.below(4);
+        let mut state = Twin::random(&mut rng, SENDER_BYTES + further);
+        let opening = good_opening(&mut rng, &order);
+        let refused = ends.open_sender(opening, &order.bytes, &mut state)?;
+        assert_eq!(refused, 0, "an opening that document 01 accepts");
         let requests = rng.pick(&[0, 5, 20, 50, 90, 100]);
-        Ok(Session {
+        let mut session = Session {
             ends,
             rng,
             tally,
             order,
-            sender,
+            state,
             requests,
-        })
+        };
+        session.move_on();
+        Ok(session)
+    }
+
+    /// Now and then the session begins in the middle of the order, or of a run of cancels.
+    fn move_on(&mut self) {
+        let items = self.order.items();
+        let newer = match self.rng.below(10) {
+            0..=3 => self.rng.between(1, items + 1),
+            4 => items,
+            _ => 1,
+        };
+        let mut bytes = [0; 4];
+        store_word(&mut bytes, 0, newer);
+        self.state.write(NEWER, &bytes);
+        if self.rng.chance(10) {
+            let run = self.rng.below(64) as u8;
+            self.state.write(RUN, &[run]);
+        }
+    }
+
+    fn sender(&self) -> Sender {
+        load_sender(self.state.slice()).expect("a state that a call handed back")
     }
 
     fn run(mut self) -> Result<(), Difference> {
@@ -101,7 +106,7 @@ impl<'a, S: SendingEnd> Session<'a, S> {
                 1 => self.short_call()?,
                 _ => self.call()?,
             }
-            if self.sender.rests() && self.rng.bit() {
+            if self.sender().rests() && self.rng.bit() {
                 break;
             }
         }
@@ -112,26 +117,32 @@ impl<'a, S: SendingEnd> Session<'a, S> {
     fn call(&mut self) -> Result<(), Difference> {
         let further = self.rng.below(4);
         let bytes = block_bytes(self.order.k) + further;
-        let (sender, sent) = self.send(&self.sender.clone(), self.order.bytes.len(), bytes)?;
-        self.count(sent);
-        if self.sender.next != sender.next && sender.rests() {
-            self.tally.count(match sender.next {
-                Next::Finished => "finished",
-                _ => "gave up",
+        let rested = self.sender().rests();
+        let mut state = self.state.clone();
+        self.send(&mut state, self.order.bytes.len(), bytes)?;
+        self.state = state;
+        let sender = self.sender();
+        if !rested && sender.rests() {
+            self.tally.count(match sender.finished {
+                true => "finished",
+                false => "gave up",
             });
         }
-        self.sender = sender;
         Ok(())
     }
 
-    /// A call on a state with changed fields, which the session then forgets.
+    /// A call on changed bytes, which the session then forgets.
     fn spoiled_call(&mut self) -> Result<(), Difference> {
-        let sender = spoil::sender(&mut self.rng, &self.sender);
+        let bytes = spoil::sender(&mut self.rng, self.state.slice());
+        self.tally.count(match load_sender(&bytes) {
+            _ if bytes.len() < SENDER_BYTES => "states too short",
+            None => "flags and enums out of range",
+            Some(_) => "fields changed",
+        });
+        let mut state = Twin::new(Lent::around(&mut self.rng, &bytes));
         let right = block_bytes(self.order.k);
         let bytes = self.rng.pick(&[right, right - 1, 0, 483]);
-        let (_, sent) = self.send(&sender, self.order.bytes.len(), bytes)?;
-        self.count(sent);
-        Ok(())
+        self.send(&mut state, self.order.bytes.len(), bytes)
     }
 
     /// A call with the order or the block's place too short, or just not.
@@ -139,21 +150,17 @@ impl<'a, S: SendingEnd> Session<'a, S> {
         let (least, right) = (self.order.length.div_ceil(8), block_bytes(self.order.k));
         let order = self.rng.pick(&[least, least - 1, 0]);
         let bytes = self.rng.pick(&[right, right - 1, 0]);
-        let (_, sent) = self.send(&self.sender.clone(), order, bytes)?;
-        self.count(sent);
-        Ok(())
+        let mut state = self.state.clone();
+        self.send(&mut state, order, bytes)
     }
 
-    fn send(
-        &mut self,
-        sender: &Sender,
-        order: usize,
-        bytes: usize,
-    ) -> Result<(Sender, Sent), Difference> {
+    fn send(&mut self, state: &mut Twin, order: usize, bytes: usize) -> Result<(), Difference> {
         let reading = self.rng.chance(self.requests);
         let mut block = Twin::random(&mut self.rng, bytes);
         let order = &self.order.bytes[..order];
-        self.ends.send(sender, order, reading, &mut block)
+        let sent = self.ends.send(state, order, reading, &mut block)?;
+        self.count(sent);
+        Ok(())
     }
 
     fn count(&mut self, sent: Sent) {
@@ -169,6 +176,32 @@ impl<'a, S: SendingEnd> Session<'a, S> {
     }
 }
 
+fn count_order(order: &Order, tally: &mut Tally) {
+    match order.length {
+        1 => tally.count("orders of 1 bit"),
+        LONGEST => tally.count("orders of 262144 bits"),
+        _ => {}
+    }
+    let behind = order.length..order.length.next_multiple_of(8);
+    if behind.into_iter().any(|place| bit_at(&order.bytes, place)) {
+        tally.count("orders with ones behind L");
+    }
+}
+
+/// An opening that document 01 accepts, its loop often the longest.
+fn good_opening(rng: &mut Rng, order: &Order) -> Opening {
+    let entry = |speed| longest_loop(order.k, speed).map(|longest| (speed, longest));
+    let entries: Vec<_> = SPEEDS.into_iter().filter_map(entry).collect();
+    let (speed, longest) = rng.pick(&entries);
+    let loop_ms = rng.pick(&[0, longest]);
+    Opening {
+        k: order.k,
+        speed: speed as u32,
+        loop_ms: loop_ms as u32,
+        length: order.length,
+    }
+}
+
 /// An opening with one or two arguments changed, most often for the worse.
 fn refused_opening<S: SendingEnd>(
     ends: &Lockstep<S, ()>,
@@ -176,21 +209,28 @@ fn refused_opening<S: SendingEnd>(
     order: &Order,
     tally: &mut Tally,
 ) -> Result<(), Difference> {
-    let (mut k, mut speed, mut loop_ms) = (order.k, rng.pick(&SPEEDS), 0);
-    let (mut length, mut bytes) = (order.length, order.bytes.len());
+    let mut opening = good_opening(rng, order);
+    let (mut bytes, mut state) = (order.bytes.len(), SENDER_BYTES);
     for _ in 0..rng.between(1, 2) {
-        match rng.below(5) {
-            0 => k = rng.pick(&REFUSED_LENGTHS),
-            1 => speed = rng.pick(&REFUSED_SPEEDS),
-            2 => loop_ms = rng.below(20_000),
-            3 => length = rng.pick(&[0, LONGEST + 1, u32::MAX as usize, bytes * 8 + 1]),
-            _ => bytes = rng.pick(&[0, order.length.div_ceil(8) - 1]),
+        match rng.below(6) {
+            0 => opening.k = rng.pick(&REFUSED_LENGTHS),
+            1 => opening.speed = rng.pick(&REFUSED_SPEEDS) as u32,
+            2 => opening.loop_ms = rng.below(20_000) as u32,
+            3 => opening.length = rng.pick(&[0, LONGEST + 1, usize::MAX, bytes * 8 + 1]),
+            4 => bytes = rng.pick(&[0, order.length.div_ceil(8) - 1]),
+            _ => state = rng.pick(&[0, SENDER_BYTES - 1]),
         }
     }
-    let opened = ends.open_sender(k, speed, loop_ms, length, &order.bytes[..bytes])?;
-    tally.count(match opened {
-        Ok(_) => "opened",
-        Err(_) => "opening refused",
+    let mut state = Twin::random(rng, state);
+    let answer = ends.open_sender(opening, &order.bytes[..bytes], &mut state)?;
+    tally.count(match answer {
+        0 => "opened",
+        1 => "opening refused 1",
+        2 => "opening refused 2",
+        3 => "opening refused 3",
+        4 => "opening refused 4",
+        5 => "opening refused 5",
+        _ => "opening refused 6",
     });
     Ok(())
 }
@@ -208,11 +248,12 @@ pub fn refused_word(number: Refusal) -> &'static str {
 #[cfg(test)]
 mod tests {
     use super::*;
-    use crate::calls::Reference;
+    use crate::calls::TableDriven;
 
     #[test]
-    fn sessions_bring_every_answer() {
-        let tally = compare(&Reference, 5, 1_500).unwrap();
+    fn the_table_driven_sender_agrees() {
+        let tally =
+            compare(&TableDriven, 5, 3_000).unwrap_or_else(|difference| panic!("{difference}"));
         let kinds = [
             "synchronising",
             "cancelled",
@@ -223,8 +264,19 @@ mod tests {
             "refused 6",
             "refused 7",
             "refused 8",
-            "opening refused",
+            "opening refused 1",
+            "opening refused 2",
+            "opening refused 3",
+            "opening refused 4",
+            "opening refused 5",
+            "opening refused 6",
             "opened",
+            "states too short",
+            "flags and enums out of range",
+            "fields changed",
+            "orders of 1 bit",
+            "orders of 262144 bits",
+            "orders with ones behind L",
         ];
         for kind in kinds {
             assert!(tally.of(kind) > 10, "{kind}: {tally}");

@@ -1,14 +1,18 @@
-//! States that no session reaches: fields out of their range, and odd ones within it.
+//! State bytes that no session leaves: fields, flags and enum bytes out of their range, odd ones
+//! within it, any bytes at all, and slices of another length.
 
 use super::block::REFUSED_LENGTHS;
+use crate::interface::{load_receiver, load_sender, store_word, RECEIVER_BYTES, SENDER_BYTES};
 use crate::reference::block::{block_bits, LENGTHS};
 use crate::reference::order::{LONGEST, MOST_ITEMS};
-use crate::reference::receiver::{Alarm, Receiver};
-use crate::reference::sender::{Next, Sender};
 use crate::rng::Rng;
 
-/// The largest number that a state's field holds in every implementation.
+/// The largest number that four bytes hold.
 const LARGEST: usize = u32::MAX as usize;
+
+/// Where the four single bytes stand in both layouts.
+const COUNT: usize = 12;
+const FLAGS: usize = 13;
 
 /// Any k that a field holds, one of the four or not.
 fn any_length(rng: &mut Rng) -> usize {
@@ -18,63 +22,83 @@ fn any_length(rng: &mut Rng) -> usize {
     }
 }
 
-/// A sender with one to three fields changed.
-pub fn sender(rng: &mut Rng, sender: &Sender) -> Sender {
-    let mut sender = sender.clone();
+/// A sender's bytes with one to three changes.
+pub fn sender(rng: &mut Rng, state: &[u8]) -> Vec<u8> {
+    let mut bytes = state[..SENDER_BYTES].to_vec();
     for _ in 0..rng.between(1, 3) {
-        spoil_sender(rng, &mut sender);
+        spoil_sender(rng, &mut bytes);
     }
-    sender
+    with_length(rng, bytes)
 }
 
-fn spoil_sender(rng: &mut Rng, sender: &mut Sender) {
-    let items = sender.length.div_ceil(sender.k.max(1));
-    match rng.below(6) {
-        0 => sender.k = any_length(rng),
+fn spoil_sender(rng: &mut Rng, bytes: &mut [u8]) {
+    let items = load_sender(bytes).map_or(1, |sender| sender.length.div_ceil(sender.k.max(1)));
+    match rng.below(8) {
+        0 => store_word(bytes, 0, any_length(rng)),
         1 => {
             let near = rng.between(1, LONGEST);
-            sender.length = rng.pick(&[0, 1, near, LONGEST, LONGEST + 1, LARGEST]);
+            let length = rng.pick(&[0, 1, near, LONGEST, LONGEST + 1, LARGEST]);
+            store_word(bytes, 4, length);
         }
-        2 => sender.newer = rng.pick(&[0, 1, items, items + 1, items + 2, LARGEST]),
-        3 => sender.run = rng.pick(&[0, 3, 4, 62, 63, 64, 65, 255, LARGEST]),
-        4 => sender.opening = !sender.opening,
-        _ => sender.next = any_next(rng),
+        2 => {
+            let newer = rng.pick(&[0, 1, items, items + 1, items + 2, LARGEST]);
+            store_word(bytes, 8, newer);
+        }
+        3 => bytes[COUNT] = rng.pick(&[0, 3, 4, 62, 63, 64, 65, 255]),
+        _ => spoil_flags(rng, bytes),
     }
 }
 
-fn any_next(rng: &mut Rng) -> Next {
-    rng.pick(&[
-        Next::Synchronising,
-        Next::Older,
-        Next::Newer,
-        Next::Finished,
-        Next::GivenUp,
-    ])
-}
-
-/// A receiver with one to three fields changed.
-pub fn receiver(rng: &mut Rng, receiver: &Receiver) -> Receiver {
-    let mut receiver = receiver.clone();
+/// A receiver's bytes with one to three changes.
+pub fn receiver(rng: &mut Rng, state: &[u8]) -> Vec<u8> {
+    let mut bytes = state[..RECEIVER_BYTES].to_vec();
     for _ in 0..rng.between(1, 3) {
-        spoil_receiver(rng, &mut receiver);
+        spoil_receiver(rng, &mut bytes);
     }
-    receiver
+    with_length(rng, bytes)
 }
 
-fn spoil_receiver(rng: &mut Rng, receiver: &mut Receiver) {
-    let n = block_bits(receiver.k.min(LARGEST));
-    match rng.below(9) {
-        0 => receiver.k = any_length(rng),
-        1 => receiver.held = rng.pick(&[0, 1, 15, 16, 17, n - 1, n, n + 1, 3859, 3860, LARGEST]),
-        2 => receiver.row = rng.pick(&[0, 6, 7, 8, 9, 255, LARGEST]),
-        3 => {
-            let near = rng.below(MOST_ITEMS);
-            receiver.taken = rng.pick(&[0, near, MOST_ITEMS, MOST_ITEMS + 1, LARGEST]);
+fn spoil_receiver(rng: &mut Rng, bytes: &mut [u8]) {
+    let n = load_receiver(bytes).map_or(260, |receiver| block_bits(receiver.k));
+    match rng.below(8) {
+        0 => store_word(bytes, 0, any_length(rng)),
+        1 => {
+            let held = rng.pick(&[0, 1, 15, 16, 17, n - 1, n, n + 1, 3859, 3860, LARGEST]);
+            store_word(bytes, 4, held);
         }
-        4 => receiver.search = !receiver.search,
-        5 => receiver.return_bit = !receiver.return_bit,
-        6 => receiver.end_taken = !receiver.end_taken,
-        7 => receiver.alarm = rng.pick(&[None, Some(Alarm::Sequence), Some(Alarm::Length)]),
-        _ => rng.fill(&mut receiver.array),
+        2 => {
+            let near = rng.below(MOST_ITEMS);
+            let taken = rng.pick(&[0, near, MOST_ITEMS, MOST_ITEMS + 1, LARGEST]);
+            store_word(bytes, 8, taken);
+        }
+        3 => bytes[COUNT] = rng.pick(&[0, 6, 7, 8, 9, 255]),
+        _ => spoil_flags(rng, bytes),
     }
+}
+
+/// Changes one of the last three bytes of the head, or any byte, or now and then every byte.
+fn spoil_flags(rng: &mut Rng, bytes: &mut [u8]) {
+    match rng.below(12) {
+        0 => rng.fill(bytes),
+        1 | 2 => {
+            let place = rng.below(bytes.len());
+            bytes[place] = rng.below(256) as u8;
+        }
+        _ => bytes[FLAGS + rng.below(3)] = rng.pick(&[0, 1, 1, 2, 3, 4, 128, 255]),
+    }
+}
+
+/// Now and then the slice is cut, or goes on behind the state.
+fn with_length(rng: &mut Rng, mut bytes: Vec<u8>) -> Vec<u8> {
+    let whole = bytes.len();
+    match rng.below(12) {
+        0 => bytes.truncate(whole - 1),
+        1 => bytes.truncate(rng.below(whole)),
+        2 => {
+            let count = rng.between(1, 9);
+            bytes.extend(rng.bytes(count));
+        }
+        _ => {}
+    }
+    bytes
 }

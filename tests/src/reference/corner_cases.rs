@@ -4,7 +4,7 @@ use super::bits::pack;
 use super::block::{assemble, synchronising_block, A, B, C, END};
 use super::order::end_payload;
 use super::receiver::{self, Alarm, Event, Received, Receiver};
-use super::sender::{self, Next, Sent};
+use super::sender::{self, Sent};
 use super::session::run;
 
 const K: usize = 240;
@@ -230,10 +230,10 @@ fn a_sender_gives_up_at_the_sixty_fourth_cancel() {
         sender = next;
     }
     assert_eq!((cancels, sender.run), (64, 64));
-    assert_eq!(sender.next, Next::GivenUp);
+    assert!(sender.gave_up() && !sender.finished);
     let (_, sent) = sender.clone().send(&[], false, &mut []);
     assert_eq!(sent, Sent::Refused(8));
-    sender.run = 63;
+    sender.run = 65;
     let (_, sent) = sender.send(&[], false, &mut []);
     assert_eq!(sent, Sent::Refused(7));
 }

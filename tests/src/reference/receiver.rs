@@ -96,7 +96,8 @@ impl Receiver {
         (state, Received::Heard { event, used: bits })
     }
 
-    fn is_spoiled(&self) -> bool {
+    /// Whether a field is outside its range.
+    pub fn is_spoiled(&self) -> bool {
         !is_length(self.k)
             || self.row >= BAD_ROW
             || self.held >= block_bits(self.k)

@@ -11,14 +11,12 @@ pub const GIVE_UP: usize = 64;
 /// The run of cancels from which on a synchronising block comes next.
 pub const RESYNCHRONISE: usize = 4;
 
-/// What the next call sends, if anything.
+/// What the next call sends, if the sender is not at rest.
 #[derive(Clone, Copy, Debug, PartialEq, Eq)]
 pub enum Next {
     Synchronising,
     Older,
     Newer,
-    Finished,
-    GivenUp,
 }
 
 /// A sender's state. The older item is the one before `newer`.
@@ -27,10 +25,11 @@ pub struct Sender {
     pub k: usize,
     pub length: usize,
     pub newer: usize,
-    /// The run of cancels, 64 exactly when given up.
+    /// The run of cancels; 64 is how a sender has given up.
     pub run: usize,
     pub opening: bool,
     pub next: Next,
+    pub finished: bool,
 }
 
 /// What a sending call answers.
@@ -72,6 +71,7 @@ pub fn open(
         run: 0,
         opening: true,
         next: Next::Synchronising,
+        finished: false,
     })
 }
 
@@ -103,7 +103,11 @@ impl Sender {
 
     /// Whether no further block will be sent.
     pub fn rests(&self) -> bool {
-        matches!(self.next, Next::Finished | Next::GivenUp)
+        self.finished || self.gave_up()
+    }
+
+    pub fn gave_up(&self) -> bool {
+        self.run == GIVE_UP
     }
 
     fn judge(&self, order: &[u8], block: &[u8]) -> Result<(), Refusal> {
@@ -119,13 +123,13 @@ impl Sender {
         Ok(())
     }
 
-    fn is_spoiled(&self) -> bool {
+    /// Whether a field is outside its range.
+    pub fn is_spoiled(&self) -> bool {
         !is_length(self.k)
             || !is_order_length(self.length)
             || self.newer < 1
             || self.newer > items(self.k, self.length) + 1
             || self.run > GIVE_UP
-            || (self.run == GIVE_UP) != (self.next == Next::GivenUp)
     }
 
     /// One step of the sender, whose next block is a synchronising one or `item`.
@@ -154,22 +158,18 @@ impl Sender {
         self.run = 0;
         self.opening = false;
         if self.newer == items(self.k, self.length) + 1 {
-            self.next = Next::Finished;
+            self.finished = true;
         } else {
             self.newer += 1;
-            self.next = Next::Newer;
         }
     }
 
     /// Newer, reading 1.
     fn repeat(&mut self) {
         self.run += 1;
-        self.next = if self.run == GIVE_UP {
-            Next::GivenUp
-        } else if self.opening || self.run >= RESYNCHRONISE {
-            Next::Synchronising
-        } else {
-            Next::Older
+        self.next = match self.opening || self.run >= RESYNCHRONISE {
+            true => Next::Synchronising,
+            false => Next::Older,
         };
     }
 }

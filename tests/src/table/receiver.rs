@@ -1,7 +1,7 @@
 //! The table-driven sibling of the receiving call: bytes are moved, not bits, while it is in step.
 
-use super::{check_word, copy_payload, is_length, register, BLOCK, SHORT, SPOILED};
-use crate::reference::receiver::{Alarm, Event, Received};
+use super::{check_word, copy_payload, is_length, register, SHORT, SPOILED};
+use crate::reference::receiver::{self, Alarm, Event, Received};
 
 const HOLD_BYTES: usize = 483;
 const MOST_ITEMS: usize = 1093;
@@ -24,22 +24,36 @@ pub struct Receiver {
     pub array: [u8; HOLD_BYTES],
 }
 
-/// Opens a receiver in search.
-pub fn open(k: usize) -> Result<Receiver, u8> {
-    if !is_length(k) {
-        return Err(BLOCK);
+impl From<receiver::Receiver> for Receiver {
+    fn from(state: receiver::Receiver) -> Receiver {
+        Receiver {
+            k: state.k,
+            held: state.held,
+            row: state.row,
+            taken: state.taken,
+            search: state.search,
+            return_bit: state.return_bit,
+            end_taken: state.end_taken,
+            alarm: state.alarm,
+            array: state.array,
+        }
     }
-    Ok(Receiver {
-        k,
-        held: 0,
-        row: 0,
-        taken: 0,
-        search: true,
-        return_bit: true,
-        end_taken: false,
-        alarm: None,
-        array: [0; HOLD_BYTES],
-    })
+}
+
+impl From<Receiver> for receiver::Receiver {
+    fn from(state: Receiver) -> receiver::Receiver {
+        receiver::Receiver {
+            k: state.k,
+            search: state.search,
+            array: state.array,
+            held: state.held,
+            row: state.row,
+            return_bit: state.return_bit,
+            taken: state.taken,
+            end_taken: state.end_taken,
+            alarm: state.alarm,
+        }
+    }
 }
 
 impl Receiver {

@@ -1,0 +1,4 @@
+pub mod Flags
+pub mod Ranges
+pub mod ReceiverRange
+pub mod RoundTrip

@@ -1,0 +1,151 @@
+-- A receiver in range fits its layout, and so do the states that opening and a receiving call hand back.
+-- Assumes nothing.
+use mathlib.Core.Path.{_≡_, refl, sym, ap, _∙_}
+use mathlib.Core.Bool.{Bool, true, false, cond, not, _&&_, _||_}
+use mathlib.Core.List.{List, [], _∷_, _++_}
+use Prim.Native.Nat.{ℕ, suc, _+_, _-_, _*_, _^_, _≤_, _<_, min}
+use native.Mathlib.Omega.{arith}
+use borrow.Author.Tests.{ltb-true, leb-true, not-false}
+use lib.Dec.{eqb, leb, ltb}
+use lib.ListN.{length, take, drop, length-append, length-drop, length-take, length-replicate}
+use Rattle.crc.specs.Bits.{Bits, bitsOf, bytesOf}
+use Rattle.crc.proofs.Bytes.{length-bytesOf}
+use Rattle.block.specs.Answer as A
+use Rattle.block.specs.Answer.{Answer, refused, done}
+use Rattle.block.specs.Lengths.{blockLength}
+use Rattle.block.specs.Calls.{tooShort}
+use Rattle.block.proofs.Lengths.{length-facts}
+use Rattle.line.specs.Receiving.{arrayBytes, noBytes, freshReceiver, openReceiver, Rule, unfinished, standing, found, sync-block, check-fails, accepts, previous, out-of-sequence, ends, wrong-length, ends-again, anything-else, meaning, judge, blank, lastBad, badly, after, heldBits, Reading, latest, searching, isSequence, stops, search, stands, overwrite, holding, missing, finishedRow, inStep, reading, idle, readings, heldInRange, receiverInRange, judgeStore, receive}
+use Rattle.line.specs.declared.receiver.Receiver.{Receiver}
+use Rattle.line.specs.declared.receiver.Phase.{Phase}
+use Rattle.line.specs.declared.receiver.Phase.the-variants as P
+use Rattle.line.proofs.Sending.{passed-test}
+use Rattle.line.proofs.Delivery.Tests.{cond-case}
+use Rattle.line.proofs.Calling.{InRange, in-range, held-search, held-step}
+use Rattle.line_c.specs.State.{ReceiverFits}
+
+-- ---- a state in range
+
+held-small : (p : Phase) (n held : ℕ) → n ≤ 3860 → heldInRange p n held ≡ true → held < 2 ^ 32
+held-small P.Search n held g h = omega (arith, leb-true held 15 h)
+held-small P.InStep n held g h = omega (arith, ltb-true held n h)
+held-small P.SequenceAlarm n held g h = omega (arith, ltb-true held n h)
+held-small P.LengthAlarm n held g h = omega (arith, ltb-true held n h)
+
+pub receiver-fits : (s : Receiver) → receiverInRange s ≡ true → length (s .bits) ≡ arrayBytes → ReceiverFits s
+receiver-fits s h b =
+    let r = in-range s h in
+    let k = length-facts (s .setup .k) (r .known) in
+    record {
+      k = omega arith;
+      held = held-small (s .phase) (blockLength (s .setup .k)) (s .held) (omega arith) (r .held);
+      taken = omega (arith, r .taken);
+      row = omega (arith, r .row);
+      bits = b;
+    }
+
+-- ---- the state after an event
+
+length-noBytes : length noBytes ≡ arrayBytes
+unfolding noBytes
+length-noBytes = length-replicate {A = ℕ} arrayBytes 0
+
+abbrev Fits : Reading → Type 0
+Fits x = ReceiverFits (x .state)
+
+module _ (s : Receiver) (r : InRange s) (f : ReceiverFits s) where
+  blank-fits : (row : ℕ) (back : Bool) (taken : ℕ) (ended : Bool) (phase : Phase) → row ≤ 8 → taken ≤ s .taken + 1
+      → ReceiverFits (blank s row back taken ended phase)
+  blank-fits row back taken ended phase h g =
+      record {
+        k = f .k;
+        held = omega arith;
+        taken = omega (arith, r .taken);
+        row = omega arith;
+        bits = length-noBytes;
+      }
+
+  badly-fits : (search : Bool) → ReceiverFits (badly s search)
+  badly-fits true = blank-fits 0 true (s .taken) (s .ended) P.Search (omega arith) (omega arith)
+  badly-fits false = blank-fits (s .row + 1) true (s .taken) (s .ended) P.InStep (omega (arith, r .row)) (omega arith)
+
+  after-fits : (rule : Rule) → ReceiverFits (after s rule)
+  after-fits unfinished = f
+  after-fits (standing alarm) = f
+  after-fits found = blank-fits 0 false (s .taken) (s .ended) P.InStep (omega arith) (omega arith)
+  after-fits sync-block = blank-fits 0 false (s .taken) (s .ended) P.InStep (omega arith) (omega arith)
+  after-fits check-fails = badly-fits (leb lastBad (s .row + 1))
+  after-fits accepts = blank-fits 0 false (s .taken + 1) (s .ended) P.InStep (omega arith) (omega arith)
+  after-fits previous = blank-fits 0 false (s .taken) (s .ended) P.InStep (omega arith) (omega arith)
+  after-fits out-of-sequence = blank-fits 0 true (s .taken) (s .ended) P.SequenceAlarm (omega arith) (omega arith)
+  after-fits (ends L) = blank-fits 0 false (s .taken) true P.InStep (omega arith) (omega arith)
+  after-fits wrong-length = blank-fits 0 true (s .taken) (s .ended) P.LengthAlarm (omega arith) (omega arith)
+  after-fits ends-again = blank-fits 0 false (s .taken) (s .ended) P.InStep (omega arith) (omega arith)
+  after-fits anything-else = badly-fits (leb lastBad (s .row + 1) || eqb (s .taken) 0)
+
+  -- ---- in search
+
+  length-latest : (row : Bits) → length (latest row) ≤ 15
+  length-latest row = simp length-drop (omega arith)
+
+  search-fits : (new window : Bits) (used : ℕ) → length window ≤ 15 → ReceiverFits (search s window new used .state)
+  search-fits [] window used h =
+      record {
+        k = f .k;
+        held = omega arith;
+        taken = f .taken;
+        row = f .row;
+        bits = simp (length-append, length-bytesOf, length-drop, f .bits);
+      }
+  search-fits (b ∷ bs) window used h =
+      cond-case Fits (isSequence (window ++ (b ∷ []))) (λ e. after-fits found)
+      (λ e. search-fits bs (latest (window ++ (b ∷ []))) (suc used) (length-latest (window ++ (b ∷ []))))
+
+  -- ---- in step
+
+  holding-fits : (new : Bits) → length new < missing s → ReceiverFits (holding s new)
+  holding-fits new h =
+      let k = length-facts (s .setup .k) (r .known) in
+      record { k = f .k; held = omega arith; taken = f .taken; row = f .row; bits = length-bytesOf arrayBytes _ }
+
+  step-fits : (new : Bits) → ReceiverFits (inStep s new .state)
+  unfolding inStep
+  step-fits new =
+      cond-case Fits (ltb (length new) (missing s)) (λ e. holding-fits new (ltb-true (length new) (missing s) e))
+      (λ e. after-fits (judge (s .setup .k) (s .taken) (s .ended) (finishedRow s new)))
+
+  -- ---- by the phase
+
+  stands-fits : ReceiverFits (stands s)
+  stands-fits = record { k = f .k; held = f .held; taken = f .taken; row = omega arith; bits = f .bits }
+
+  reading-fits : (p : Phase) → s .phase ≡ p → (new : Bits) → ReceiverFits (reading s p new .state)
+  reading-fits P.Search e new =
+      let h = held-search s r e in
+      search-fits new (heldBits s) 0 (simp length-take (omega arith))
+  reading-fits P.InStep e new = step-fits new
+  reading-fits P.SequenceAlarm e new = stands-fits
+  reading-fits P.LengthAlarm e new = stands-fits
+
+  readings-fit : (new : Bits) (count : ℕ) → ReceiverFits (readings s new count .state)
+  unfolding readings
+  readings-fit new count = cond-case Fits (eqb count 0) (λ e. f) (λ e. reading-fits (s .phase) refl new)
+
+-- ---- opening and a receiving call
+
+pub opened-fits : (k : ℕ) (u : Unit {0}) → openReceiver k ≡ done u → ReceiverFits (freshReceiver k)
+unfolding openReceiver freshReceiver
+opened-fits k u e =
+    let h = length-facts k (not-false _ (passed-test _ A.block (done tt) u e .0)) in
+    record { k = omega arith; held = omega arith; taken = omega arith; row = omega arith; bits = length-noBytes }
+
+pub received-fits : (s : Receiver) (line : List ℕ) (count : ℕ) (store : List ℕ) (x : Reading) → length (s .bits) ≡ arrayBytes
+    → receive s line count store ≡ done x → ReceiverFits (x .state)
+unfolding receive
+received-fits s line count store x b e =
+    let p = passed-test (not (receiverInRange s)) A.spoiled _ x e in
+    let q = passed-test (tooShort line count) A.short _ x (p .1) in
+    let w = passed-test (meaning (readings s (take count (bitsOf line)) count .rule) .stores && tooShort store (s .taken * s .setup .k + s .setup .k)) A.short _ x (q .1) in
+    let range = not-false (receiverInRange s) (p .0) in
+    let g : readings s (take count (bitsOf line)) count ≡ x = cc (w .1) in
+    rw (← g) (readings-fit s (in-range s range) (receiver-fits s range b) (take count (bitsOf line)) count)

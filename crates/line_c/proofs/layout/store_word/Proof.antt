@@ -1,0 +1,71 @@
+-- `store_word` makes its four stores in a row. Assumes nothing.
+use native.Mathlib.Omega.{arith}
+use native.Mathlib.Numerals.{add-one, add-two}
+use mathlib.Core.Path.{_≡_, refl}
+use lib.ListN.{length-set}
+use Rattle.line_c.specs.State.{wordBytes}
+use Prim.Native.Nat.{ℕ, suc, _+_}
+use borrow.Author.Needs.{needs}
+use Rattle.line_c.proofs.layout.store_word.Statement.{statement}
+use Rattle.line_c.proofs.layout.store_word.Tie as tie
+
+add-three : (n : ℕ) → n + 3 ≡ suc (suc (suc n))
+add-three n = omega arith
+
+cast-s : tie.Need-cast-s
+cast-s c = search needs
+
+slice-write-s : tie.Need-slice-write-s
+slice-write-s c = search needs
+
+cast-s-2 : tie.Need-cast-s-2
+cast-s-2 c = search needs
+
+add-s : tie.Need-add-s
+add-s c = search needs
+
+slice-write-s-2 : tie.Need-slice-write-s-2
+slice-write-s-2 c = simp length-set (omega arith)
+
+cast-s-3 : tie.Need-cast-s-3
+cast-s-3 c = search needs
+
+add-s-2 : tie.Need-add-s-2
+add-s-2 c = search needs
+
+slice-write-s-3 : tie.Need-slice-write-s-3
+slice-write-s-3 c = simp length-set (omega arith)
+
+cast-s-4 : tie.Need-cast-s-4
+cast-s-4 c = search needs
+
+add-s-3 : tie.Need-add-s-3
+add-s-3 c = search needs
+
+slice-write-s-4 : tie.Need-slice-write-s-4
+slice-write-s-4 c = simp length-set (omega arith)
+
+same-length : tie.Need-same-length
+same-length c = search needs
+
+returns : tie.Need-returns
+unfolding wordBytes
+returns c = rw (add-one, add-two, add-three)
+
+pub store-word-spec : {M : Type 1} → statement M
+store-word-spec =
+    tie.close
+    (tie.spec
+    cast-s
+    slice-write-s
+    cast-s-2
+    add-s
+    slice-write-s-2
+    cast-s-3
+    add-s-2
+    slice-write-s-3
+    cast-s-4
+    add-s-3
+    slice-write-s-4
+    same-length
+    returns)

@@ -1,0 +1,100 @@
+-- The receiving end's calls for C and Rust, the receiver in lent bytes: what each returns and writes, and its promise.
+-- Assumes nothing.
+use mathlib.Core.Path.{_≡_}
+use mathlib.Core.Bool.{cond}
+use mathlib.Core.List.{List, _++_}
+use Prim.Native.Nat.{ℕ}
+use lib.ListN.{drop}
+use Rattle.block.specs.Answer as A
+use Rattle.block.specs.Answer.{Answer, refused, done}
+use Rattle.line.specs.Receiving.{openReceiver, freshReceiver, Reading, receiverInRange, receive, receiveStore, Report, reported}
+use Rattle.line.specs.declared.receiver.Receiver.{Receiver}
+use Rattle.line.specs.declared.receiver.Event.{Event}
+use Rattle.line.specs.declared.receiver.Event.the-variants as E
+use Rattle.line_c.specs.State.{flagByte, receiverSize, receiverOf, receiverBytes}
+use Rattle.line_c.specs.BlockCalls.{refusal}
+use Rattle.line_c.specs.SenderCalls.{judgeState}
+
+-- a receiver's bytes over the first bytes of a slice, the others as they were
+abbrev pub receiverOver : List ℕ → Receiver → List ℕ
+receiverOver state s = receiverBytes s ++ drop receiverSize state
+
+-- ---- opening: 1, then the slice for the state: 6
+
+unfoldable pub openReceiverIn : ℕ → List ℕ → Answer (Unit {0})
+openReceiverIn k state = judgeState receiverSize state (openReceiver k)
+
+abbrev pub openedReceiver : ℕ → List ℕ → Answer (Unit {0}) → List ℕ
+openedReceiver k state (refused n) = state
+openedReceiver k state (done u) = receiverOver state (freshReceiver k)
+
+pub record OpenReceiverCall (k : ℕ) (state : List ℕ) (result : ℕ) (state′ : List ℕ) : Type 0 where
+  pub answers : result ≡ refusal (openReceiverIn k state)
+  pub writes : state′ ≡ openedReceiver k state (openReceiverIn k state)
+
+-- ---- a receiving call
+
+-- the events' numbers are our own: document 01 gives them none
+abbrev pub eventNumber : Event → ℕ
+eventNumber E.None = 16
+eventNumber E.Sync = 17
+eventNumber E.Bad = 18
+eventNumber E.Accepted = 19
+eventNumber E.Previous = 20
+eventNumber E.SequenceAlarm = 21
+eventNumber E.LengthAlarm = 22
+eventNumber (E.Ended L) = 23
+
+-- the length that comes with the end; without it, the number stays
+abbrev pub eventLength : ℕ → Event → ℕ
+eventLength length E.None = length
+eventLength length E.Sync = length
+eventLength length E.Bad = length
+eventLength length E.Accepted = length
+eventLength length E.Previous = length
+eventLength length E.SequenceAlarm = length
+eventLength length E.LengthAlarm = length
+eventLength length (E.Ended L) = L
+
+abbrev pub reportNumber : Answer Report → ℕ
+reportNumber (refused n) = n
+reportNumber (done r) = eventNumber (r .event)
+
+abbrev pub reportUsed : ℕ → Answer Report → ℕ
+reportUsed used (refused n) = used
+reportUsed used (done r) = r .used
+
+abbrev pub reportLength : ℕ → Answer Report → ℕ
+reportLength length (refused n) = length
+reportLength length (done r) = eventLength length (r .event)
+
+-- a call on the receiver that the bytes hold, the bytes afterwards, and the store
+abbrev pub receiveIn : List ℕ → ℕ → List ℕ → Answer Receiver → Answer Reading
+receiveIn line count store (refused n) = refused n
+receiveIn line count store (done s) = receive s line count store
+
+abbrev pub receivedState : List ℕ → Answer Reading → List ℕ
+receivedState state (refused n) = state
+receivedState state (done x) = receiverOver state (x .state)
+
+abbrev pub receivedStore : List ℕ → Answer Receiver → Answer Reading → List ℕ
+receivedStore store (refused n) answer = store
+receivedStore store (done s) answer = receiveStore s store answer
+
+pub record ReceiveCall
+    (state line : List ℕ) (count : ℕ) (store : List ℕ) (used length result : ℕ) (state′ store′ : List ℕ) (used′ length′ : ℕ)
+    : Type 0 where
+  pub answers : result ≡ reportNumber (reported (receiveIn line count store (receiverOf state)))
+  pub keeps : state′ ≡ receivedState state (receiveIn line count store (receiverOf state))
+  pub writes : store′ ≡ receivedStore store (receiverOf state) (receiveIn line count store (receiverOf state))
+  pub uses : used′ ≡ reportUsed used (reported (receiveIn line count store (receiverOf state)))
+  pub ends : length′ ≡ reportLength length (reported (receiveIn line count store (receiverOf state)))
+
+-- ---- the return bit: 0 or 1
+
+abbrev pub backIn : Answer Receiver → ℕ
+backIn (refused n) = n
+backIn (done s) = cond (receiverInRange s) (flagByte (s .back)) A.spoiled
+
+pub record ReturnBitCall (state : List ℕ) (result : ℕ) : Type 0 where
+  pub answers : result ≡ backIn (receiverOf state)

@@ -1,0 +1,109 @@
+// A receiver in lent bytes.
+ghost use mathlib.Core.Path.{_≡_};
+ghost use mathlib.Core.List.{_++_};
+ghost use Prim.Native.Nat.{_≤_};
+ghost use lib.ListN.{length, take, drop};
+ghost use Rattle.line.specs.Receiving.{arrayBytes};
+ghost use Rattle.line_c.specs.State.{headSize, receiverSize, holdsReceiver, receiverIn, receiverBytes, phaseOf, phaseByte};
+use crate::layout::HEAD_SIZE;
+use crate::layout::holds_state;
+use crate::layout::load_word;
+use crate::layout::store_head;
+use crate::layout::wide;
+use line::receiver::Phase;
+use line::receiver::Receiver;
+use line::receiver::Setup;
+
+const ARRAY_SIZE: usize = 483;
+
+pub const RECEIVER_SIZE: usize = HEAD_SIZE + ARRAY_SIZE;
+
+fn phase_of(n: u8) -> Phase
+    ensures { λ r. ⌜ r ≡ phaseOf n ⌝ }
+{
+    match n {
+        0 => Phase::Search,
+        1 => Phase::InStep,
+        2 => Phase::SequenceAlarm,
+        _ => Phase::LengthAlarm,
+    }
+}
+
+fn phase_byte(phase: Phase) -> u8
+    ensures { λ r. ⌜ r ≡ phaseByte phase ⌝ }
+{
+    match phase {
+        Phase::Search => 0,
+        Phase::InStep => 1,
+        Phase::SequenceAlarm => 2,
+        Phase::LengthAlarm => 3,
+    }
+}
+
+// Whether the bytes hold a receiver.
+pub fn holds_receiver(s: &[u8]) -> bool
+    ensures { λ r. ⌜ r ≡ holdsReceiver (now (s .entry)) ⌝ }
+{
+    holds_state(RECEIVER_SIZE, 1, 1, 3, s)
+}
+
+// The array, behind the head.
+fn load_bits(s: &[u8]) -> [u8; 483]
+    requires { ⌜ receiverSize ≤ length (now s) ⌝ }
+    ensures { λ r. ⌜ r ≡ take arrayBytes (drop headSize (now (s .entry))) ⌝ }
+{
+    let mut bits = [0u8; ARRAY_SIZE];
+    let mut i = 0;
+    while i < ARRAY_SIZE {
+        bits[i] = s[HEAD_SIZE + i];
+        i += 1;
+    }
+    bits
+}
+
+fn store_bits(bits: [u8; 483], s: &mut [u8])
+    requires { ⌜ receiverSize ≤ length (now s) ⌝ }
+    ensures { λ _. ⌜ now (s .exit) ≡ take headSize (now (s .entry)) ++ bits ++ drop receiverSize (now (s .entry)) ⌝ }
+{
+    let mut i = 0;
+    while i < ARRAY_SIZE {
+        s[HEAD_SIZE + i] = bits[i];
+        i += 1;
+    }
+}
+
+pub fn load_receiver(s: &[u8]) -> Receiver
+    requires { ⌜ receiverSize ≤ length (now s) ⌝ }
+    ensures { λ r. ⌜ r ≡ receiverIn (now (s .entry)) ⌝ }
+{
+    Receiver {
+        setup: Setup { k: load_word(s, 0) },
+        bits: load_bits(s),
+        held: load_word(s, 4),
+        row: wide(s[12]),
+        back: s[13] == 1,
+        taken: load_word(s, 8),
+        ended: s[14] == 1,
+        phase: phase_of(s[15]),
+    }
+}
+
+pub fn store_receiver(receiver: Receiver, s: &mut [u8])
+    requires { ⌜ receiverSize ≤ length (now s) ⌝ }
+    ensures { λ _. ⌜ now (s .exit) ≡ receiverBytes receiver ++ drop receiverSize (now (s .entry)) ⌝ }
+{
+    let setup = receiver.setup;
+    let phase = receiver.phase;
+    let bits = receiver.bits;
+    store_head(
+        setup.k,
+        receiver.held,
+        receiver.taken,
+        (receiver.row % 256) as u8,
+        receiver.back as u8,
+        receiver.ended as u8,
+        phase_byte(phase),
+        s,
+    );
+    store_bits(bits, s);
+}

@@ -1,0 +1,111 @@
+// The receiving end's calls, the receiver in lent bytes.
+ghost use mathlib.Core.Path.{_≡_};
+ghost use Rattle.line_c.specs.ReceiverCalls.{OpenReceiverCall, eventNumber, eventLength, ReceiveCall, ReturnBitCall};
+use crate::receiver_bytes::RECEIVER_SIZE;
+use crate::receiver_bytes::holds_receiver;
+use crate::receiver_bytes::load_receiver;
+use crate::receiver_bytes::store_receiver;
+use line::receiver::Event;
+use line::receiver::Opening;
+use line::receiver::Received;
+use line::receiver::Receiver;
+
+// The events' numbers, above those of the refusals.
+pub const NONE: u8 = 16;
+
+pub const SYNC: u8 = 17;
+
+pub const BAD: u8 = 18;
+
+pub const ACCEPTED: u8 = 19;
+
+pub const PREVIOUS: u8 = 20;
+
+pub const SEQUENCE_ALARM: u8 = 21;
+
+pub const LENGTH_ALARM: u8 = 22;
+
+pub const ENDED: u8 = 23;
+
+#[no_mangle]
+pub extern "C" fn order_line_open_receiver(k: usize, state: &mut [u8]) -> u8
+    ensures { λ r. ⌜ OpenReceiverCall k (now (state .entry)) r (now (state .exit)) ⌝ }
+{
+    let opened = Receiver::open(k);
+    let answer = opened.answer;
+    let receiver = opened.state;
+    match answer {
+        Opening::Refused(number) => number,
+        Opening::Opened => {
+            if state.len() < RECEIVER_SIZE {
+                return block::SHORT;
+            }
+            store_receiver(receiver, state);
+            0
+        }
+    }
+}
+
+// An event's number; the length that comes with the end is written.
+fn report(event: Event, length: &mut usize) -> u8
+    ensures { λ r. ⌜ (r ≡ eventNumber event) × (now (length .exit) ≡ eventLength (now (length .entry)) event) ⌝ }
+{
+    match event {
+        Event::None => NONE,
+        Event::Sync => SYNC,
+        Event::Bad => BAD,
+        Event::Accepted => ACCEPTED,
+        Event::Previous => PREVIOUS,
+        Event::SequenceAlarm => SEQUENCE_ALARM,
+        Event::LengthAlarm => LENGTH_ALARM,
+        Event::Ended(bits) => {
+            *length = bits;
+            ENDED
+        }
+    }
+}
+
+#[no_mangle]
+pub extern "C" fn order_line_receive(
+    state: &mut [u8],
+    line: &[u8],
+    bits: usize,
+    store: &mut [u8],
+    used: &mut usize,
+    length: &mut usize,
+) -> u8
+    ensures { λ r. ⌜ ReceiveCall (now (state .entry)) (now (line .entry)) bits (now (store .entry)) (now (used .entry)) (now (length .entry)) r (now (state .exit)) (now (store .exit)) (now (used .exit)) (now (length .exit)) ⌝ }
+{
+    if !holds_receiver(state) {
+        return block::SPOILED;
+    }
+    let step = load_receiver(state).receive(line, bits, store);
+    let answer = step.answer;
+    let next = step.state;
+    match answer {
+        Received::Refused(number) => number,
+        Received::Used { event, bits } => {
+            store_receiver(next, state);
+            *used = bits;
+            report(event, length)
+        }
+    }
+}
+
+// A receiving call of 0 bits is refused as spoiled or changes nothing.
+#[no_mangle]
+pub extern "C" fn order_line_return_bit(state: &[u8]) -> u8
+    ensures { λ r. ⌜ ReturnBitCall (now (state .entry)) r ⌝ }
+{
+    if !holds_receiver(state) {
+        return block::SPOILED;
+    }
+    let receiver = load_receiver(state);
+    let mut none = [0u8; 1];
+    let step = receiver.receive(&state[..0], 0, &mut none);
+    let answer = step.answer;
+    if let Received::Refused(number) = answer {
+        return number;
+    }
+    receiver.back as u8
+}

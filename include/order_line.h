@@ -1,0 +1,165 @@
+/*
+ * The order line: Recommendation V.41 between a shop's office (the sending end) and its mixing machine (the receiving
+ * end). C99; also good for C++. Link with libline_c.a.
+ *
+ * Every call is proved to answer and write what crates/line_c/specs says, on every input, and to end without a fault.
+ * What the proofs suppose of a caller in C:
+ *   - a pointer is not null and points to at least the given number of bytes, also where that number is 0;
+ *   - what a call may write overlaps nothing else that is lent to the same call;
+ *   - no other thread touches what is lent while the call runs.
+ * Nothing else is asked: any bytes, any numbers. The library keeps nothing between calls and allocates nothing.
+ *
+ * Bits are packed into bytes, the earliest in the top bit. k is the number of data bits of a block: 240, 480, 960 or
+ * 3840; a block has n = k + 20 bits.
+ *
+ * A refused call returns one of the numbers ORDER_LINE_REFUSED_*, writes no byte and no number, and leaves the state's
+ * bytes as they were.
+ */
+#ifndef ORDER_LINE_H
+#define ORDER_LINE_H
+
+#include <stdbool.h>
+#include <stddef.h>
+#include <stdint.h>
+
+#ifdef __cplusplus
+extern "C" {
+#endif
+
+/* ---- refusals: the numbers of the paper, "What the ends turn away" ---- */
+
+#define ORDER_LINE_REFUSED_BLOCK 1   /* k is not one of the four */
+#define ORDER_LINE_REFUSED_SPEED 2   /* not one of 200, 600, 1200, 2400, 3600, 4800 bit/s */
+#define ORDER_LINE_REFUSED_LOOP 3    /* a loop above the table's entry, or no entry */
+#define ORDER_LINE_REFUSED_EMPTY 4   /* an order of 0 bits */
+#define ORDER_LINE_REFUSED_LONG 5    /* an order above ORDER_LINE_LONGEST_ORDER bits */
+#define ORDER_LINE_REFUSED_SHORT 6   /* lent bytes cannot hold what the call reads or writes */
+#define ORDER_LINE_REFUSED_SPOILED 7 /* bytes that hold no state, a field outside its range, service bits above 15 */
+#define ORDER_LINE_REFUSED_REST 8    /* a sender that is finished or gave up */
+
+/* ---- sizes ---- */
+
+#define ORDER_LINE_LONGEST_ORDER 262144 /* bits */
+#define ORDER_LINE_MOST_ITEMS 1093      /* data items of an order */
+
+#define ORDER_LINE_PAYLOAD_BYTES(k) ((k) / 8)   /* the data of one block: 30, 60, 120 or 480 */
+#define ORDER_LINE_BLOCK_BYTES(k) ((k) / 8 + 3) /* a packed block: 33, 63, 123 or 483 */
+
+/*
+ * The states stand in bytes of the caller's, at any alignment. More bytes than these may be lent; the further ones stay
+ * as they are. A later version puts new fields at the end, and these sizes then grow.
+ *
+ * A sender, numbers little-endian: k, 4 bytes; the order's length in bits, 4; the newer item, 4; the run of cancels, 1;
+ * opening, 1 (0 or 1); what goes out next, 1 (0 a synchronising block, 1 the older item, 2 the newer); finished, 1.
+ * A receiver: k, 4 bytes; held bits, 4; items taken, 4; bad blocks in a row, 1; the return bit, 1; the end was taken, 1;
+ * the phase, 1 (0 search, 1 in step, 2 sequence alarm, 3 length alarm); then the held bits, 483.
+ */
+#define ORDER_LINE_SENDER_BYTES 16
+#define ORDER_LINE_RECEIVER_BYTES 499
+
+/* ---- loop times ---- */
+
+/*
+ * The loop-time test: 0 if a loop of loop_ms milliseconds is not above the Recommendation's entry for k and the speed in
+ * bit/s. Refused: BLOCK, SPEED, LOOP, in this order.
+ */
+uint8_t order_line_loop_time(size_t k, uint32_t speed, uint32_t loop_ms);
+
+/* ---- one block ---- */
+
+/*
+ * Builds a block of 4 service bits (0 to 15), the first k bits of payload and 16 check bits over the first
+ * ORDER_LINE_BLOCK_BYTES(k) bytes of block; its last four bits are spare and written 0. Returns 0.
+ * Refused: BLOCK, SPOILED (service above 15), SHORT.
+ */
+uint8_t order_line_build_block(size_t k, uint8_t service, const uint8_t *payload, size_t payload_bytes, uint8_t *block,
+                               size_t block_bytes);
+
+/*
+ * Reads a block. If its check passes, returns ORDER_LINE_PASSED + its service bits and writes its k data bits over the
+ * first ORDER_LINE_PAYLOAD_BYTES(k) bytes of payload; if not, returns ORDER_LINE_FAILED and writes nothing.
+ * Refused: BLOCK, SHORT (block or payload, both judged first).
+ */
+uint16_t order_line_read_block(size_t k, const uint8_t *block, size_t block_bytes, uint8_t *payload,
+                               size_t payload_bytes);
+
+#define ORDER_LINE_PASSED 0x100
+#define ORDER_LINE_FAILED 0x200
+
+/* ---- the sending end ---- */
+
+/*
+ * Opens a sender for an order of length bits, 1 to ORDER_LINE_LONGEST_ORDER, on a line with this speed and loop time,
+ * and writes it over the first ORDER_LINE_SENDER_BYTES bytes of state. Returns 0.
+ * Refused: BLOCK, SPEED, LOOP, EMPTY, LONG, SHORT (order has fewer than length bits; state is too short), in this order.
+ */
+uint8_t order_line_open_sender(size_t k, uint32_t speed, uint32_t loop_ms, size_t length, const uint8_t *order,
+                               size_t order_bytes, uint8_t *state, size_t state_bytes);
+
+/*
+ * Sends one block: writes it over the first ORDER_LINE_BLOCK_BYTES(k) bytes of block, and the sender's next state over
+ * state. The order is lent whole at each call. reading is the return channel's reading for this block period: true asks
+ * for a repeat. Returns ORDER_LINE_SENT with the marks below.
+ * Refused: SPOILED, REST, SHORT (order or block), in this order.
+ */
+uint32_t order_line_send(uint8_t *state, size_t state_bytes, const uint8_t *order, size_t order_bytes, bool reading,
+                         uint8_t *block, size_t block_bytes);
+
+#define ORDER_LINE_SENT 0x100u           /* a block was sent; set in every word that is no refusal */
+#define ORDER_LINE_SENT_ITEM 0x200u      /* an item; without this mark, a synchronising block */
+#define ORDER_LINE_SENT_END 0x400u       /* the item is an end block */
+#define ORDER_LINE_SENT_USED 0x800u      /* its reading was used */
+#define ORDER_LINE_SENT_CANCELLED 0x1000u /* it was cancelled: its last bit is inverted */
+
+#define ORDER_LINE_SENT_NUMBER(word) ((word) >> 16) /* the item's number */
+
+/*
+ * Whether a sender sends on: ORDER_LINE_GOING_ON, ORDER_LINE_FINISHED (all items are confirmed) or ORDER_LINE_GAVE_UP
+ * (64 cancels in a row). Refused: SPOILED.
+ */
+uint8_t order_line_sender_rest(const uint8_t *state, size_t state_bytes);
+
+#define ORDER_LINE_GOING_ON 0
+#define ORDER_LINE_FINISHED 1
+#define ORDER_LINE_GAVE_UP 2
+
+/* ---- the receiving end ---- */
+
+/*
+ * Opens a receiver, in search with return bit 1, over the first ORDER_LINE_RECEIVER_BYTES bytes of state. Returns 0.
+ * Refused: BLOCK, SHORT (state is too short).
+ */
+uint8_t order_line_open_receiver(size_t k, uint8_t *state, size_t state_bytes);
+
+/*
+ * Takes bits from the line, the first `bits` bits of line, up to the next event or to the last, and returns the event.
+ * *used becomes the number of bits taken; the rest is to be lent again. An accepted block's k bits go to the store at
+ * bit k times the items taken before; *length becomes the order's length in bits with ORDER_LINE_EVENT_ENDED, and stays
+ * as it is otherwise. The store is the same at each call; for an order of L bits it wants L bits rounded up to a
+ * multiple of k. bits may be 0: nothing changes, and a standing alarm is reported.
+ * Refused: SPOILED, SHORT (line has fewer than `bits` bits; or a block would be accepted and the store cannot hold it: then
+ * no bit is used, and the call may be made again with a longer store).
+ */
+uint8_t order_line_receive(uint8_t *state, size_t state_bytes, const uint8_t *line, size_t line_bytes, size_t bits,
+                           uint8_t *store, size_t store_bytes, size_t *used, size_t *length);
+
+/* The events; their numbers are this library's own, above those of the refusals. */
+#define ORDER_LINE_EVENT_NONE 16           /* all bits were used without an event */
+#define ORDER_LINE_EVENT_SYNC 17           /* a synchronising block, or its last 16 bits in search */
+#define ORDER_LINE_EVENT_BAD 18            /* the check failed, or the block fits nowhere */
+#define ORDER_LINE_EVENT_ACCEPTED 19       /* the next data item: its data are in the store */
+#define ORDER_LINE_EVENT_PREVIOUS 20       /* the item before, or the end again: nothing stored */
+#define ORDER_LINE_EVENT_SEQUENCE_ALARM 21 /* an item was missed; stands until a receiver is opened anew */
+#define ORDER_LINE_EVENT_LENGTH_ALARM 22   /* an end block with another length; stands likewise */
+#define ORDER_LINE_EVENT_ENDED 23          /* the end: the whole order is in the store, and its length is reported */
+
+/*
+ * The return bit that the machine now sends back: 0, or 1 to ask for a repeat. Refused: SPOILED.
+ */
+uint8_t order_line_return_bit(const uint8_t *state, size_t state_bytes);
+
+#ifdef __cplusplus
+}
+#endif
+
+#endif

@@ -1,0 +1,165 @@
+//! That the groups find faults: the second implementation with one fault at a time.
+
+use super::{receiver, sender};
+use crate::calls::{ReceivingEnd, Reference, SendingEnd};
+use crate::interface::{Counts, RECEIVER_BYTES, SENDER_BYTES};
+
+#[derive(Clone, Copy, Debug, PartialEq, Eq)]
+enum Fault {
+    None,
+    /// A refused call writes into the state.
+    RefusedState,
+    /// A call writes behind the state.
+    BehindState,
+    /// A call that sends or stores nothing changes the last byte lent for it.
+    LastByte,
+    /// Any flag but 0 is true.
+    WideFlags,
+    /// A state that is too short is refused 6 in stepping.
+    ShortState,
+    /// Given up is not told from finished.
+    Rest,
+    /// A refused call writes the number of bits used.
+    RefusedCount,
+    /// L is written without the end.
+    LengthAlways,
+    /// A search leaves the return bit as it was.
+    ReturnBit,
+}
+
+struct Faulty(Fault);
+
+impl Faulty {
+    fn spoil_state(&self, refused: bool, size: usize, state: &mut [u8]) {
+        match self.0 {
+            Fault::RefusedState if refused && !state.is_empty() => state[0] ^= 1,
+            Fault::BehindState if !refused && state.len() > size => state[size] ^= 1,
+            _ => {}
+        }
+    }
+
+    fn spoil_data(&self, unwritten: bool, data: &mut [u8]) {
+        match data.last_mut() {
+            Some(byte) if unwritten && self.0 == Fault::LastByte => *byte ^= 1,
+            _ => {}
+        }
+    }
+
+    fn narrow(&self, flags: &[usize], state: &mut [u8]) {
+        for &place in flags {
+            if self.0 == Fault::WideFlags && place < state.len() {
+                state[place] = state[place].min(1);
+            }
+        }
+    }
+}
+
+impl SendingEnd for Faulty {
+    fn open_sender(
+        &self,
+        k: usize,
+        speed: u32,
+        loop_ms: u32,
+        length: usize,
+        order: &[u8],
+        state: &mut [u8],
+    ) -> u8 {
+        Reference.open_sender(k, speed, loop_ms, length, order, state)
+    }
+
+    fn send(&self, state: &mut [u8], order: &[u8], reading: bool, block: &mut [u8]) -> u32 {
+        if self.0 == Fault::ShortState && state.len() < SENDER_BYTES {
+            return 6;
+        }
+        self.narrow(&[13, 15], state);
+        let word = Reference.send(state, order, reading, block);
+        self.spoil_state(word < 16, SENDER_BYTES, state);
+        self.spoil_data(word < 16, block);
+        word
+    }
+
+    fn sender_rest(&self, state: &[u8]) -> u8 {
+        match Reference.sender_rest(state) {
+            2 if self.0 == Fault::Rest => 1,
+            answer => answer,
+        }
+    }
+}
+
+impl ReceivingEnd for Faulty {
+    fn open_receiver(&self, k: usize, state: &mut [u8]) -> u8 {
+        Reference.open_receiver(k, state)
+    }
+
+    fn receive(
+        &self,
+        state: &mut [u8],
+        line: &[u8],
+        bits: usize,
+        store: &mut [u8],
+        counts: &mut Counts,
+    ) -> u8 {
+        if self.0 == Fault::ShortState && state.len() < RECEIVER_BYTES {
+            return 6;
+        }
+        self.narrow(&[13, 14], state);
+        let searching = state.get(15) == Some(&0);
+        let back = state.get(13).copied();
+        let number = Reference.receive(state, line, bits, store, counts);
+        self.spoil_state(number < 16, RECEIVER_BYTES, state);
+        self.spoil_data(number != 19, store);
+        match self.0 {
+            Fault::RefusedCount if number < 16 => counts.used = 0,
+            Fault::LengthAlways => counts.length = 0,
+            Fault::ReturnBit if searching && number == 16 => state[13] = back.unwrap_or(0),
+            _ => {}
+        }
+        number
+    }
+
+    fn return_bit(&self, state: &[u8]) -> u8 {
+        Reference.return_bit(state)
+    }
+}
+
+#[test]
+fn faults_of_a_sender_are_found() {
+    use Fault::{BehindState, LastByte, None, RefusedState, Rest, ShortState, WideFlags};
+    for fault in [
+        RefusedState,
+        BehindState,
+        LastByte,
+        WideFlags,
+        ShortState,
+        Rest,
+    ] {
+        assert!(
+            sender::compare(&Faulty(fault), 5, 2_000).is_err(),
+            "{fault:?}"
+        );
+    }
+    assert!(sender::compare(&Faulty(None), 5, 200).is_ok());
+}
+
+#[test]
+fn faults_of_a_receiver_are_found() {
+    use Fault::{BehindState, LastByte, LengthAlways, None};
+    use Fault::{RefusedCount, RefusedState, ReturnBit, ShortState, WideFlags};
+    let faults = [
+        RefusedState,
+        BehindState,
+        LastByte,
+        WideFlags,
+        ShortState,
+        RefusedCount,
+        LengthAlways,
+        ReturnBit,
+    ];
+    for fault in faults {
+        assert!(
+            receiver::compare(&Faulty(fault), 8, 5_000).is_err(),
+            "{fault:?}"
+        );
+    }
+    assert!(receiver::compare(&Faulty(None), 8, 500).is_ok());
+}

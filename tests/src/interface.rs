@@ -1,0 +1,271 @@
+//! The linked library's interface a second time: the ends' states in lent bytes, answers as
+//! numbers. The layouts and the numbers are those that `include/order_line.h` gives.
+
+use crate::reference::receiver::{Alarm, Event, Received, Receiver, HOLD_BYTES};
+use crate::reference::refusal::{Refusal, SPOILED};
+use crate::reference::sender::{Next, Sender, Sent};
+
+/// Both layouts begin with three numbers of four bytes, the lowest first, and four bytes.
+const HEAD_BYTES: usize = 16;
+pub const SENDER_BYTES: usize = HEAD_BYTES;
+pub const RECEIVER_BYTES: usize = HEAD_BYTES + HOLD_BYTES;
+
+/// What `sender_rest` answers besides 7.
+pub const GOING_ON: u8 = 0;
+pub const FINISHED: u8 = 1;
+pub const GAVE_UP: u8 = 2;
+
+/// The marks of a sending call's answer; an item's number stands above them.
+const SENT: u32 = 0x100;
+const ITEM: u32 = 0x200;
+const END: u32 = 0x400;
+const USED: u32 = 0x800;
+const CANCELLED: u32 = 0x1000;
+const NUMBER_SHIFT: u32 = 16;
+
+const NEXT: [Next; 3] = [Next::Synchronising, Next::Older, Next::Newer];
+
+fn load_word(bytes: &[u8], at: usize) -> usize {
+    let mut four = [0; 4];
+    four.copy_from_slice(&bytes[at..at + 4]);
+    u32::from_le_bytes(four) as usize
+}
+
+/// Writes the lowest four bytes of a number.
+pub fn store_word(bytes: &mut [u8], at: usize, number: usize) {
+    bytes[at..at + 4].copy_from_slice(&(number as u32).to_le_bytes());
+}
+
+fn load_flag(byte: u8) -> Option<bool> {
+    match byte {
+        0 => Some(false),
+        1 => Some(true),
+        _ => None,
+    }
+}
+
+/// k, L, newer; run, opening, next, finished. `None` if the bytes hold no sender.
+pub fn load_sender(bytes: &[u8]) -> Option<Sender> {
+    let bytes = bytes.get(..SENDER_BYTES)?;
+    Some(Sender {
+        k: load_word(bytes, 0),
+        length: load_word(bytes, 4),
+        newer: load_word(bytes, 8),
+        run: usize::from(bytes[12]),
+        opening: load_flag(bytes[13])?,
+        next: *NEXT.get(usize::from(bytes[14]))?,
+        finished: load_flag(bytes[15])?,
+    })
+}
+
+pub fn store_sender(sender: &Sender, bytes: &mut [u8]) {
+    store_word(bytes, 0, sender.k);
+    store_word(bytes, 4, sender.length);
+    store_word(bytes, 8, sender.newer);
+    bytes[12] = sender.run as u8;
+    bytes[13] = u8::from(sender.opening);
+    bytes[14] = match sender.next {
+        Next::Synchronising => 0,
+        Next::Older => 1,
+        Next::Newer => 2,
+    };
+    bytes[15] = u8::from(sender.finished);
+}
+
+/// k, held, taken; row, return bit, end taken, phase; the array. `None` if the bytes hold no
+/// receiver.
+pub fn load_receiver(bytes: &[u8]) -> Option<Receiver> {
+    let bytes = bytes.get(..RECEIVER_BYTES)?;
+    let (search, alarm) = match bytes[15] {
+        0 => (true, None),
+        1 => (false, None),
+        2 => (false, Some(Alarm::Sequence)),
+        3 => (false, Some(Alarm::Length)),
+        _ => return None,
+    };
+    let mut array = [0; HOLD_BYTES];
+    array.copy_from_slice(&bytes[HEAD_BYTES..]);
+    Some(Receiver {
+        k: load_word(bytes, 0),
+        held: load_word(bytes, 4),
+        taken: load_word(bytes, 8),
+        row: usize::from(bytes[12]),
+        return_bit: load_flag(bytes[13])?,
+        end_taken: load_flag(bytes[14])?,
+        search,
+        alarm,
+        array,
+    })
+}
+
+pub fn store_receiver(receiver: &Receiver, bytes: &mut [u8]) {
+    store_word(bytes, 0, receiver.k);
+    store_word(bytes, 4, receiver.held);
+    store_word(bytes, 8, receiver.taken);
+    bytes[12] = receiver.row as u8;
+    bytes[13] = u8::from(receiver.return_bit);
+    bytes[14] = u8::from(receiver.end_taken);
+    bytes[15] = match (receiver.alarm, receiver.search) {
+        (None, true) => 0,
+        (None, false) => 1,
+        (Some(Alarm::Sequence), _) => 2,
+        (Some(Alarm::Length), _) => 3,
+    };
+    bytes[HEAD_BYTES..RECEIVER_BYTES].copy_from_slice(&receiver.array);
+}
+
+/// The answer of a sending call.
+pub fn sent_word(sent: Sent) -> u32 {
+    let mark = |set, value| if set { value } else { 0 };
+    match sent {
+        Sent::Refused(number) => u32::from(number),
+        Sent::Synchronising => SENT,
+        Sent::Item {
+            item,
+            end,
+            used,
+            cancelled,
+        } => {
+            let marks = mark(end, END) | mark(used, USED) | mark(cancelled, CANCELLED);
+            SENT | ITEM | marks | (item as u32) << NUMBER_SHIFT
+        }
+    }
+}
+
+/// What a sending call's answer says.
+pub fn sent(word: u32) -> Sent {
+    if word & SENT == 0 {
+        return Sent::Refused(word as Refusal);
+    }
+    if word & ITEM == 0 {
+        return Sent::Synchronising;
+    }
+    Sent::Item {
+        item: (word >> NUMBER_SHIFT) as usize,
+        end: word & END != 0,
+        used: word & USED != 0,
+        cancelled: word & CANCELLED != 0,
+    }
+}
+
+/// An event's number; *ended* is told with its L besides.
+fn event_number(event: Event) -> u8 {
+    match event {
+        Event::None => 16,
+        Event::Sync => 17,
+        Event::Bad => 18,
+        Event::Accepted => 19,
+        Event::Previous => 20,
+        Event::SequenceAlarm => 21,
+        Event::LengthAlarm => 22,
+        Event::Ended(_) => 23,
+    }
+}
+
+/// Where a receiving call writes, beside its answer: the number of bits used, unless it is
+/// refused, and the L of an order that ended.
+#[derive(Clone, Copy, Debug, PartialEq, Eq)]
+pub struct Counts {
+    pub used: usize,
+    pub length: usize,
+}
+
+/// What a receiving call's answer and counts say.
+pub fn received(number: u8, counts: Counts) -> Received {
+    let event = match number {
+        16 => Event::None,
+        17 => Event::Sync,
+        18 => Event::Bad,
+        19 => Event::Accepted,
+        20 => Event::Previous,
+        21 => Event::SequenceAlarm,
+        22 => Event::LengthAlarm,
+        23 => Event::Ended(counts.length),
+        refusal => return Received::Refused(refusal),
+    };
+    let used = counts.used;
+    Received::Heard { event, used }
+}
+
+/// A sending call on the bytes of a state.
+pub fn send(state: &mut [u8], step: impl FnOnce(Sender) -> (Sender, Sent)) -> u32 {
+    let Some(sender) = load_sender(state) else {
+        return u32::from(SPOILED);
+    };
+    let (sender, sent) = step(sender);
+    if !matches!(sent, Sent::Refused(_)) {
+        store_sender(&sender, state);
+    }
+    sent_word(sent)
+}
+
+/// A receiving call on the bytes of a state.
+pub fn receive(
+    state: &mut [u8],
+    counts: &mut Counts,
+    step: impl FnOnce(Receiver) -> (Receiver, Received),
+) -> u8 {
+    let Some(receiver) = load_receiver(state) else {
+        return SPOILED;
+    };
+    let (receiver, received) = step(receiver);
+    let (event, used) = match received {
+        Received::Refused(number) => return number,
+        Received::Heard { event, used } => (event, used),
+    };
+    store_receiver(&receiver, state);
+    counts.used = used;
+    if let Event::Ended(length) = event {
+        counts.length = length;
+    }
+    event_number(event)
+}
+
+#[cfg(test)]
+mod tests {
+    use super::*;
+    use crate::rng::Rng;
+
+    #[test]
+    fn states_that_bytes_hold_are_stored_as_they_were() {
+        let mut rng = Rng::new(12);
+        for _ in 0..2_000 {
+            let mut bytes = rng.bytes(RECEIVER_BYTES);
+            for byte in &mut bytes[13..HEAD_BYTES] {
+                *byte = rng.below(5) as u8;
+            }
+            let mut back = vec![0xEE; RECEIVER_BYTES];
+            let held = load_sender(&bytes).map(|sender| store_sender(&sender, &mut back));
+            let in_range = bytes[13] < 2 && bytes[14] < 3 && bytes[15] < 2;
+            assert_eq!(held.is_some(), in_range);
+            assert!(held.is_none() || back[..SENDER_BYTES] == bytes[..SENDER_BYTES]);
+            let held = load_receiver(&bytes).map(|receiver| store_receiver(&receiver, &mut back));
+            let in_range = bytes[13] < 2 && bytes[14] < 2 && bytes[15] < 4;
+            assert_eq!(held.is_some(), in_range);
+            assert!(held.is_none() || back == bytes);
+            assert_eq!(load_sender(&bytes[..SENDER_BYTES - 1]), None);
+            assert_eq!(load_receiver(&bytes[..RECEIVER_BYTES - 1]), None);
+        }
+    }
+
+    #[test]
+    fn answers_are_read_as_they_were_meant() {
+        let item = |item, marks: usize| Sent::Item {
+            item,
+            end: marks & 1 == 1,
+            used: marks & 2 == 2,
+            cancelled: marks & 4 == 4,
+        };
+        let items = (0..8).flat_map(|marks| [item(0, marks), item(1094, marks)]);
+        for answer in items.chain([Sent::Synchronising, Sent::Refused(8)]) {
+            assert_eq!(sent(sent_word(answer)), answer);
+        }
+        for number in 16..=23 {
+            let counts = Counts { used: 5, length: 9 };
+            let Received::Heard { event, used: 5 } = received(number, counts) else {
+                panic!("{number}");
+            };
+            assert_eq!(event_number(event), number);
+        }
+    }
+}

@@ -1,0 +1,129 @@
+//! The table-driven sibling of the sending call: an item is built where it goes out.
+
+use super::{build_block, is_length, SHORT, SPOILED};
+use crate::reference::sender::{Next, Sender, Sent};
+
+const LETTERS: [u8; 3] = [0b0011, 0b1001, 0b1100];
+const END: u8 = 0b1000;
+const VERSION: u8 = 1;
+const LONGEST: usize = 262_144;
+const LAST_RUN: usize = 64;
+const REST: u8 = 8;
+/// The data bytes of the longest block.
+const MOST_BYTES: usize = 480;
+
+/// Sends one block; refusals in the order 7, 8, 6.
+#[inline(never)]
+pub fn send(mut sender: Sender, order: &[u8], reading: bool, block: &mut [u8]) -> (Sender, Sent) {
+    if let Err(refusal) = judge(&sender, order, block) {
+        return (sender, Sent::Refused(refusal));
+    }
+    let items = sender.length.div_ceil(sender.k);
+    let (item, used) = match sender.next {
+        Next::Synchronising => {
+            write_synchronising(&mut block[..sender.k / 8 + 3]);
+            sender.next = Next::Older;
+            return (sender, Sent::Synchronising);
+        }
+        Next::Older => (sender.newer - 1, false),
+        Next::Newer => (sender.newer, true),
+    };
+    write_item(&sender, items, item, order, block);
+    let cancelled = used && reading;
+    if cancelled {
+        block[sender.k / 8 + 2] ^= 0x10;
+        repeat(&mut sender);
+    } else if used {
+        move_up(&mut sender, items);
+    } else {
+        sender.next = Next::Newer;
+    }
+    let end = item >= items;
+    let sent = Sent::Item {
+        item,
+        end,
+        used,
+        cancelled,
+    };
+    (sender, sent)
+}
+
+fn judge(sender: &Sender, order: &[u8], block: &[u8]) -> Result<(), u8> {
+    let (k, length) = (sender.k, sender.length);
+    if !is_length(k) || !(1..=LONGEST).contains(&length) {
+        return Err(SPOILED);
+    }
+    let last = length.div_ceil(k) + 1;
+    if !(1..=last).contains(&sender.newer) || sender.run > LAST_RUN {
+        return Err(SPOILED);
+    }
+    if sender.finished || sender.run == LAST_RUN {
+        return Err(REST);
+    }
+    if order.len() < length.div_ceil(8) || block.len() < k / 8 + 3 {
+        return Err(SHORT);
+    }
+    Ok(())
+}
+
+#[inline]
+fn move_up(sender: &mut Sender, items: usize) {
+    sender.run = 0;
+    sender.opening = false;
+    if sender.newer > items {
+        sender.finished = true;
+    } else {
+        sender.newer += 1;
+    }
+}
+
+#[inline]
+fn repeat(sender: &mut Sender) {
+    sender.run += 1;
+    sender.next = match sender.opening || sender.run >= 4 {
+        true => Next::Synchronising,
+        false => Next::Older,
+    };
+}
+
+fn write_synchronising(block: &mut [u8]) {
+    let last = block.len() - 3;
+    block.fill(0xAA);
+    block[0] = 0x5A;
+    block[last..].copy_from_slice(&[0xA5, 0x0A, 0x50]);
+}
+
+/// A whole item comes straight from the order; the last one and an end block are made up first.
+#[inline]
+fn write_item(sender: &Sender, items: usize, item: usize, order: &[u8], block: &mut [u8]) {
+    let (k, length) = (sender.k, sender.length);
+    let bytes = k / 8;
+    if (item + 1) * k <= length {
+        write(
+            k,
+            LETTERS[item % 3],
+            &order[item * bytes..(item + 1) * bytes],
+            block,
+        );
+        return;
+    }
+    let mut payload = [0; MOST_BYTES];
+    if item >= items {
+        payload[0] = VERSION;
+        payload[1..5].copy_from_slice(&(length as u32).to_be_bytes());
+        write(k, END, &payload, block);
+        return;
+    }
+    let rest = &order[item * bytes..length.div_ceil(8)];
+    payload[..rest.len()].copy_from_slice(rest);
+    if !length.is_multiple_of(8) {
+        payload[rest.len() - 1] &= 0xFF << (8 - length % 8);
+    }
+    write(k, LETTERS[item % 3], &payload, block);
+}
+
+#[inline]
+fn write(k: usize, service: u8, payload: &[u8], block: &mut [u8]) {
+    let built = build_block(k, service, payload, block);
+    debug_assert_eq!(built, Ok(()));
+}
