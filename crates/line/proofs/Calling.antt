@@ -14,7 +14,7 @@ use Rattle.block.specs.Calls.{tooShort}
 use Rattle.line.specs.Order.{mostItems}
 use Rattle.line.specs.Receiving as S
 use Rattle.line.specs.Receiving.{meaning, standing, stands, Reading, idleRule, idle, reading, readings, lastBad, heldInRange, receiverInRange, judgeStore, receive, reported, receiveState, receiveStore, Receive}
-use Rattle.line.specs.ReceiveCode.{stepped, handedBack, Handed}
+use Rattle.line.specs.Code.ReceiveSteps.{stepped, handedBack, Handed}
 use Rattle.line.specs.declared.receiver.Receiver.{Receiver}
 use Rattle.line.specs.declared.receiver.Phase.{Phase}
 use Rattle.line.specs.declared.receiver.Phase.the-variants as P

@@ -23,7 +23,7 @@ use Rattle.block.proofs.Read.{the-type}
 use Rattle.block.proofs.Lengths.{length-facts, length-bytes}
 use Rattle.block.proofs.Refusals.{block-held, payload-held}
 use Rattle.line.specs.Receiving.{lastBad, badly, Rule, accepts, sync-block, check-fails, meaning, judge, looksSync, serviceRule, endRule, stops, Reading}
-use Rattle.line.specs.ReceiveCode.{ruleOf, stepped, handedBack, noRoom, acceptance, acceptedStore, judged, Handed}
+use Rattle.line.specs.Code.ReceiveSteps.{ruleOf, stepped, handedBack, noRoom, acceptance, acceptedStore, judged, Handed}
 use Rattle.line.specs.declared.receiver.Receiver.{Receiver}
 use Rattle.line.specs.declared.receiver.Event.the-variants as E
 use Rattle.line.specs.declared.receiver.Step.{Step}

@@ -17,7 +17,7 @@ use Rattle.line.specs.LoopTime.{loopTime}
 use Rattle.line.specs.Order.{longestOrder, validLength, itemCount}
 use Rattle.line.specs.Sending.{freshSender, unless-refused, openSender, OpenSender, Block, transmit, senderItems, atLast, lastRun, senderInRange, gaveUp, send, sendState, sendBytes, sentAnswer, Send}
 use Rattle.line.specs.SendCalls.{SendCalls, none, call}
-use Rattle.line.specs.SendSteps.{Ready, Sends}
+use Rattle.line.specs.Code.SendSteps.{Ready, Sends}
 use Rattle.line.specs.declared.sender.Sender.{Sender}
 use Rattle.line.specs.declared.sender.Next.{Next}
 use Rattle.line.specs.declared.sender.Next.the-variants.{Sync, Older, Newer}

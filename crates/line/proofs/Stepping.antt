@@ -10,7 +10,7 @@ use Rattle.crc.specs.Bits.{Bits, zeros, bitsOf, bytesOf}
 use Rattle.crc.proofs.Bytes.{length-bitsOf, bitsOf-bytesOf}
 use Rattle.block.specs.Lengths.{blockLength}
 use Rattle.line.specs.Receiving.{arrayBytes, unfinished, overwrite, holding, missing, finishedRow, Reading, inStep}
-use Rattle.line.specs.ReceiveCode.{stepped, judged, Handed}
+use Rattle.line.specs.Code.ReceiveSteps.{stepped, judged, Handed}
 use Rattle.line.specs.declared.receiver.Receiver.{Receiver}
 use Rattle.line.specs.declared.receiver.Event.the-variants as E
 use Rattle.line.specs.declared.receiver.Step.{Step}

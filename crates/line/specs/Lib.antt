@@ -1,11 +1,10 @@
-pub mod Table
+-- Document 01 in its order, demand 3, the examples that are proved, and what the private functions promise.
 pub mod LoopTime
 pub mod Order
 pub mod Sending
+pub mod SendCalls
 pub mod Receiving
 pub mod Course
 pub mod Delivery
 pub mod Examples
-pub mod SendCalls
-pub mod SendSteps
-pub mod ReceiveCode
+pub mod Code

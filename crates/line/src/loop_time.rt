@@ -3,7 +3,7 @@ ghost use mathlib.Core.Path.{_≡_};
 ghost use Prim.Native.Nat.{_<_};
 ghost use lib.ListN.{getD};
 ghost use Rattle.block.specs.Lengths.{lengths};
-ghost use Rattle.line.specs.Table.{place};
+ghost use Rattle.line.specs.Code.Table.{place};
 ghost use Rattle.line.specs.LoopTime.{speeds, hasEntry, longestLoop, LoopTest};
 use crate::LOOP_TIME;
 use crate::SPEED;

@@ -12,7 +12,7 @@ ghost use Rattle.block.specs.Calls.{tooShort};
 ghost use Rattle.line.specs.Order.{mostItems};
 ghost use Rattle.line.specs.Receiving as S;
 ghost use Rattle.line.specs.Receiving.{OpenReceiver, freshReceiver, receiverInRange, Receive};
-ghost use Rattle.line.specs.ReceiveCode.{windowBits, ruleOf, stepped, handedBack, acceptance, acceptedStore, judged, Handed};
+ghost use Rattle.line.specs.Code.ReceiveSteps.{windowBits, ruleOf, stepped, handedBack, acceptance, acceptedStore, judged, Handed};
 use crate::hold::put_bits;
 use crate::order::MOST_ITEMS;
 use crate::order::OVERHEAD;

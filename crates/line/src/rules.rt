@@ -8,7 +8,7 @@ ghost use Rattle.crc.specs.Bits.{number, bitsOf};
 ghost use Rattle.block.specs.Lengths.{isLength, blockLength};
 ghost use Rattle.line.specs.Order.{mostItems, letter, isLetter};
 ghost use Rattle.line.specs.Receiving.{looksSync, place, letterRule, endRule, serviceRule};
-ghost use Rattle.line.specs.ReceiveCode.{ruleOf};
+ghost use Rattle.line.specs.Code.ReceiveSteps.{ruleOf};
 use crate::order::END;
 use crate::order::LETTER_A;
 use crate::order::LETTER_B;

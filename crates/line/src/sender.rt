@@ -7,7 +7,7 @@ ghost use lib.ListN.{length};
 ghost use Rattle.block.specs.Answer.{done};
 ghost use Rattle.block.specs.Lengths.{blockLength};
 ghost use Rattle.line.specs.Sending.{confirmed, repeated, itemBlock, senderInRange, gaveUp, sentAnswer, OpenSender, Send};
-ghost use Rattle.line.specs.SendSteps.{Ready, Lent, Sends};
+ghost use Rattle.line.specs.Code.SendSteps.{Ready, Lent, Sends};
 use crate::EMPTY;
 use crate::LONG;
 use crate::REST;

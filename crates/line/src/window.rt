@@ -6,7 +6,7 @@ ghost use Prim.Native.Nat.{_+_, _*_, _^_, _≤_, _<_};
 ghost use lib.ListN.{length, take, getD};
 ghost use Rattle.crc.specs.Bits.{bit, binary, bitsOf, bytesOf};
 ghost use Rattle.line.specs.Receiving.{latest, isSequence};
-ghost use Rattle.line.specs.ReceiveCode.{windowBits};
+ghost use Rattle.line.specs.Code.ReceiveSteps.{windowBits};
 use crate::rules::SEQUENCE;
 
 pub struct Window {

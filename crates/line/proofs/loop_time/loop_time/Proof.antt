@@ -9,7 +9,7 @@ use lib.ListN.{getD}
 use Rattle.block.specs.Answer as A
 use Rattle.block.specs.Answer.{refused, done, refuseIf}
 use Rattle.block.specs.Lengths.{lengths, isLength}
-use Rattle.line.specs.Table.{place}
+use Rattle.line.specs.Code.Table.{place}
 use Rattle.line.specs.LoopTime.{speeds, isSpeed, hasEntry, longestLoop, loopTime}
 use Rattle.line.proofs.Table.{among-place, getD-place}
 use Rattle.line.proofs.loop_time.loop_time.Statement.{statement}

@@ -5,7 +5,7 @@ use Prim.Native.Nat.{ℕ, _≤_}
 use Rattle.crc.specs.Bits.{Bits}
 use Rattle.block.specs.Lengths.{blockLength}
 use Rattle.line.specs.Receiving.{missing, Reading}
-use Rattle.line.specs.ReceiveCode.{judged, Handed}
+use Rattle.line.specs.Code.ReceiveSteps.{judged, Handed}
 use mathlib.Core.Path.{_≡_, sym, ap, _∙_}
 use native.Mathlib.Omega.{arith}
 use lib.ListN.{length, take}

@@ -8,7 +8,7 @@ use Rattle.block.specs.Lengths.{blockLength}
 use Rattle.block.specs.Block.{payloadOf}
 use Rattle.block.proofs.Lengths.{length-facts}
 use Rattle.line.specs.Receiving.{judge, serviceRule}
-use Rattle.line.specs.ReceiveCode.{ruleOf}
+use Rattle.line.specs.Code.ReceiveSteps.{ruleOf}
 use Rattle.line.proofs.Handing.{handed-bad}
 use mathlib.Core.Path.{_≡_, refl, sym, ap, _∙_}
 use native.Mathlib.Omega.{arith}

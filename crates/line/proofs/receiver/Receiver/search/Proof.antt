@@ -7,7 +7,7 @@ use lib.ListN.{length, take, drop}
 use Rattle.crc.specs.Bits.{Bits, bitsOf}
 use Rattle.line.specs.Receiving as S
 use Rattle.line.specs.Receiving.{heldBits}
-use Rattle.line.specs.ReceiveCode.{windowBits, handedBack}
+use Rattle.line.specs.Code.ReceiveSteps.{windowBits, handedBack}
 use Rattle.line.proofs.Searching.{window-held, search-found, search-on, search-end}
 use Rattle.line.proofs.receiver.Receiver.search.Statement.{statement}
 use Rattle.line.proofs.receiver.Receiver.search.Tie as tie

@@ -3,7 +3,7 @@ use mathlib.Core.Path.{sym, ap, _∙_}
 use mathlib.Core.List.{[]}
 use Rattle.line.specs.declared.rules.Rule as D
 use Rattle.line.specs.Receiving.{stops}
-use Rattle.line.specs.ReceiveCode.{ruleOf, handedBack}
+use Rattle.line.specs.Code.ReceiveSteps.{ruleOf, handedBack}
 use borrow.Author.Needs.{needs}
 use Rattle.line.proofs.receiver.Receiver.stop.Statement.{statement}
 use Rattle.line.proofs.receiver.Receiver.stop.Tie as tie
