@@ -1,4 +1,5 @@
 pub mod Flags
+pub mod Places
 pub mod Ranges
 pub mod ReceiverRange
 pub mod RoundTrip

@@ -5,14 +5,13 @@ use mathlib.Core.Bool.{Bool, true, false}
 use mathlib.Core.List.{List}
 use Prim.Native.Nat.{ℕ, _+_, _-_, _≤_, _<_}
 use native.Mathlib.Omega.{arith}
-use Rattle.block.specs.Answer.{Answer, refused, done}
+use Rattle.block.specs.Answer.{done}
 use Rattle.block.proofs.Lengths.{length-facts}
-use Rattle.line.specs.Order.{itemCount, mostItems}
-use Rattle.line.specs.Sending.{openSender, Block, synchronising, item, transmit, senderInRange, send, sendState, sentAnswer, Send}
+use Rattle.line.specs.Order.{mostItems}
+use Rattle.line.specs.Sending.{openSender, Block, synchronising, item, transmit, senderInRange, send, sendState, sentAnswer}
 use Rattle.line.specs.declared.sender.Sender.{Sender}
 use Rattle.line.specs.declared.sender.Next.{Next}
 use Rattle.line.specs.declared.sender.Next.the-variants.{Sync, Older, Newer}
-use Rattle.line.specs.declared.sender.Opened.the-variants as O
 use Rattle.line.specs.declared.sender.Sent.{Sent}
 use Rattle.line.specs.declared.sender.Sent.the-variants as W
 use Rattle.line.specs.declared.sender.Step.{Step}

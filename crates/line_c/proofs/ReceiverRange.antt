@@ -1,27 +1,27 @@
 -- A receiver in range fits its layout, and so do the states that opening and a receiving call hand back.
 -- Assumes nothing.
-use mathlib.Core.Path.{_≡_, refl, sym, ap, _∙_}
-use mathlib.Core.Bool.{Bool, true, false, cond, not, _&&_, _||_}
+use mathlib.Core.Path.{_≡_, refl}
+use mathlib.Core.Bool.{Bool, true, false, not, _&&_, _||_}
 use mathlib.Core.List.{List, [], _∷_, _++_}
-use Prim.Native.Nat.{ℕ, suc, _+_, _-_, _*_, _^_, _≤_, _<_, min}
+use Prim.Native.Nat.{ℕ, suc, _+_, _*_, _^_, _≤_, _<_}
 use native.Mathlib.Omega.{arith}
 use borrow.Author.Tests.{ltb-true, leb-true, not-false}
 use lib.Dec.{eqb, leb, ltb}
-use lib.ListN.{length, take, drop, length-append, length-drop, length-take, length-replicate}
-use Rattle.crc.specs.Bits.{Bits, bitsOf, bytesOf}
+use lib.ListN.{length, take, length-append, length-drop, length-take, length-replicate}
+use Rattle.crc.specs.Bits.{Bits, bitsOf}
 use Rattle.crc.proofs.Bytes.{length-bytesOf}
 use Rattle.block.specs.Answer as A
-use Rattle.block.specs.Answer.{Answer, refused, done}
+use Rattle.block.specs.Answer.{done}
 use Rattle.block.specs.Lengths.{blockLength}
 use Rattle.block.specs.Calls.{tooShort}
 use Rattle.block.proofs.Lengths.{length-facts}
-use Rattle.line.specs.Receiving.{arrayBytes, noBytes, freshReceiver, openReceiver, Rule, unfinished, standing, found, sync-block, check-fails, accepts, previous, out-of-sequence, ends, wrong-length, ends-again, anything-else, meaning, judge, blank, lastBad, badly, after, heldBits, Reading, latest, searching, isSequence, stops, search, stands, overwrite, holding, missing, finishedRow, inStep, reading, idle, readings, heldInRange, receiverInRange, judgeStore, receive}
+use Rattle.line.specs.Receiving.{arrayBytes, noBytes, freshReceiver, openReceiver, Rule, unfinished, standing, found, sync-block, check-fails, accepts, previous, out-of-sequence, ends, wrong-length, ends-again, anything-else, meaning, judge, blank, lastBad, badly, after, heldBits, Reading, latest, isSequence, search, stands, holding, missing, finishedRow, inStep, reading, readings, heldInRange, receiverInRange, receive}
 use Rattle.line.specs.declared.receiver.Receiver.{Receiver}
 use Rattle.line.specs.declared.receiver.Phase.{Phase}
 use Rattle.line.specs.declared.receiver.Phase.the-variants as P
 use Rattle.line.proofs.Sending.{passed-test}
 use Rattle.line.proofs.Delivery.Tests.{cond-case}
-use Rattle.line.proofs.Calling.{InRange, in-range, held-search, held-step}
+use Rattle.line.proofs.Calling.{InRange, in-range, held-search}
 use Rattle.line_c.specs.State.{ReceiverFits}
 
 -- ---- a state in range

@@ -2,17 +2,16 @@
 -- written back as they were. So the bytes that a call leaves hold the state that it hands back. Assumes nothing.
 use mathlib.Core.Path.{_≡_, refl, sym, ap, _∙_}
 use mathlib.Core.Bool.{Bool, true, false, not, _&&_}
-use mathlib.Core.List.{List, [], _∷_, _++_, append-assoc}
+use mathlib.Core.List.{List, _++_, append-assoc}
 use Prim.Native.Nat.{ℕ, zero, suc, _+_, _*_, _/_, _%_, _^_, _≤_, _<_}
 use native.Mathlib.Nat.{div-add-mod'}
 use native.Mathlib.Omega.{arith}
-use native.Mathlib.Numerals.{add-one, add-two}
 use borrow.Author.Tests.{leb-true, le-leb, not-false}
 use lib.Dec.{eqb, leb, ltb}
-use lib.ListN.{length, take, drop, getD, length-append, length-drop, take-append-drop}
-use lib.Seq.{length-take-le, drop-cons, drop-drop, take-at}
+use lib.ListN.{length, drop, getD, length-append, length-drop, take-append-drop}
+use lib.Seq.{length-take-le, drop-drop, take-at}
 use Rattle.block.specs.Answer as A
-use Rattle.block.specs.Answer.{Answer, refused, done, refuseIf}
+use Rattle.block.specs.Answer.{Answer, refused, done}
 use Rattle.line.proofs.Items.{and-left, and-right}
 use Rattle.line.specs.declared.sender.Sender.{Sender}
 use Rattle.line.specs.declared.sender.Next.{Next}
@@ -27,6 +26,7 @@ use Rattle.line.specs.declared.receiver.Phase.the-variants as P
 use Rattle.line_c.specs.ReceiverCalls.{receiverOver, openReceiverIn, openedReceiver, OpenReceiverCall, ReceiveCall}
 use Rattle.line_c.proofs.ReceiverRange as R
 use Rattle.line_c.proofs.ReceiverRange.{receiver-fits}
+use Rattle.line_c.proofs.Places.{four}
 use Rattle.line_c.proofs.Ranges.{sender-fits, opened-fits, sent-fits}
 use Rattle.line_c.specs.State.{wordAt, wordBytes, flagByte, nextOf, nextByte, headSize, holds, headBytes, senderSize, senderIn, senderOf, senderBytes, SenderFits, phaseOf, phaseByte, receiverSize, holdsReceiver, receiverIn, receiverOf, receiverBytes, ReceiverFits}
 
@@ -64,24 +64,6 @@ module _ (a b c d : ℕ) (ha : a < 256) (hb : b < 256) (hc : c < 256) (hd : d < 
 
   digit-3 : joined / 16777216 % 256 ≡ d
   digit-3 = omega arith
-
-pub add-three : (n : ℕ) → n + 3 ≡ suc (suc (suc n))
-add-three n = omega arith
-
-add-four : (n : ℕ) → n + 4 ≡ suc (suc (suc (suc n)))
-add-four n = omega arith
-
--- four bytes from a place on
-four : (s : List ℕ) (at : ℕ) → at + 4 ≤ length s
-    → drop at s ≡ getD s at 0 ∷ getD s (at + 1) 0 ∷ getD s (at + 2) 0 ∷ getD s (at + 3) 0 ∷ drop (at + 4) s
-four s at h =
-    drop-cons s at 0 (omega arith)
-    ∙ ap (λ (l : List ℕ). getD s at 0 ∷ l)
-    (rw (add-one, add-two, add-three, add-four)
-    (drop-cons s (suc at) 0 (omega arith)
-    ∙ ap (λ (l : List ℕ). getD s (suc at) 0 ∷ l)
-    (drop-cons s (suc (suc at)) 0 (omega arith)
-    ∙ ap (λ (l : List ℕ). getD s (suc (suc at)) 0 ∷ l) (drop-cons s (suc (suc (suc at))) 0 (omega arith)))))
 
 -- ---- a number's bytes written back
 

@@ -47,14 +47,14 @@ eventNumber (E.Ended L) = 23
 
 -- the length that comes with the end; without it, the number stays
 abbrev pub eventLength : ℕ → Event → ℕ
-eventLength length E.None = length
-eventLength length E.Sync = length
-eventLength length E.Bad = length
-eventLength length E.Accepted = length
-eventLength length E.Previous = length
-eventLength length E.SequenceAlarm = length
-eventLength length E.LengthAlarm = length
-eventLength length (E.Ended L) = L
+eventLength len E.None = len
+eventLength len E.Sync = len
+eventLength len E.Bad = len
+eventLength len E.Accepted = len
+eventLength len E.Previous = len
+eventLength len E.SequenceAlarm = len
+eventLength len E.LengthAlarm = len
+eventLength len (E.Ended L) = L
 
 abbrev pub reportNumber : Answer Report → ℕ
 reportNumber (refused n) = n
@@ -65,8 +65,8 @@ reportUsed used (refused n) = used
 reportUsed used (done r) = r .used
 
 abbrev pub reportLength : ℕ → Answer Report → ℕ
-reportLength length (refused n) = length
-reportLength length (done r) = eventLength length (r .event)
+reportLength len (refused n) = len
+reportLength len (done r) = eventLength len (r .event)
 
 -- a call on the receiver that the bytes hold, the bytes afterwards, and the store
 abbrev pub receiveIn : List ℕ → ℕ → List ℕ → Answer Receiver → Answer Reading
@@ -82,13 +82,13 @@ receivedStore store (refused n) answer = store
 receivedStore store (done s) answer = receiveStore s store answer
 
 pub record ReceiveCall
-    (state line : List ℕ) (count : ℕ) (store : List ℕ) (used length result : ℕ) (state′ store′ : List ℕ) (used′ length′ : ℕ)
+    (state line : List ℕ) (count : ℕ) (store : List ℕ) (used len result : ℕ) (state′ store′ : List ℕ) (used′ len′ : ℕ)
     : Type 0 where
   pub answers : result ≡ reportNumber (reported (receiveIn line count store (receiverOf state)))
   pub keeps : state′ ≡ receivedState state (receiveIn line count store (receiverOf state))
   pub writes : store′ ≡ receivedStore store (receiverOf state) (receiveIn line count store (receiverOf state))
   pub uses : used′ ≡ reportUsed used (reported (receiveIn line count store (receiverOf state)))
-  pub ends : length′ ≡ reportLength length (reported (receiveIn line count store (receiverOf state)))
+  pub ends : len′ ≡ reportLength len (reported (receiveIn line count store (receiverOf state)))
 
 -- ---- the return bit: 0 or 1
 

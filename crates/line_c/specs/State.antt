@@ -6,7 +6,7 @@ use Prim.Native.Nat.{ℕ, zero, suc, _+_, _*_, _/_, _%_, _^_, _<_}
 use lib.Dec.{eqb, leb}
 use lib.ListN.{length, take, drop, getD}
 use Rattle.block.specs.Answer as A
-use Rattle.block.specs.Answer.{Answer, refused, done, refuseIf}
+use Rattle.block.specs.Answer.{Answer, done, refuseIf}
 use Rattle.line.specs.Receiving.{arrayBytes}
 use Rattle.line.specs.declared.sender.Sender.{Sender}
 use Rattle.line.specs.declared.sender.Next.{Next}

@@ -1,16 +1,12 @@
 -- `store_word` makes its four stores in a row. Assumes nothing.
 use native.Mathlib.Omega.{arith}
 use native.Mathlib.Numerals.{add-one, add-two}
-use mathlib.Core.Path.{_≡_, refl}
 use lib.ListN.{length-set}
 use Rattle.line_c.specs.State.{wordBytes}
-use Prim.Native.Nat.{ℕ, suc, _+_}
+use Rattle.line_c.proofs.Places.{add-three}
 use borrow.Author.Needs.{needs}
 use Rattle.line_c.proofs.layout.store_word.Statement.{statement}
 use Rattle.line_c.proofs.layout.store_word.Tie as tie
-
-add-three : (n : ℕ) → n + 3 ≡ suc (suc (suc n))
-add-three n = omega arith
 
 cast-s : tie.Need-cast-s
 cast-s c = search needs

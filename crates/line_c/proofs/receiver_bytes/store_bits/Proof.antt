@@ -1,11 +1,11 @@
 -- `store_bits`: after i turns, the first i bytes of the array stand behind the head. Assumes nothing.
 use borrow.Author.Needs.{needs}
-use mathlib.Core.Path.{_≡_, refl, sym, ap, _∙_}
-use mathlib.Core.List.{List, [], _∷_, _++_}
-use Prim.Native.Nat.{ℕ, suc, _+_, _-_, _≤_, _<_}
+use mathlib.Core.Path.{_≡_, ap, _∙_}
+use mathlib.Core.List.{List, _++_}
+use Prim.Native.Nat.{ℕ, _+_, _-_, _≤_, _<_}
 use native.Mathlib.Numerals.{add-one}
 use native.Mathlib.Omega.{arith}
-use lib.ListN.{length, take, drop, getD, set, length-set}
+use lib.ListN.{length, take, drop, getD, set}
 use lib.Seq.{take-all, paste, paste-zero, paste-suc, length-paste}
 use Rattle.line_c.proofs.receiver_bytes.store_bits.Statement.{statement}
 use Rattle.line_c.proofs.receiver_bytes.store_bits.Tie as tie

@@ -1,7 +1,7 @@
 -- `order_line_return_bit`: a receiving call of 0 bits is refused for a spoiled state, or changes nothing.
 -- Assumes nothing.
 use mathlib.Core.Path.{_≡_, refl, sym, ap, _∙_}
-use mathlib.Core.Bool.{Bool, true, false, cond, not}
+use mathlib.Core.Bool.{Bool, true, false, not}
 use mathlib.Core.List.{List, [], _∷_}
 use Prim.Native.Nat.{ℕ, _*_}
 use native.Mathlib.Omega.{arith}
@@ -9,9 +9,8 @@ use borrow.Author.Tests.{not-true, not-false, le-ltb}
 use denote.Enum.Declared.{tagOf}
 use types.Run.{OneOf}
 use lib.ListN.{length}
-use mir.Val.{boolByte}
 use Rattle.block.specs.Answer as A
-use Rattle.block.specs.Answer.{Answer, refused, done, refuseIf}
+use Rattle.block.specs.Answer.{refused, done, refuseIf}
 use Rattle.line.specs.Receiving.{meaning, Reading, idleRule, idle, readings, receiverInRange, receive, Report, reported, receivedAnswer}
 use Rattle.line.specs.declared.receiver.Receiver.{Receiver}
 use Rattle.line.specs.declared.receiver.Phase.{Phase}
@@ -19,7 +18,7 @@ use Rattle.line.specs.declared.receiver.Phase.the-variants as P
 use Rattle.line.specs.declared.receiver.Received.{Received}
 use Rattle.line.specs.declared.receiver.Received.the-variants as R
 use Rattle.line.proofs.receiver.Received.{the-type}
-use Rattle.line_c.specs.State.{flagByte, receiverSize, holdsReceiver, receiverIn, receiverOf}
+use Rattle.line_c.specs.State.{receiverSize, holdsReceiver, receiverIn, receiverOf}
 use Rattle.line_c.specs.ReceiverCalls.{backIn, ReturnBitCall}
 use Rattle.line_c.proofs.Flags.{boolByte-flag}
 use Rattle.line_c.proofs.RoundTrip.{held}

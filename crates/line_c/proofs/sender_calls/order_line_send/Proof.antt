@@ -6,10 +6,9 @@ use Prim.Native.Nat.{ℕ, _≤_}
 use lib.ListN.{length}
 use borrow.Author.Tests.{not-true, not-false}
 use Rattle.block.specs.Answer as A
-use Rattle.block.specs.Answer.{Answer, refused, done}
-use Rattle.line.specs.Sending.{Block, synchronising, item, send, sendState, sentAnswer, Send}
+use Rattle.block.specs.Answer.{refused, done}
+use Rattle.line.specs.Sending.{Block, synchronising, send, sendState, sentAnswer, Send}
 use Rattle.line.specs.declared.sender.Sender.{Sender}
-use Rattle.line.specs.declared.sender.Sent.{Sent}
 use Rattle.line.specs.declared.sender.Step.{Step}
 use Rattle.line_c.specs.State.{senderSize, holdsSender, senderIn, senderOf}
 use Rattle.line_c.specs.SenderCalls.{senderOver, sentWord, SendCall}

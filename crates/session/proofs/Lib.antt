@@ -1,0 +1,13 @@
+pub mod Appending
+pub mod Decimal
+pub mod Hearing
+pub mod LineOne
+pub mod Openings
+pub mod Orders
+pub mod Parts
+pub mod Periods
+pub mod Ranges
+pub mod Sent
+pub mod Shifting
+pub mod Uses
+pub mod Whole

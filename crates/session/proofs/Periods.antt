@@ -1,0 +1,56 @@
+-- A period from its sending call on, by that call's promise. Assumes nothing.
+use mathlib.Core.Path.{_≡_, refl, sym, ap, _∙_}
+use mathlib.Core.Bool.{Bool}
+use mathlib.Core.List.{List}
+use Prim.Native.Nat.{ℕ, _+_, _*_, _≤_, _<_}
+use native.Mathlib.Omega.{arith}
+use lib.ListN.{length, take, replicate}
+use Rattle.crc.specs.Bits.{Bits, bitsOf, bytesOf}
+use Rattle.block.specs.Answer.{Answer, refused, done}
+use Rattle.block.specs.Lengths.{isLength, blockLength}
+use Rattle.block.proofs.Lengths.{length-facts}
+use Rattle.line.specs.Order.{orderBits}
+use Rattle.line.specs.Sending as S
+use Rattle.line.specs.Sending.{send, sendState, sendBytes, sentBits, sentAnswer, Send}
+use Rattle.line.specs.declared.sender.Sender.{Sender}
+use Rattle.line.specs.declared.sender.Step.{Step}
+use Rattle.line.specs.declared.receiver.Receiver.{Receiver}
+use Rattle.line.specs.declared.receiver.Event.the-variants as E
+use Rattle.session.specs.Period.{readingOf, lineBytes, Lent, arriving, hear, shownBlock, shownReading, Course, heardCourse, period}
+use Rattle.session.specs.declared.period.Kind.{Kind}
+use Rattle.session.specs.declared.period.Outcome.the-variants as O
+use Rattle.session.proofs.Hearing.{held-bits, lent-packed}
+use Rattle.session.proofs.Sent.{on-line}
+
+module _ (kind : Kind) (s : Sender) (r : Receiver) (order store : List ℕ) (reading : Bool) (step : Step) (line : List ℕ)
+    (e : reading ≡ readingOf kind (r .back)) (kept : Send s order reading (replicate lineBytes 0) step line) where
+  -- refused
+  pub not-sent : (n : ℕ) → sentAnswer (step .answer) ≡ refused n
+      → period kind s r order store
+      ≡ record { period = record { sender = step .state; receiver = r; outcome = O.Refused n }; store = store }
+  unfolding period
+  not-sent n a =
+      let g : send s order reading (replicate lineBytes 0) ≡ refused n = sym (kept .answers) ∙ a in
+      rw (kept .state, g, ← e, g)
+
+  pub record BlockSent (b : S.Block) : Type 0 where
+    pub count : s .setup .k ≤ 3840
+    pub lent : Lent line (s .setup .k + 20)
+    pub course : period kind s r order store
+        ≡ heardCourse (step .state) (shownBlock b) (shownReading b reading)
+        (hear (s .setup .k + 20) r (arriving kind (take (s .setup .k + 20) (bitsOf line))) store E.None)
+
+  pub sent : (b : S.Block) → sentAnswer (step .answer) ≡ done b → BlockSent b
+  unfolding period
+  sent b a =
+      let g : send s order reading (replicate lineBytes 0) ≡ done b = sym (kept .answers) ∙ a in
+      let bits : Bits = sentBits (s .setup .k) (s .setup .length) (orderBits (s .setup .length) order) b in
+      let o = on-line s order reading b g in
+      let f = length-facts (s .setup .k) (o .known) in
+      let l : line ≡ bytesOf lineBytes bits = kept .writes ∙ ap (sendBytes s order (replicate lineBytes 0)) g ∙ o .packed in
+      let m : length bits ≤ 8 * lineBytes = omega (arith, o .count) in
+      record {
+        count = omega arith;
+        lent = rw (l, ← o .count) (lent-packed bits m);
+        course = rw (l, ← o .count, held-bits bits m, kept .state, g, ← e, g);
+      }

@@ -1,0 +1,54 @@
+-- `LineOne::read_bytes` meets its contract: by the kind of its byte. Assumes nothing.
+use mathlib.Core.Path.{_≡_}
+use mathlib.Core.Bool.{true, false}
+use lib.Dec.{ltb}
+use borrow.Author.Tests.{lt-ltb, le-ltb, eq-eqb, ne-eqb}
+use Rattle.session.specs.LineOne.{hexValue, nextAt}
+use borrow.Author.Needs.{needs}
+use Rattle.session.proofs.line_one.LineOne.read_bytes.Statement.{statement}
+use Rattle.session.proofs.line_one.LineOne.read_bytes.Tie as tie
+
+hex-value-requires : tie.Need-hex-value-requires
+hex-value-requires c κs = search needs
+
+at-requires : tie.Need-at-requires
+at-requires c κs = search needs
+
+at-requires-2 : tie.Need-at-requires-2
+at-requires-2 c κs = search needs
+
+at-requires-3 : tie.Need-at-requires-3
+at-requires-3 c κs = search needs
+
+returns : tie.Need-returns
+unfolding nextAt
+returns c =
+    let e : c .before .before .hex-value .result ≡ hexValue (c .before .before .before .args .c) = c .before .before .hex-value .ensures in
+    let t : ltb (hexValue (c .before .before .before .args .c)) 16 ≡ true = rw (← e) (lt-ltb _ _ (c .before .if1 .taken)) in
+    rw (t, ← e) (c .at .ensures)
+
+returns-2 : tie.Need-returns-2
+unfolding nextAt
+returns-2 c =
+    let e : c .before .before .before .hex-value .result ≡ hexValue (c .before .before .before .before .args .c) = c .before .before .before .hex-value .ensures in
+    let t : ltb (hexValue (c .before .before .before .before .args .c)) 16 ≡ false = rw (← e) (le-ltb _ _ (c .before .before .if1 .left)) in
+    rw (t, eq-eqb _ _ (c .before .if2 .taken)) (c .at2 .ensures)
+
+returns-3 : tie.Need-returns-3
+unfolding nextAt
+returns-3 c =
+    let e : c .before .before .before .hex-value .result ≡ hexValue (c .before .before .before .before .args .c) = c .before .before .before .hex-value .ensures in
+    let t : ltb (hexValue (c .before .before .before .before .args .c)) 16 ≡ false = rw (← e) (le-ltb _ _ (c .before .before .if1 .left)) in
+    rw (t, ne-eqb _ _ (c .before .if2 .left)) (c .at3 .ensures)
+
+pub read-bytes-spec : {M : Type 1} → statement M
+read-bytes-spec =
+    tie.close
+    (tie.spec
+    hex-value-requires
+    at-requires
+    at-requires-2
+    at-requires-3
+    returns
+    returns-2
+    returns-3)

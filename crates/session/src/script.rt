@@ -1,0 +1,255 @@
+// A session read from its input one byte at a time: line one, then a line for each period.
+ghost use mathlib.Core.Path.{_≡_};
+ghost use Prim.Native.Nat.{min};
+ghost use lib.ListN.{length};
+ghost use Rattle.session.specs.Session.{fresh, quiet, refusedAt, receiverOpened, opens, counted, afterPeriod, periodWritten, coursed, kindAt, lineOneRead, over, Take, End};
+ghost use Rattle.session.specs.LineOne.{nextOrder};
+ghost use Rattle.line.specs.Receiving.{openReceiver};
+use crate::line_one::LineOne;
+use crate::period::Kind;
+use crate::period::Outcome;
+use crate::period::run_period;
+use crate::text::Text;
+use crate::text::outcome_text;
+use crate::text::refused_text;
+use line::receiver::Opening;
+use line::receiver::Receiver;
+use line::sender::Next;
+use line::sender::Opened;
+use line::sender::Sender;
+use line::sender::Setup;
+
+// Speed and loop of every session.
+const SPEED: u32 = 200;
+
+const LOOP_MS: u32 = 0;
+
+// Where in the input.
+pub enum Place {
+    LineOne,
+    LineStart,
+    // The one letter of a line was read.
+    Kind(Kind),
+    // Nothing more is read.
+    Over,
+}
+
+pub struct Session {
+    pub place: Place,
+    pub opening: LineOne,
+    pub sender: Sender,
+    pub receiver: Receiver,
+    // The number of the next period.
+    pub period: u64,
+}
+
+pub struct Written {
+    pub session: Session,
+    // What is to be written.
+    pub text: Text,
+}
+
+fn least(a: usize, b: usize) -> usize
+    ensures { λ r. ⌜ r ≡ min a b ⌝ }
+{
+    if a < b { a } else { b }
+}
+
+fn next_period(n: u64) -> u64
+    ensures { λ r. ⌜ r ≡ counted n ⌝ }
+{
+    if n < u64::MAX { n + 1 } else { n }
+}
+
+// What the first byte of a line says.
+fn kind_at(c: u8) -> Place
+    ensures { λ r. ⌜ r ≡ kindAt c ⌝ }
+{
+    match c {
+        b't' => Place::Kind(Kind::Undisturbed),
+        b'f' => Place::Kind(Kind::Turned),
+        b'd' => Place::Kind(Kind::Damaged),
+        _ => Place::Over,
+    }
+}
+
+fn after_period(outcome: Outcome) -> Place
+    ensures { λ r. ⌜ r ≡ afterPeriod outcome ⌝ }
+{
+    match outcome {
+        Outcome::Refused(_) => Place::Over,
+        Outcome::Line(_) => Place::LineStart,
+    }
+}
+
+impl Session {
+    pub fn new() -> Session
+        ensures { λ r. ⌜ r ≡ fresh ⌝ }
+    {
+        let opened = Receiver::open(0);
+        let receiver = opened.state;
+        Session {
+            place: Place::LineOne,
+            opening: LineOne::new(),
+            sender: Sender {
+                setup: Setup { k: 0, length: 0 },
+                newer: 1,
+                run: 0,
+                opening: true,
+                next: Next::Sync,
+                finished: false,
+            },
+            receiver,
+            period: 0,
+        }
+    }
+
+    fn quiet(self, place: Place) -> Written
+        ensures { λ r. ⌜ r ≡ quiet self place ⌝ }
+    {
+        Written {
+            session: Session { place, ..self },
+            text: Text::new(),
+        }
+    }
+
+    // A refusal ends the run.
+    fn refused(self, number: u8) -> Written
+        ensures { λ r. ⌜ r ≡ refusedAt self number ⌝ }
+    {
+        Written {
+            session: Session {
+                place: Place::Over,
+                ..self
+            },
+            text: refused_text(number),
+        }
+    }
+
+    fn open_receiver(self, sender: Sender) -> Written
+        ensures { λ r. ⌜ r ≡ receiverOpened self sender (openReceiver (self .opening .k)) ⌝ }
+    {
+        let opening = self.opening;
+        let opened = Receiver::open(opening.k);
+        let receiver = opened.state;
+        let answer = opened.answer;
+        match answer {
+            Opening::Refused(number) => self.refused(number),
+            Opening::Opened => Written {
+                session: Session {
+                    place: Place::LineStart,
+                    opening,
+                    sender,
+                    receiver,
+                    period: 0,
+                },
+                text: Text::new(),
+            },
+        }
+    }
+
+    // Line one ends: both ends are opened, the sender first.
+    fn open(self, order: &[u8]) -> Written
+        ensures { λ r. ⌜ r ≡ opens self (now (order .entry)) ⌝ }
+    {
+        let opening = self.opening;
+        if !opening.is_readable() {
+            return self.quiet(Place::Over);
+        }
+        let kept = least(opening.kept, order.len());
+        let opened = Sender::open(opening.k, SPEED, LOOP_MS, opening.length, &order[..kept]);
+        match opened {
+            Opened::Refused(number) => self.refused(number),
+            Opened::Opened(sender) => self.open_receiver(sender),
+        }
+    }
+
+    // A line of a kind ends: a period.
+    fn line(self, kind: Kind, order: &[u8], store: &mut [u8]) -> Written
+        ensures { λ r. ⌜ r ≡ periodWritten self (coursed self kind (now (order .entry)) (now (store .entry))) ⌝ }
+        ensures { λ _. ⌜ now (store .exit) ≡ coursed self kind (now (order .entry)) (now (store .entry)) .store ⌝ }
+    {
+        let opening = self.opening;
+        let kept = least(opening.kept, order.len());
+        let sender = self.sender;
+        let receiver = self.receiver;
+        let period = run_period(kind, sender, receiver, &order[..kept], store);
+        let sender = period.sender;
+        let receiver = period.receiver;
+        let outcome = period.outcome;
+        Written {
+            session: Session {
+                place: after_period(outcome),
+                opening,
+                sender,
+                receiver,
+                period: next_period(self.period),
+            },
+            text: outcome_text(self.period, outcome),
+        }
+    }
+
+    fn read_line_one(self, c: u8, order: &mut [u8]) -> Written
+        ensures { λ r. ⌜ r ≡ lineOneRead self c (length (now (order .entry))) ⌝ }
+        ensures { λ _. ⌜ now (order .exit) ≡ nextOrder (self .opening) (self .opening .place) c (now (order .entry)) ⌝ }
+    {
+        let opening = self.opening;
+        let opening = opening.read(c, order);
+        Written {
+            session: Session {
+                place: Place::LineOne,
+                opening,
+                ..self
+            },
+            text: Text::new(),
+        }
+    }
+
+    // What a byte of input brings: the session after it and what is to be written.
+    pub fn read(self, c: u8, order: &mut [u8], store: &mut [u8]) -> Written
+        ensures { λ r. ⌜ Take self c (now (order .entry)) (now (store .entry)) r (now (order .exit)) (now (store .exit)) ⌝ }
+    {
+        let place = self.place;
+        match place {
+            Place::LineOne => {
+                if c == b'\n' {
+                    return self.open(order);
+                }
+                self.read_line_one(c, order)
+            }
+            Place::LineStart => self.quiet(kind_at(c)),
+            Place::Kind(kind) => {
+                if c == b'\n' {
+                    return self.line(kind, order, store);
+                }
+                self.quiet(Place::Over)
+            }
+            Place::Over => self.quiet(Place::Over),
+        }
+    }
+
+    // What the end of the input brings: a last line with no newline counts.
+    pub fn end(self, order: &[u8], store: &mut [u8]) -> Written
+        ensures { λ r. ⌜ End self (now (order .entry)) (now (store .entry)) r (now (store .exit)) ⌝ }
+    {
+        let place = self.place;
+        match place {
+            Place::LineOne => self.open(order),
+            Place::LineStart => self.quiet(Place::Over),
+            Place::Kind(kind) => self.line(kind, order, store),
+            Place::Over => self.quiet(Place::Over),
+        }
+    }
+
+    pub fn is_over(self) -> bool
+        ensures { λ r. ⌜ r ≡ over (self .place) ⌝ }
+    {
+        let place = self.place;
+        match place {
+            Place::LineOne => false,
+            Place::LineStart => false,
+            Place::Kind(_) => false,
+            Place::Over => true,
+        }
+    }
+}
