@@ -2,7 +2,6 @@
 
 use super::bits::{pack, unpack, Bits};
 use super::block::{block_bits, block_bytes};
-use super::order::items;
 use super::receiver::{self, Event, Received, Receiver};
 use super::refusal::Refusal;
 use super::sender::{self, Sender, Sent};
@@ -10,6 +9,8 @@ use super::sender::{self, Sender, Sent};
 const HEADING: &str = "period sent read event back\n";
 const SPEED: usize = 200;
 const LOOP_MS: usize = 0;
+/// The bytes of the longest order with its last item filled, at any k.
+const STORE_BYTES: usize = 33_120;
 
 /// Line one: k, L and the order. Numbers too large to hold stand as the largest.
 #[derive(Debug, PartialEq, Eq)]
@@ -115,7 +116,7 @@ impl Session {
         let Opening { k, length, order } = opening;
         let sender = sender::open(k, SPEED, LOOP_MS, length, &order)?;
         let receiver = receiver::open(k)?;
-        let store = vec![0; items(k, length) * k / 8];
+        let store = vec![0; STORE_BYTES];
         Ok(Session {
             order,
             store,
