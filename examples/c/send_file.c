@@ -1,0 +1,302 @@
+/*
+ * An office and a machine in one program: a file goes through the order line's library over a noisy line, and what
+ * arrived is compared with what was sent.
+ *
+ *     send_file [FILE [K]]
+ *
+ * FILE has 1 to 32,768 bytes; K is 240 (as without it), 480, 960 or 3840 data bits a block. Exit status 0 means that the
+ * file arrived whole, 1 that it did not, 2 that it could not be read or the line was refused.
+ *
+ * The office and the machine are what firmware would take over: each has its own memory and meets the other only in the
+ * bits of the line and in the return bit. The noise and main() stand for the modems and the clock.
+ */
+#include <stdbool.h>
+#include <stdint.h>
+#include <stdio.h>
+#include <stdlib.h>
+#include <string.h>
+
+#include "order_line.h"
+
+#define SPEED 1200u /* bit/s */
+#define LOOP_MS 100u
+
+#define ORDER_BYTES (ORDER_LINE_LONGEST_ORDER / 8)
+#define BLOCK_BYTES ORDER_LINE_BLOCK_BYTES(3840) /* room for a block of any k */
+#define STORE_BYTES 33120                        /* the longest order filled up to whole items of any k */
+
+#define EVENTS (ORDER_LINE_EVENT_ENDED + 1)
+
+/* ---- the office: the sending end ---- */
+
+struct office {
+    uint8_t state[ORDER_LINE_SENDER_BYTES];
+    uint8_t block[BLOCK_BYTES]; /* the block going out */
+    const uint8_t *order;       /* unchanged until the session ends */
+    size_t order_bytes;
+    unsigned long synchronising, cancelled, repeats;
+    unsigned long items_begun; /* items sent at least once */
+};
+
+/*
+ * At the start of a block period: the block's bits but the last do not depend on the reading, which is not there yet. So
+ * they are taken from a sending call on a copy of the state, and the copy is dropped. Returns 0 or a refusal.
+ */
+static uint8_t office_begin_block(struct office *office)
+{
+    uint8_t copy[ORDER_LINE_SENDER_BYTES];
+    uint32_t word;
+
+    memcpy(copy, office->state, sizeof copy);
+    word = order_line_send(copy, sizeof copy, office->order, office->order_bytes, false, office->block,
+                           sizeof office->block);
+    return (word & ORDER_LINE_SENT) != 0 ? 0 : (uint8_t)word;
+}
+
+/*
+ * Before the last bit goes out, with the reading taken then: the sending call that counts. It writes the same block, its
+ * last bit inverted if the block is cancelled. Returns 0 or a refusal.
+ */
+static uint8_t office_end_block(struct office *office, bool reading)
+{
+    uint32_t word = order_line_send(office->state, sizeof office->state, office->order, office->order_bytes, reading,
+                                    office->block, sizeof office->block);
+
+    if ((word & ORDER_LINE_SENT) == 0)
+        return (uint8_t)word;
+    if ((word & ORDER_LINE_SENT_ITEM) == 0) {
+        office->synchronising++;
+        return 0;
+    }
+    if ((word & ORDER_LINE_SENT_CANCELLED) != 0)
+        office->cancelled++;
+    if (ORDER_LINE_SENT_NUMBER(word) < office->items_begun)
+        office->repeats++;
+    else
+        office->items_begun = ORDER_LINE_SENT_NUMBER(word) + 1;
+    return 0;
+}
+
+/* ---- the machine: the receiving end ---- */
+
+struct machine {
+    uint8_t state[ORDER_LINE_RECEIVER_BYTES];
+    uint8_t store[STORE_BYTES]; /* the order as it arrives; of use only once `ended` is set */
+    size_t length;              /* bits of the order, with `ended` */
+    bool ended;
+    uint8_t alarm;      /* the alarm that stands, or 0 */
+    uint8_t refusal;    /* the refusal that stopped the machine, or 0 */
+    uint8_t return_bit; /* what the return channel is held at */
+    unsigned long events[EVENTS];
+};
+
+static uint8_t machine_open(struct machine *machine, size_t k)
+{
+    uint8_t refusal;
+
+    memset(machine, 0, sizeof *machine);
+    refusal = order_line_open_receiver(k, machine->state, sizeof machine->state);
+    if (refusal == 0)
+        machine->return_bit = order_line_return_bit(machine->state, sizeof machine->state);
+    return refusal;
+}
+
+/* What the machine does on each event. */
+static void machine_on_event(struct machine *machine, uint8_t event)
+{
+    switch (event) {
+    case ORDER_LINE_EVENT_NONE: /* more bits are wanted */
+        return;
+    case ORDER_LINE_EVENT_SYNC:     /* in step with the blocks from here on */
+    case ORDER_LINE_EVENT_BAD:      /* the return bit asks for a repeat */
+    case ORDER_LINE_EVENT_ACCEPTED: /* one item more in the store; not to be used before the end */
+    case ORDER_LINE_EVENT_PREVIOUS: /* a repeat of what is there already */
+        break;
+    case ORDER_LINE_EVENT_ENDED: /* the whole order is in the store: now it may be used */
+        machine->ended = true;
+        break;
+    case ORDER_LINE_EVENT_SEQUENCE_ALARM: /* drop the order and call someone; only a new session helps */
+    case ORDER_LINE_EVENT_LENGTH_ALARM:
+        if (machine->alarm != 0)
+            return; /* reported again at each call */
+        machine->alarm = event;
+        break;
+    default: /* a refusal: with these buffers it means that the state's bytes were spoiled */
+        machine->refusal = event;
+        machine->return_bit = 1;
+        return;
+    }
+    machine->events[event]++;
+    machine->return_bit = order_line_return_bit(machine->state, sizeof machine->state);
+}
+
+/*
+ * The serial line's interrupt: up to eight bits, the earliest in the top bit. A block may end within them; a call stops
+ * there, and the bits it left are lent again.
+ */
+static void machine_on_bits(struct machine *machine, uint8_t byte, size_t bits)
+{
+    while (bits > 0 && machine->refusal == 0) {
+        size_t used = 0;
+        uint8_t event = order_line_receive(machine->state, sizeof machine->state, &byte, 1, bits, machine->store,
+                                           sizeof machine->store, &used, &machine->length);
+
+        machine_on_event(machine, event);
+        byte = (uint8_t)(byte << used);
+        bits -= used;
+    }
+}
+
+/* ---- the noise: the same at each run ---- */
+
+/*
+ * One block in eight is damaged, and of each 64 the ten from the 20th on, so that a search and resynchronising are seen.
+ * The damage is an even number of bits within 16 adjacent places; with a cancelled block's inverted last bit that makes
+ * an odd number. Either is damage that the check finds. A return reading of 0 is turned into 1 in one block of 32, which
+ * costs a repeat. A reading of 1 is never turned: no repeat request is lost.
+ */
+struct noise {
+    uint32_t word;
+    unsigned long period;
+    size_t first;   /* the first damaged bit */
+    uint16_t burst; /* the damage from there on, the first bit on top; 0 in a block that stays whole */
+};
+
+static uint32_t noise_below(struct noise *noise, uint32_t limit)
+{
+    noise->word ^= noise->word << 13;
+    noise->word ^= noise->word >> 17;
+    noise->word ^= noise->word << 5;
+    return noise->word % limit;
+}
+
+static void noise_begin_block(struct noise *noise, size_t n)
+{
+    bool in_row = noise->period % 64 >= 20 && noise->period % 64 < 30;
+    bool odd = false;
+    unsigned i;
+
+    noise->period++;
+    noise->burst = 0;
+    if (noise_below(noise, 8) != 0 && !in_row)
+        return;
+    noise->first = noise_below(noise, (uint32_t)(n - 15));
+    noise->burst = (uint16_t)(0x8000u | noise_below(noise, 0x8000));
+    for (i = 0; i < 16; i++)
+        odd ^= (noise->burst >> i & 1) != 0;
+    if (odd)
+        noise->burst ^= 1;
+}
+
+/* The block's byte at this place as it arrives. */
+static uint8_t noise_on_byte(const struct noise *noise, size_t place, uint8_t byte)
+{
+    size_t i;
+
+    for (i = 0; i < 16; i++)
+        if ((noise->burst >> (15 - i) & 1) != 0 && (noise->first + i) / 8 == place)
+            byte = (uint8_t)(byte ^ 0x80u >> (noise->first + i) % 8);
+    return byte;
+}
+
+static bool noise_on_reading(struct noise *noise, bool return_bit)
+{
+    return noise_below(noise, 32) == 0 || return_bit;
+}
+
+/* ---- one session ---- */
+
+/* One block period: the block goes out byte by byte and is taken as it comes. Returns 0 or the office's refusal. */
+static uint8_t run_period(struct office *office, struct machine *machine, struct noise *noise, size_t k)
+{
+    size_t last = ORDER_LINE_BLOCK_BYTES(k) - 1; /* the byte with the block's last four bits */
+    size_t i;
+    uint8_t refusal = office_begin_block(office);
+
+    if (refusal != 0)
+        return refusal;
+    noise_begin_block(noise, k + 20);
+    for (i = 0; i < last; i++)
+        machine_on_bits(machine, noise_on_byte(noise, i, office->block[i]), 8);
+    refusal = office_end_block(office, noise_on_reading(noise, machine->return_bit != 0));
+    if (refusal != 0)
+        return refusal;
+    machine_on_bits(machine, noise_on_byte(noise, last, office->block[last]), 4);
+    return 0;
+}
+
+static void print_summary(const struct office *office, const unsigned long *events, unsigned long periods, size_t k)
+{
+    printf("%lu bytes, blocks of %lu data bits: %lu periods, %lu synchronising, %lu cancelled, %lu repeats\n",
+           (unsigned long)office->order_bytes, (unsigned long)k, periods, office->synchronising, office->cancelled,
+           office->repeats);
+    printf("events: %lu sync, %lu bad, %lu accepted, %lu previous, %lu ended, %lu alarms\n",
+           events[ORDER_LINE_EVENT_SYNC], events[ORDER_LINE_EVENT_BAD], events[ORDER_LINE_EVENT_ACCEPTED],
+           events[ORDER_LINE_EVENT_PREVIOUS], events[ORDER_LINE_EVENT_ENDED],
+           events[ORDER_LINE_EVENT_SEQUENCE_ALARM] + events[ORDER_LINE_EVENT_LENGTH_ALARM]);
+}
+
+/* Whether the order arrived; says in words if not. */
+static bool arrived_whole(const struct office *office, const struct machine *machine, uint8_t rest)
+{
+    if (rest == ORDER_LINE_GAVE_UP)
+        puts("the office gave up");
+    if (machine->alarm == ORDER_LINE_EVENT_SEQUENCE_ALARM)
+        puts("sequence alarm");
+    if (machine->alarm == ORDER_LINE_EVENT_LENGTH_ALARM)
+        puts("length alarm");
+    if (machine->refusal != 0)
+        printf("the machine refused %u\n", (unsigned)machine->refusal);
+    if (rest != ORDER_LINE_FINISHED || !machine->ended)
+        return false;
+    return machine->length == 8 * office->order_bytes && memcmp(machine->store, office->order, office->order_bytes) == 0;
+}
+
+static int run_session(struct office *office, struct machine *machine, size_t k)
+{
+    struct noise noise = {1968, 0, 0, 0};
+    uint8_t rest = ORDER_LINE_GOING_ON;
+    uint8_t refusal = order_line_open_sender(k, SPEED, LOOP_MS, 8 * office->order_bytes, office->order,
+                                             office->order_bytes, office->state, sizeof office->state);
+
+    if (refusal == 0)
+        refusal = machine_open(machine, k);
+    while (refusal == 0 && rest == ORDER_LINE_GOING_ON) {
+        refusal = run_period(office, machine, &noise, k);
+        rest = order_line_sender_rest(office->state, sizeof office->state);
+    }
+    if (refusal != 0) {
+        fprintf(stderr, "refused %u\n", (unsigned)refusal);
+        return 2;
+    }
+    print_summary(office, machine->events, noise.period, k);
+    if (!arrived_whole(office, machine, rest)) {
+        puts("did not arrive whole");
+        return 1;
+    }
+    puts("arrived whole");
+    return 0;
+}
+
+int main(int argc, char **argv)
+{
+    static uint8_t order[ORDER_BYTES + 1]; /* one byte more, so that a file too long is seen and refused */
+    static struct office office;
+    static struct machine machine;
+    const char *path = argc > 1 ? argv[1] : "README.md";
+    size_t k = argc > 2 ? (size_t)strtoul(argv[2], NULL, 10) : 240;
+    FILE *file = fopen(path, "rb");
+
+    if (file == NULL) {
+        perror(path);
+        return 2;
+    }
+    office.order = order;
+    office.order_bytes = fread(order, 1, sizeof order, file);
+    if (ferror(file)) {
+        perror(path);
+        return 2;
+    }
+    fclose(file);
+    return run_session(&office, &machine, k);
+}
