@@ -179,6 +179,12 @@ impl RunProgram for Reference {
 /// does not have of its own, and the benchmark does not measure, is the second implementation's.
 pub struct TableDriven;
 
+impl LoopTimes for TableDriven {
+    fn loop_time(&self, k: usize, speed: u32, loop_ms: u32) -> u8 {
+        Reference.loop_time(k, speed, loop_ms)
+    }
+}
+
 impl Blocks for TableDriven {
     fn build_block(
         &self,

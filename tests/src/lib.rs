@@ -5,6 +5,8 @@ pub mod calls;
 pub mod comparison;
 pub mod damage;
 pub mod delivery;
+#[cfg(feature = "fuzz")]
+mod fuzz;
 pub mod interface;
 #[cfg(feature = "linked")]
 pub mod link;

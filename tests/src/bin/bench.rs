@@ -4,6 +4,10 @@
 //! clears between calls. The ratios of the medians are what the figures are for; nanoseconds of
 //! one call stand beside them. The library's states stand in lent bytes, and the other two take
 //! a state by value and hand it back.
+//!
+//! `bench count CALL K WHO PASSES` makes the calls of one alone, so often, for callgrind to count:
+//! CALL is build, read, send or a number of bits received a call, WHO 0, 1 or 2 in that order.
+//! It prints the number of calls of a pass.
 
 use order_line_tests::calls::{Blocks, ReceivingEnd, Reference, SendingEnd, TableDriven};
 use order_line_tests::interface::{received, sent, store_receiver, store_sender, Counts};
@@ -16,6 +20,7 @@ use order_line_tests::reference::receiver::{self, Received, Receiver};
 use order_line_tests::reference::sender::{self, Next, Sender, Sent};
 use order_line_tests::rng::Rng;
 use order_line_tests::table;
+use std::env;
 use std::hint::black_box;
 use std::time::{Duration, Instant};
 
@@ -275,6 +280,43 @@ macro_rules! three {
 }
 
 fn main() {
+    let arguments: Vec<String> = env::args().skip(1).collect();
+    let words: Vec<&str> = arguments.iter().map(String::as_str).collect();
+    match words[..] {
+        [] => measure_all(),
+        ["count", call, k, who, passes] => count(call, number(k), number(who), number(passes)),
+        _ => panic!("usage: bench [count CALL K WHO PASSES]"),
+    }
+}
+
+fn number(word: &str) -> usize {
+    word.parse().expect("a number")
+}
+
+fn count(call: &str, k: usize, who: usize, passes: usize) {
+    let mut buffers = Buffers::new(&mut Rng::new(41), k);
+    let most = call.parse().unwrap_or(usize::MAX);
+    let lines = Lines::new(&buffers, most.min(block_bits(k)));
+    let implementations: [Pass; 3] = match call {
+        "build" => three!(build),
+        "read" => three!(read),
+        "send" => three!(send),
+        _ => three!(receive, &lines),
+    };
+    for _ in 0..passes {
+        implementations[who](&mut buffers);
+    }
+    println!(
+        "{}",
+        if most == usize::MAX {
+            BUFFERS
+        } else {
+            lines.calls()
+        }
+    );
+}
+
+fn measure_all() {
     println!(
         "call               k  library ns    table ns   second ns  table/library  second/library"
     );

@@ -192,40 +192,62 @@ impl<B: Blocks> Group<'_, B> {
         payload: &[u8],
         block: Lent,
     ) -> Result<(), Difference> {
-        let length = block.slice().len();
-        let case = || {
-            let data = hex(payload);
-            format!("build_block: k {k}, service bits {service}, {length} bytes, data {data}")
-        };
-        let (mut expected, mut got) = (block.clone(), block);
-        let answer = Reference.build_block(k, service, payload, expected.slice_mut());
-        let tested = self
-            .tested
-            .build_block(k, service, payload, got.slice_mut());
-        same(&case, &answer, &tested)?;
-        same(&case, &expected, &got)?;
-        self.tally.count(match answer {
-            Ok(()) => "built",
-            Err(_) => "build refused",
-        });
-        Ok(())
+        compare_build(self.tested, k, service, payload, block, &mut self.tally)
     }
 
     fn read(&mut self, k: usize, block: &[u8], length: usize) -> Result<(), Difference> {
-        let case = || format!("read_block: k {k}, {length} bytes, block {}", hex(block));
         let payload = Lent::random(&mut self.rng, length);
-        let (mut expected, mut got) = (payload.clone(), payload);
-        let answer = Reference.read_block(k, block, expected.slice_mut());
-        let tested = self.tested.read_block(k, block, got.slice_mut());
-        same(&case, &answer, &tested)?;
-        same(&case, &expected, &got)?;
-        self.tally.count(match answer {
-            Read::Passed(_) => "read passed",
-            Read::Failed => "read failed",
-            Read::Refused(_) => "read refused",
-        });
-        Ok(())
+        compare_read(self.tested, k, block, payload, &mut self.tally)
     }
+}
+
+/// Builds one block into a place.
+pub fn compare_build(
+    tested: &impl Blocks,
+    k: usize,
+    service: u8,
+    payload: &[u8],
+    block: Lent,
+    tally: &mut Tally,
+) -> Result<(), Difference> {
+    let length = block.slice().len();
+    let case = || {
+        let data = hex(payload);
+        format!("build_block: k {k}, service bits {service}, {length} bytes, data {data}")
+    };
+    let (mut expected, mut got) = (block.clone(), block);
+    let answer = Reference.build_block(k, service, payload, expected.slice_mut());
+    let built = tested.build_block(k, service, payload, got.slice_mut());
+    same(&case, &answer, &built)?;
+    same(&case, &expected, &got)?;
+    tally.count(match answer {
+        Ok(()) => "built",
+        Err(_) => "build refused",
+    });
+    Ok(())
+}
+
+/// Reads one block, its data into a place.
+pub fn compare_read(
+    tested: &impl Blocks,
+    k: usize,
+    block: &[u8],
+    payload: Lent,
+    tally: &mut Tally,
+) -> Result<(), Difference> {
+    let length = payload.slice().len();
+    let case = || format!("read_block: k {k}, {length} bytes, block {}", hex(block));
+    let (mut expected, mut got) = (payload.clone(), payload);
+    let answer = Reference.read_block(k, block, expected.slice_mut());
+    let read = tested.read_block(k, block, got.slice_mut());
+    same(&case, &answer, &read)?;
+    same(&case, &expected, &got)?;
+    tally.count(match answer {
+        Read::Passed(_) => "read passed",
+        Read::Failed => "read failed",
+        Read::Refused(_) => "read refused",
+    });
+    Ok(())
 }
 
 #[cfg(test)]

@@ -1,8 +1,11 @@
 //! That the groups find faults: the second implementation with one fault at a time.
 
-use super::{receiver, sender};
-use crate::calls::{ReceivingEnd, Reference, SendingEnd};
+use super::{any_bytes, receiver, sender, Tally};
+use crate::calls::{Blocks, LoopTimes, ReceivingEnd, Reference, SendingEnd};
 use crate::interface::{Counts, RECEIVER_BYTES, SENDER_BYTES};
+use crate::reference::block::Read;
+use crate::reference::refusal::Refusal;
+use crate::rng::Rng;
 
 #[derive(Clone, Copy, Debug, PartialEq, Eq)]
 enum Fault {
@@ -51,6 +54,28 @@ impl Faulty {
                 state[place] = state[place].min(1);
             }
         }
+    }
+}
+
+impl LoopTimes for Faulty {
+    fn loop_time(&self, k: usize, speed: u32, loop_ms: u32) -> u8 {
+        Reference.loop_time(k, speed, loop_ms)
+    }
+}
+
+impl Blocks for Faulty {
+    fn build_block(
+        &self,
+        k: usize,
+        service: u8,
+        payload: &[u8],
+        block: &mut [u8],
+    ) -> Result<(), Refusal> {
+        Reference.build_block(k, service, payload, block)
+    }
+
+    fn read_block(&self, k: usize, block: &[u8], payload: &mut [u8]) -> Read {
+        Reference.read_block(k, block, payload)
     }
 }
 
@@ -162,4 +187,31 @@ fn faults_of_a_receiver_are_found() {
         );
     }
     assert!(receiver::compare(&Faulty(None), 8, 500).is_ok());
+}
+
+/// Random bytes are what the fuzzer begins with.
+#[test]
+fn faults_are_found_by_random_bytes() {
+    use Fault::{BehindState, LastByte, LengthAlways, None};
+    use Fault::{RefusedCount, RefusedState, Rest, ReturnBit, ShortState, WideFlags};
+    let found = |fault, cases| {
+        (0..cases).any(|case| {
+            let bytes = Rng::for_case(14, case).bytes(400);
+            any_bytes::compare(&Faulty(fault), &bytes, &mut Tally::default()).is_err()
+        })
+    };
+    for fault in [
+        RefusedState,
+        BehindState,
+        LastByte,
+        WideFlags,
+        ShortState,
+        Rest,
+        RefusedCount,
+        LengthAlways,
+        ReturnBit,
+    ] {
+        assert!(found(fault, 20_000), "{fault:?}");
+    }
+    assert!(!found(None, 500));
 }

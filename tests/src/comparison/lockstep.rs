@@ -122,7 +122,8 @@ impl<S: SendingEnd, R> Lockstep<'_, S, R> {
         Ok(sent)
     }
 
-    fn sender_rest(&self, state: &Twin) -> Result<(), Difference> {
+    /// Whether the sender rests.
+    pub fn sender_rest(&self, state: &Twin) -> Result<(), Difference> {
         let case = || format!("sender rest: {}", hex(state.slice()));
         let expected = Reference.sender_rest(state.slice());
         same(&case, &expected, &self.sending.sender_rest(state.slice()))
@@ -184,7 +185,8 @@ impl<S, R: ReceivingEnd> Lockstep<'_, S, R> {
         Ok(received)
     }
 
-    fn return_bit(&self, state: &Twin) -> Result<(), Difference> {
+    /// The return bit.
+    pub fn return_bit(&self, state: &Twin) -> Result<(), Difference> {
         let case = || format!("return bit: {}", hex(state.slice()));
         let expected = Reference.return_bit(state.slice());
         same(&case, &expected, &self.receiving.return_bit(state.slice()))

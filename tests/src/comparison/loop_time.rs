@@ -39,7 +39,8 @@ pub fn compare(tested: &impl LoopTimes) -> Result<Tally, Difference> {
     Ok(tally)
 }
 
-fn compare_loop(
+/// One loop-time test.
+pub fn compare_loop(
     tested: &impl LoopTimes,
     k: usize,
     speed: u32,

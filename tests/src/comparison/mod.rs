@@ -3,6 +3,7 @@
 //! Every group stops at the first difference and describes the case; otherwise it counts what it
 //! has seen, so that a reader can tell that no kind of answer went untried.
 
+pub mod any_bytes;
 pub mod block;
 pub mod both_ends;
 pub mod lockstep;

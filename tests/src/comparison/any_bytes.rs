@@ -1,0 +1,410 @@
+//! Cases out of arbitrary bytes, for a fuzzer: the first byte picks the call, the others give its
+//! arguments, and calls on a state go on while bytes are left and the state is no reason to refuse.
+
+use super::both_ends::event_kind;
+use super::lockstep::{Lockstep, Opening, Twin};
+use super::sender::refused_word;
+use super::{block, loop_time, Difference, Lent, Tally};
+use crate::calls::{Blocks, LoopTimes, ReceivingEnd, SendingEnd};
+use crate::damage::invert;
+use crate::interface::{store_receiver, store_sender, RECEIVER_BYTES, SENDER_BYTES};
+use crate::reference::bits::{bits_of, pack, unpack, Bits};
+use crate::reference::block::{assemble, block_bits, block_bytes, synchronising_block};
+use crate::reference::block::{payload_bytes, CHECK_BITS, END, LENGTHS, SEQUENCE};
+use crate::reference::loop_time::{longest_loop, SPEEDS};
+use crate::reference::order::{end_payload, items, letter, LONGEST, MOST_ITEMS};
+use crate::reference::receiver::{Alarm, Received, Receiver, BAD_ROW, HOLD_BYTES};
+use crate::reference::refusal::{REST, SPOILED};
+use crate::reference::sender::{Next, Sender, Sent, GIVE_UP};
+use crate::rng::Rng;
+
+/// The most calls of one case.
+const CALLS: usize = 8;
+
+/// Compares one case.
+pub fn compare<T>(tested: &T, bytes: &[u8], tally: &mut Tally) -> Result<(), Difference>
+where
+    T: LoopTimes + Blocks + SendingEnd + ReceivingEnd,
+{
+    let mut input = Input { bytes };
+    let ends = Lockstep {
+        sending: tested,
+        receiving: tested,
+    };
+    match input.byte() % 8 {
+        0 => {
+            let (k, speed, loop_ms) = input.line();
+            loop_time::compare_loop(tested, k, speed, loop_ms, tally)
+        }
+        1 => {
+            let (k, service) = (input.length(), input.byte());
+            let payload = input.lent(payload_bytes(wide(k)));
+            let place = Lent::around(&mut Rng::new(1), &input.lent(block_bytes(wide(k))));
+            block::compare_build(tested, k, service, &payload, place, tally)
+        }
+        2 => {
+            let k = input.length();
+            let mut bytes = pack(&input.piece(k, 0));
+            bytes.resize(input.near(block_bytes(wide(k))), 0x55);
+            let place = Lent::around(&mut Rng::new(1), &input.lent(payload_bytes(wide(k))));
+            block::compare_read(tested, k, &bytes, place, tally)
+        }
+        3 | 4 => send(&ends, &mut input, tally),
+        _ => receive(&ends, &mut input, tally),
+    }
+}
+
+/// A sender, opened or out of the bytes, and calls on it.
+fn send<S: SendingEnd, R>(
+    ends: &Lockstep<S, R>,
+    input: &mut Input,
+    tally: &mut Tally,
+) -> Result<(), Difference> {
+    let (bytes, length) = input.sender();
+    let order = input.pattern(length.min(LONGEST + 8).div_ceil(8));
+    let mut state = Twin::new(Lent::around(&mut Rng::new(2), &bytes));
+    if input.byte() % 2 == 0 {
+        let (k, speed, loop_ms) = input.line();
+        let opening = Opening {
+            k,
+            speed,
+            loop_ms,
+            length,
+        };
+        let lent = &order[..input.near(order.len()).min(order.len())];
+        tally.count(match ends.open_sender(opening, lent, &mut state)? {
+            0 => "sender opened",
+            _ => "sender not opened",
+        });
+    }
+    ends.sender_rest(&state)?;
+    for _ in 0..CALLS {
+        let k = wide(number(state.slice(), 0));
+        let reading = input.byte() % 2 == 1;
+        let lent = &order[..input.near(order.len()).min(order.len())];
+        let mut place = Twin::new(Lent::filled(input.byte(), input.near(block_bytes(k))));
+        let sent = ends.send(&mut state, lent, reading, &mut place)?;
+        tally.count(match sent {
+            Sent::Synchronising => "sent synchronising",
+            Sent::Item { end: true, .. } => "sent end",
+            Sent::Item {
+                cancelled: true, ..
+            } => "sent cancelled",
+            Sent::Item { .. } => "sent item",
+            Sent::Refused(number) => refused_word(number),
+        });
+        if input.bytes.is_empty() || matches!(sent, Sent::Refused(SPOILED | REST)) {
+            break;
+        }
+    }
+    Ok(())
+}
+
+/// A receiver, opened or out of the bytes, and calls on it with the line cut anywhere.
+fn receive<S, R: ReceivingEnd>(
+    ends: &Lockstep<S, R>,
+    input: &mut Input,
+    tally: &mut Tally,
+) -> Result<(), Difference> {
+    let bytes = input.receiver();
+    let mut state = Twin::new(Lent::around(&mut Rng::new(3), &bytes));
+    if input.byte() % 4 == 0 {
+        let k = input.length();
+        tally.count(match ends.open_receiver(k, &mut state)? {
+            0 => "receiver opened",
+            _ => "receiver not opened",
+        });
+    }
+    ends.return_bit(&state)?;
+    let mut coming = Bits::new();
+    for _ in 0..CALLS {
+        let k = wide(number(state.slice(), 0));
+        let taken = number(state.slice(), 8).min(MOST_ITEMS + 1);
+        let whole = payload_bytes((taken + 1) * k);
+        if coming.is_empty() {
+            coming = input.piece(k, taken);
+        }
+        let bits = match input.byte() {
+            byte @ 0..=63 => usize::from(byte),
+            64..=127 => input.below(coming.len() + 2),
+            255 => input.any(),
+            _ => coming.len(),
+        };
+        let mut line = pack(&coming);
+        line.resize(input.near(line.len()), 0xA5);
+        let lent = input.near(whole);
+        let mut store = Twin::new(Lent::filled(input.byte(), lent.max(whole)));
+        let received = ends.receive(&mut state, &line, bits, &mut store, lent)?;
+        tally.count(match received {
+            Received::Heard { event, used } => {
+                coming.drain(..used.min(coming.len()));
+                event_kind(event)
+            }
+            Received::Refused(number) => refused_word(number),
+        });
+        if input.bytes.is_empty() || received == Received::Refused(SPOILED) {
+            break;
+        }
+    }
+    Ok(())
+}
+
+/// A number of four bytes of a state, or 0 if it is too short.
+fn number(state: &[u8], at: usize) -> usize {
+    let four = state.get(at..at + 4).and_then(|four| four.try_into().ok());
+    four.map_or(0, u32::from_le_bytes) as usize
+}
+
+/// A number of data bits for which a case can lend bytes.
+fn wide(k: usize) -> usize {
+    k.min(LENGTHS[3])
+}
+
+/// The bytes of a case; behind the last come zeros.
+struct Input<'a> {
+    bytes: &'a [u8],
+}
+
+impl Input<'_> {
+    fn byte(&mut self) -> u8 {
+        let Some((&first, rest)) = self.bytes.split_first() else {
+            return 0;
+        };
+        self.bytes = rest;
+        first
+    }
+
+    fn flag(&mut self) -> bool {
+        self.byte() % 2 == 1
+    }
+
+    fn word(&mut self) -> u32 {
+        u32::from_le_bytes([0; 4].map(|_: u8| self.byte()))
+    }
+
+    /// Any number.
+    fn any(&mut self) -> usize {
+        (self.word() as usize) << 32 | self.word() as usize
+    }
+
+    fn below(&mut self, bound: usize) -> usize {
+        self.word() as usize % bound
+    }
+
+    /// Some bytes of the case, said over and over.
+    fn pattern(&mut self, count: usize) -> Vec<u8> {
+        let most = usize::from(self.byte()).min(self.bytes.len());
+        let (pattern, rest) = self.bytes.split_at(most);
+        self.bytes = rest;
+        pattern
+            .iter()
+            .chain(&[0x6C])
+            .cycle()
+            .take(count)
+            .copied()
+            .collect()
+    }
+
+    /// Mostly this number, or one near it, or 0.
+    fn near(&mut self, number: usize) -> usize {
+        match self.byte() {
+            byte @ 0xE0..=0xEF => number + usize::from(byte % 16),
+            0xFF => 0,
+            byte @ 0xF0.. => number.saturating_sub(usize::from(byte % 16) + 1),
+            _ => number,
+        }
+    }
+
+    /// Bytes to lend where this many are wanted.
+    fn lent(&mut self, wanted: usize) -> Vec<u8> {
+        let count = self.near(wanted);
+        self.pattern(count)
+    }
+
+    /// Mostly one of the four, the short ones more often since they take less time, or any number.
+    fn length(&mut self) -> usize {
+        match self.byte() {
+            byte @ 0..=239 => LENGTHS[[0, 0, 0, 0, 1, 1, 2, 3][usize::from(byte) % 8]],
+            byte @ 240..=250 => LENGTHS[usize::from(byte) % 4] - 5 + usize::from(byte - 240),
+            _ => self.any(),
+        }
+    }
+
+    /// k, a speed and a loop, mostly near the longest.
+    fn line(&mut self) -> (usize, u32, u32) {
+        let k = self.length();
+        let speed = match self.byte() {
+            byte @ 0..=239 => SPEEDS[usize::from(byte) % 6],
+            _ => self.word() as usize,
+        };
+        let loop_ms = match self.byte() {
+            byte @ 0..=127 => usize::from(byte),
+            byte @ 128..=240 if LENGTHS.contains(&k) && speed > 0 => {
+                (longest_loop(k, speed).unwrap_or(0) + usize::from(byte)).saturating_sub(184)
+            }
+            _ => self.word() as usize,
+        };
+        (k, speed as u32, loop_ms as u32)
+    }
+
+    /// A sender's bytes, and the order's length.
+    fn sender(&mut self) -> (Vec<u8>, usize) {
+        let kind = self.byte();
+        let k = self.length();
+        let length = match self.byte() {
+            0..=199 => 1 + self.below(5 * LENGTHS[3]),
+            200..=230 => self.below(LONGEST + 1),
+            _ => self.word() as usize,
+        };
+        let sender = Sender {
+            k,
+            length,
+            newer: self.below(items(k.max(1), length) + 3),
+            run: usize::from(self.byte()) % (GIVE_UP + 2),
+            opening: self.flag(),
+            next: [Next::Synchronising, Next::Older, Next::Newer][self.below(3)],
+            finished: self.byte() % 8 == 7,
+        };
+        let mut bytes = vec![0; SENDER_BYTES];
+        store_sender(&sender, &mut bytes);
+        (self.spoil(kind, bytes), length)
+    }
+
+    /// A receiver's bytes.
+    fn receiver(&mut self) -> Vec<u8> {
+        let kind = self.byte();
+        let k = self.length();
+        let search = self.byte() % 4 == 0;
+        let most = if search {
+            CHECK_BITS
+        } else {
+            block_bits(wide(k))
+        };
+        let mut receiver = Receiver {
+            k,
+            search,
+            array: [0; HOLD_BYTES],
+            held: match self.byte() {
+                0..=127 => 0,
+                _ => self.below(most + 1),
+            },
+            row: usize::from(self.byte()) % (BAD_ROW + 1),
+            return_bit: self.flag(),
+            taken: match self.byte() {
+                byte @ 0..=239 => usize::from(byte) % 9,
+                _ => self.below(MOST_ITEMS + 2),
+            },
+            end_taken: self.byte() % 4 == 3,
+            alarm: match self.byte() {
+                254 => Some(Alarm::Sequence),
+                255 => Some(Alarm::Length),
+                _ => None,
+            },
+        };
+        receiver.array.copy_from_slice(&self.pattern(HOLD_BYTES));
+        let mut bytes = vec![0; RECEIVER_BYTES];
+        store_receiver(&receiver, &mut bytes);
+        self.spoil(kind, bytes)
+    }
+
+    /// A state's bytes as they are, with some changed, with another length, or any bytes.
+    fn spoil(&mut self, kind: u8, mut bytes: Vec<u8>) -> Vec<u8> {
+        match kind {
+            0..=179 => {}
+            180..=219 => {
+                let place = self.below(16);
+                bytes[place] = self.byte();
+            }
+            220..=239 => {
+                let length = self.near(bytes.len());
+                bytes.resize(length, 0x3C);
+            }
+            _ => bytes = self.lent(bytes.len()),
+        }
+        bytes
+    }
+
+    /// Bits of the line: a block that some rule is about, the sequence, or any bits; damaged or not.
+    fn piece(&mut self, k: usize, taken: usize) -> Bits {
+        let k = if LENGTHS.contains(&k) { k } else { LENGTHS[0] };
+        let mut bits = match self.byte() {
+            0..=39 => synchronising_block(k),
+            40..=139 => {
+                let service = letter(taken + 2 + usize::from(self.byte()));
+                assemble(service, &self.payload(k))
+            }
+            140..=159 => assemble(self.byte() % 16, &self.payload(k)),
+            160..=199 => {
+                let length = (taken * k + 8).saturating_sub(usize::from(self.byte()));
+                assemble(END, &end_payload(k, length))
+            }
+            200..=209 => assemble(END, &end_payload(k, self.word() as usize)),
+            210..=229 => {
+                let before = usize::from(self.byte());
+                let mut bits = self.payload(before);
+                bits.extend(bits_of(SEQUENCE, CHECK_BITS));
+                bits
+            }
+            _ => self.payload(block_bits(k)),
+        };
+        if self.byte() > 191 && !bits.is_empty() {
+            let mut damage = vec![false; bits.len()];
+            let first = self.below(bits.len());
+            let pattern = bits_of(self.word() as usize, CHECK_BITS + 1);
+            for (place, inverted) in damage[first..].iter_mut().zip(pattern) {
+                *place = inverted;
+            }
+            invert(&mut bits, &damage);
+        }
+        bits
+    }
+
+    fn payload(&mut self, count: usize) -> Bits {
+        unpack(&self.pattern(count.div_ceil(8)), 0, count)
+    }
+}
+
+#[cfg(test)]
+mod tests {
+    use super::*;
+    use crate::calls::TableDriven;
+
+    /// Random bytes bring every kind of answer.
+    #[test]
+    fn the_table_driven_sibling_agrees() {
+        let mut tally = Tally::default();
+        for case in 0..20_000 {
+            let mut rng = Rng::for_case(14, case);
+            let count = rng.below(600);
+            let compared = compare(&TableDriven, &rng.bytes(count), &mut tally);
+            compared.unwrap_or_else(|difference| panic!("{difference}"));
+        }
+        for kind in [
+            "allowed",
+            "built",
+            "build refused",
+            "read passed",
+            "read failed",
+            "read refused",
+            "sender opened",
+            "sent synchronising",
+            "sent item",
+            "sent end",
+            "sent cancelled",
+            "receiver opened",
+            "none",
+            "sync",
+            "bad",
+            "accepted",
+            "previous",
+            "ended",
+            "sequence alarm",
+            "length alarm",
+            "refused 6",
+            "refused 7",
+            "refused 8",
+        ] {
+            assert!(tally.of(kind) > 20, "{kind}: {tally}");
+        }
+    }
+}

@@ -1,0 +1,123 @@
+/*
+ * The deepest stack of each call: each runs on a stack of its own that was painted, and the bytes that lost their paint
+ * are counted, those of an empty function taken off. So the return address and arguments on the stack are counted.
+ */
+#include "../include/order_line.h"
+
+#include <stdio.h>
+#include <string.h>
+#include <ucontext.h>
+
+#define ITEMS 3
+
+static size_t k;
+static uint8_t order[ITEMS * 480], store[ITEMS * 480], block[483], payload[480], line[483];
+static uint8_t sender[ORDER_LINE_SENDER_BYTES], receiver[ORDER_LINE_RECEIVER_BYTES];
+static size_t bits, used, length;
+static uint32_t answer;
+
+static void nothing(void) {}
+static void loop_time(void) { answer = order_line_loop_time(k, 200, 0); }
+static void build(void) { answer = order_line_build_block(k, 3, order, sizeof order, block, sizeof block); }
+static void read(void) { answer = order_line_read_block(k, block, sizeof block, payload, sizeof payload); }
+static void open_sender(void)
+{
+    answer = order_line_open_sender(k, 200, 0, ITEMS * k, order, sizeof order, sender, sizeof sender);
+}
+static void send(void)
+{
+    answer = order_line_send(sender, sizeof sender, order, sizeof order, false, block, sizeof block);
+}
+static void rest(void) { answer = order_line_sender_rest(sender, sizeof sender); }
+static void open_receiver(void) { answer = order_line_open_receiver(k, receiver, sizeof receiver); }
+static void receive(void)
+{
+    answer = order_line_receive(receiver, sizeof receiver, line, sizeof line, bits, store, sizeof store, &used, &length);
+}
+static void return_bit(void) { answer = order_line_return_bit(receiver, sizeof receiver); }
+
+static uint8_t stack[1 << 16];
+
+/* Two paints, since a call may write one of them. */
+static size_t painted(void (*call)(void), uint8_t paint)
+{
+    static ucontext_t here, there;
+    memset(stack, paint, sizeof stack);
+    getcontext(&there);
+    there.uc_stack.ss_sp = stack;
+    there.uc_stack.ss_size = sizeof stack;
+    there.uc_link = &here;
+    makecontext(&there, call, 0);
+    swapcontext(&here, &there);
+    size_t clean = 0;
+    while (stack[clean] == paint)
+        clean++;
+    return sizeof stack - clean;
+}
+
+/* The deepest of the two, with the state as it was before each. */
+static size_t depth(void (*call)(void))
+{
+    uint8_t before[sizeof sender + sizeof receiver], *rest_of = before + sizeof sender;
+    memcpy(before, sender, sizeof sender);
+    memcpy(rest_of, receiver, sizeof receiver);
+    size_t first = painted(call, 0xA5);
+    memcpy(sender, before, sizeof sender);
+    memcpy(receiver, rest_of, sizeof receiver);
+    size_t second = painted(call, 0x5A), empty = painted(nothing, 0xA5);
+    return (first > second ? first : second) - empty;
+}
+
+static void deepen(size_t *deepest, void (*call)(void))
+{
+    size_t now = depth(call);
+    if (now > *deepest)
+        *deepest = now;
+}
+
+/* A whole order from end to end in calls of at most so many bits; the deepest of sending and receiving. */
+static bool session(size_t most, size_t *sending, size_t *receiving)
+{
+    open_sender();
+    open_receiver();
+    length = 0;
+    for (int period = 0; period < ITEMS + 4 && order_line_sender_rest(sender, sizeof sender) == 0; period++) {
+        deepen(sending, send);
+        size_t n = k + 20;
+        for (size_t at = 0; at < n; at += bits) {
+            bits = n - at < most ? n - at : most;
+            memset(line, 0, sizeof line);
+            for (size_t i = 0; i < bits; i++)
+                line[i / 8] |= (uint8_t)((block[(at + i) / 8] >> (7 - (at + i) % 8) & 1) << (7 - i % 8));
+            deepen(receiving, receive);
+            if (answer < ORDER_LINE_EVENT_NONE || used != bits)
+                return false;
+        }
+    }
+    return length == ITEMS * k && memcmp(store, order, ITEMS * k / 8) == 0;
+}
+
+int main(void)
+{
+    static const size_t lengths[] = {240, 480, 960, 3840}, pieces[] = {3860, 64, 1};
+    size_t sending = 0, receiving = 0, others[7] = {0};
+    static void (*const calls[7])(void) = {loop_time, build, read, open_sender, rest, open_receiver, return_bit};
+    static const char *const names[7] = {"loop_time",   "build_block",   "read_block", "open_sender",
+                                         "sender_rest", "open_receiver", "return_bit"};
+    for (size_t i = 0; i < sizeof order; i++)
+        order[i] = (uint8_t)(i * 89 + 7);
+    for (size_t i = 0; i < 4; i++) {
+        k = lengths[i];
+        for (size_t j = 0; j < 3; j++)
+            if (!session(pieces[j], &sending, &receiving)) {
+                printf("the order did not arrive: k %zu, %zu bits a call\n", k, pieces[j]);
+                return 1;
+            }
+        for (size_t j = 0; j < 7; j++)
+            deepen(&others[j], calls[j]);
+    }
+    for (size_t j = 0; j < 7; j++)
+        printf("%-14s %5zu\n", names[j], others[j]);
+    printf("%-14s %5zu\n%-14s %5zu\n", "send", sending, "receive", receiving);
+    return 0;
+}
