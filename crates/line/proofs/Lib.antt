@@ -11,5 +11,6 @@ pub mod Handing
 pub mod Stepping
 pub mod Searching
 pub mod Calling
+pub mod InPlace
 pub mod Delivery
 pub mod Examples

@@ -9,7 +9,7 @@ use lib.Seq.{take-at, take-take, take-append-le, length-take-le}
 use Rattle.crc.specs.Bits.{Bits, zeros, bitsOf, bytesOf}
 use Rattle.crc.proofs.Bytes.{length-bitsOf, bitsOf-bytesOf}
 use Rattle.block.specs.Lengths.{blockLength}
-use Rattle.line.specs.Receiving.{arrayBytes, unfinished, overwrite, holding, missing, finishedRow, Reading, inStep}
+use Rattle.line.specs.Receiving.{arrayBytes, unfinished, heldBits, overwrite, holding, missing, Reading, inStep}
 use Rattle.line.specs.Code.ReceiveSteps.{stepped, judged, Handed}
 use Rattle.line.specs.declared.receiver.Receiver.{Receiver}
 use Rattle.line.specs.declared.receiver.Event.the-variants as E
@@ -77,20 +77,34 @@ module _ (s : Receiver) (store : List ℕ) (new : Bits) where
       (subst (λ (r : Step). Handed s store (record { rule = unfinished; row = []; used = length new; state = holding s new }) r store)
       (sym (ap₂ held-with e l)) (handed-plain s store (record { rule = unfinished; row = []; used = length new; state = holding s new }) refl))
 
-  -- a block is complete
-  pub in-step-done : missing s ≤ length new → inStep s new ≡ judged s (finishedRow s new) (missing s)
-  unfolding inStep
-  in-step-done h = rw (le-ltb (length new) (missing s) h)
+-- a block is complete: its row is what was held and the missing bits of the line
+module _ (s : Receiver) (line : List ℕ) where
+  abbrev finished : ℕ → Bits
+  finished rest = heldBits s ++ take rest (bitsOf line)
 
-module _ (s : Receiver) (line : List ℕ) (count : ℕ) (h : count ≤ 8 * length line) (l : missing s ≤ count)
-    (k : s .held + missing s ≡ blockLength (s .setup .k)) (n : length (s .bits) ≡ arrayBytes) (f : blockLength (s .setup .k) ≤ 8 * arrayBytes) where
-  pub finished-row : take (blockLength (s .setup .k)) (bitsOf (bytesOf arrayBytes (overwrite (s .held) (take (missing s) (bitsOf line)) (bitsOf (s .bits)))))
-      ≡ finishedRow s (take count (bitsOf line))
-  finished-row =
-      let new : Bits = take (missing s) (bitsOf line) in
-      let w : length new ≡ missing s = length-take-le (missing s) (bitsOf line) (omega (arith, length-bitsOf line)) in
-      let e : blockLength (s .setup .k) ≡ s .held + length new = sym k ∙ ap (λ (x : ℕ). s .held + x) (sym w) in
-      let b : s .held + length new ≤ 8 * length (s .bits) = omega arith in
-      ap (λ (x : ℕ). take x (bitsOf (bytesOf arrayBytes (overwrite (s .held) new (bitsOf (s .bits)))))) e
-      ∙ written-row (s .bits) new (s .held) b arrayBytes n
-      ∙ ap (λ (x : Bits). take (s .held) (bitsOf (s .bits)) ++ x) (sym (take-take (missing s) count (bitsOf line) l))
+  pub in-step-done : (count : ℕ) → count ≤ 8 * length line → missing s ≤ count
+      → judged s (finished (missing s)) (missing s) ≡ inStep s (take count (bitsOf line))
+  unfolding inStep
+  in-step-done count h l =
+      let new : Bits = take count (bitsOf line) in
+      let n : length new ≡ count = length-take-le count (bitsOf line) (omega (arith, length-bitsOf line)) in
+      let e : take (missing s) new ≡ take (missing s) (bitsOf line) = take-take (missing s) count (bitsOf line) l in
+      sym (rw (le-ltb (length new) (missing s) (omega arith), e))
+
+  module _ (rest : ℕ) (k : s .held + rest ≡ blockLength (s .setup .k)) where
+    -- it stands whole in the line
+    pub finished-in-line : s .held ≡ 0 → take (blockLength (s .setup .k)) (bitsOf line) ≡ finished rest
+    finished-in-line z =
+        let e : blockLength (s .setup .k) ≡ rest = omega arith in
+        rw (e, z)
+
+    -- or in the array, once the missing bits are written behind those held
+    pub finished-in-array : rest ≤ 8 * length line → length (s .bits) ≡ arrayBytes → blockLength (s .setup .k) ≤ 8 * arrayBytes
+        → take (blockLength (s .setup .k)) (bitsOf (bytesOf arrayBytes (overwrite (s .held) (take rest (bitsOf line)) (bitsOf (s .bits))))) ≡ finished rest
+    finished-in-array h n f =
+        let new : Bits = take rest (bitsOf line) in
+        let w : length new ≡ rest = length-take-le rest (bitsOf line) (omega (arith, length-bitsOf line)) in
+        let e : blockLength (s .setup .k) ≡ s .held + length new = sym k ∙ ap (λ (x : ℕ). s .held + x) (sym w) in
+        let b : s .held + length new ≤ 8 * length (s .bits) = omega arith in
+        ap (λ (x : ℕ). take x (bitsOf (bytesOf arrayBytes (overwrite (s .held) new (bitsOf (s .bits)))))) e
+        ∙ written-row (s .bits) new (s .held) b arrayBytes n

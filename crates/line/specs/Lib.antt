@@ -4,6 +4,7 @@ pub mod Order
 pub mod Sending
 pub mod SendCalls
 pub mod Receiving
+pub mod ReceivingInPlace
 pub mod Course
 pub mod Delivery
 pub mod Examples

@@ -1,4 +1,5 @@
 // The order line's two ends: loop times, the order as items, the sending end and the receiving end.
+pub mod head;
 mod hold;
 pub mod loop_time;
 mod order;

@@ -127,11 +127,13 @@ receiverIn s =
 unfoldable pub receiverOf : List ℕ → Answer Receiver
 receiverOf s = refuseIf (not (holdsReceiver s)) A.spoiled (done (receiverIn s))
 
-unfoldable pub receiverBytes : Receiver → List ℕ
-receiverBytes s =
+abbrev pub receiverHead : Receiver → List ℕ
+receiverHead s =
     headBytes (s .setup .k) (s .held) (s .taken) (s .row % 256) (flagByte (s .back)) (flagByte (s .ended))
     (phaseByte (s .phase))
-    ++ s .bits
+
+unfoldable pub receiverBytes : Receiver → List ℕ
+receiverBytes s = receiverHead s ++ s .bits
 
 pub record ReceiverFits (s : Receiver) : Type 0 where
   pub k : s .setup .k < 2 ^ 32

@@ -1,20 +1,21 @@
 // A receiver in lent bytes.
 ghost use mathlib.Core.Path.{_≡_};
-ghost use mathlib.Core.List.{_++_};
+ghost use mathlib.Core.List.{[], _++_};
 ghost use Prim.Native.Nat.{_≤_};
 ghost use lib.ListN.{length, take, drop};
 ghost use Rattle.line.specs.Receiving.{arrayBytes};
-ghost use Rattle.line_c.specs.State.{headSize, receiverSize, holdsReceiver, receiverIn, receiverBytes, phaseOf, phaseByte};
+ghost use Rattle.line.specs.ReceivingInPlace.{whole};
+ghost use Rattle.line_c.specs.State.{headSize, receiverSize, holdsReceiver, receiverIn, receiverHead, receiverBytes, phaseOf, phaseByte};
 use crate::layout::HEAD_SIZE;
 use crate::layout::holds_state;
 use crate::layout::load_word;
 use crate::layout::store_head;
 use crate::layout::wide;
+use line::head::Head;
+use line::receiver::ARRAY_SIZE;
 use line::receiver::Phase;
 use line::receiver::Receiver;
 use line::receiver::Setup;
-
-const ARRAY_SIZE: usize = 483;
 
 pub const RECEIVER_SIZE: usize = HEAD_SIZE + ARRAY_SIZE;
 
@@ -48,19 +49,6 @@ pub fn holds_receiver(s: &[u8]) -> bool
 }
 
 // The array, behind the head.
-fn load_bits(s: &[u8]) -> [u8; 483]
-    requires { ⌜ receiverSize ≤ length (now s) ⌝ }
-    ensures { λ r. ⌜ r ≡ take arrayBytes (drop headSize (now (s .entry))) ⌝ }
-{
-    let mut bits = [0u8; ARRAY_SIZE];
-    let mut i = 0;
-    while i < ARRAY_SIZE {
-        bits[i] = s[HEAD_SIZE + i];
-        i += 1;
-    }
-    bits
-}
-
 fn store_bits(bits: [u8; 483], s: &mut [u8])
     requires { ⌜ receiverSize ≤ length (now s) ⌝ }
     ensures { λ _. ⌜ now (s .exit) ≡ take headSize (now (s .entry)) ++ bits ++ drop receiverSize (now (s .entry)) ⌝ }
@@ -72,13 +60,12 @@ fn store_bits(bits: [u8; 483], s: &mut [u8])
     }
 }
 
-pub fn load_receiver(s: &[u8]) -> Receiver
+pub fn load_head(s: &[u8]) -> Head
     requires { ⌜ receiverSize ≤ length (now s) ⌝ }
-    ensures { λ r. ⌜ r ≡ receiverIn (now (s .entry)) ⌝ }
+    ensures { λ r. ⌜ whole r (take arrayBytes (drop headSize (now (s .entry)))) ≡ receiverIn (now (s .entry)) ⌝ }
 {
-    Receiver {
+    Head {
         setup: Setup { k: load_word(s, 0) },
-        bits: load_bits(s),
         held: load_word(s, 4),
         row: wide(s[12]),
         back: s[13] == 1,
@@ -88,22 +75,30 @@ pub fn load_receiver(s: &[u8]) -> Receiver
     }
 }
 
+// The array stays as it is.
+pub fn put_head(head: Head, s: &mut [u8])
+    requires { ⌜ headSize ≤ length (now s) ⌝ }
+    ensures { λ _. ⌜ now (s .exit) ≡ receiverHead (whole head []) ++ drop headSize (now (s .entry)) ⌝ }
+{
+    let setup = head.setup;
+    let phase = head.phase;
+    store_head(
+        setup.k,
+        head.held,
+        head.taken,
+        (head.row % 256) as u8,
+        head.back as u8,
+        head.ended as u8,
+        phase_byte(phase),
+        s,
+    );
+}
+
 pub fn store_receiver(receiver: Receiver, s: &mut [u8])
     requires { ⌜ receiverSize ≤ length (now s) ⌝ }
     ensures { λ _. ⌜ now (s .exit) ≡ receiverBytes receiver ++ drop receiverSize (now (s .entry)) ⌝ }
 {
-    let setup = receiver.setup;
-    let phase = receiver.phase;
     let bits = receiver.bits;
-    store_head(
-        setup.k,
-        receiver.held,
-        receiver.taken,
-        (receiver.row % 256) as u8,
-        receiver.back as u8,
-        receiver.ended as u8,
-        phase_byte(phase),
-        s,
-    );
+    put_head(receiver.head(), s);
     store_bits(bits, s);
 }

@@ -1,9 +1,11 @@
 // The receiving end's calls, the receiver in lent bytes.
 ghost use mathlib.Core.Path.{_≡_};
 ghost use Rattle.line_c.specs.ReceiverCalls.{OpenReceiverCall, eventNumber, eventLength, ReceiveCall, ReturnBitCall};
+use crate::layout::HEAD_SIZE;
 use crate::receiver_bytes::RECEIVER_SIZE;
 use crate::receiver_bytes::holds_receiver;
-use crate::receiver_bytes::load_receiver;
+use crate::receiver_bytes::load_head;
+use crate::receiver_bytes::put_head;
 use crate::receiver_bytes::store_receiver;
 use line::receiver::Event;
 use line::receiver::Opening;
@@ -79,20 +81,20 @@ pub extern "C" fn order_line_receive(
     if !holds_receiver(state) {
         return block::SPOILED;
     }
-    let step = load_receiver(state).receive(line, bits, store);
+    let head = load_head(state);
+    let step = head.receive(&mut state[HEAD_SIZE..RECEIVER_SIZE], line, bits, store);
     let answer = step.answer;
-    let next = step.state;
+    let next = step.head;
     match answer {
         Received::Refused(number) => number,
         Received::Used { event, bits } => {
-            store_receiver(next, state);
+            put_head(next, state);
             *used = bits;
             report(event, length)
         }
     }
 }
 
-// A receiving call of 0 bits is refused as spoiled or changes nothing.
 #[no_mangle]
 pub extern "C" fn order_line_return_bit(state: &[u8]) -> u8
     ensures { λ r. ⌜ ReturnBitCall (now (state .entry)) r ⌝ }
@@ -100,12 +102,9 @@ pub extern "C" fn order_line_return_bit(state: &[u8]) -> u8
     if !holds_receiver(state) {
         return block::SPOILED;
     }
-    let receiver = load_receiver(state);
-    let mut none = [0u8; 1];
-    let step = receiver.receive(&state[..0], 0, &mut none);
-    let answer = step.answer;
-    if let Received::Refused(number) = answer {
-        return number;
+    let head = load_head(state);
+    if !head.in_range() {
+        return block::SPOILED;
     }
-    receiver.back as u8
+    head.back as u8
 }

@@ -11,10 +11,13 @@ use Rattle.line.specs.declared.receiver.Receiver.{Receiver}
 use Rattle.line.specs.declared.receiver.Event.{Event}
 use Rattle.line.specs.declared.receiver.Step.{Step}
 use Rattle.line.specs.declared.receiver.Received.the-variants as R
+use Rattle.line.specs.declared.head.Head.{Head}
+use Rattle.line.specs.declared.head.HeadStep.{HeadStep}
 use Rattle.line.specs.declared.window.Window.{Window}
 use Rattle.line.specs.declared.rules.Rule as D
 use Rattle.line.specs.declared.rules.Rule.the-variants as C
 use Rattle.line.specs.Receiving.{Rule, accepts, previous, out-of-sequence, ends, wrong-length, ends-again, anything-else, meaning, judge, stops, storeAt, Reading, judgeStore, receivedAnswer, reported, receiveState, receiveStore}
+use Rattle.line.specs.ReceivingInPlace.{whole}
 
 -- the rule that each case of the code's enum stands for
 abbrev pub ruleOf : D.Rule → Rule
@@ -29,6 +32,13 @@ ruleOf C.AnythingElse = anything-else
 -- the bits that a window holds
 abbrev pub windowBits : Window → Bits
 windowBits w = binary (w .held) (w .number)
+
+-- what a call hands back, its head and the array as one state
+abbrev pub stepWith : HeadStep → List ℕ → Step
+stepWith r array = record { state = whole (r .head) array; answer = r .answer }
+
+abbrev pub turnedAway : Head → ℕ → HeadStep
+turnedAway h n = record { head = h; answer = R.Refused n }
 
 -- a state, an event and the bits used, as a call hands them back
 abbrev pub stepped : Receiver → Event → ℕ → Step

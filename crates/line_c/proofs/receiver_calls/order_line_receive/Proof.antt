@@ -1,19 +1,24 @@
--- `order_line_receive`: the receiver that the bytes hold is handed to `receive`, and its state and answer back.
+-- `order_line_receive`: the receiver that the bytes hold, its array in place, is handed to `receive`, and its head back.
 -- Assumes nothing.
 use mathlib.Core.Path.{_≡_, refl, sym, ap, _∙_}
 use mathlib.Core.Bool.{true, false}
-use mathlib.Core.List.{List}
+use mathlib.Core.List.{List, [], _++_, append-assoc}
 use Prim.Native.Nat.{ℕ, _≤_}
 use native.Mathlib.Omega.{arith}
 use borrow.Author.Tests.{not-true, not-false}
-use lib.ListN.{length}
+use lib.ListN.{length, take, drop, length-append, length-drop, take-append-drop}
+use lib.Seq.{length-take-le, drop-at, drop-drop}
 use Rattle.block.specs.Answer as A
 use Rattle.block.specs.Answer.{Answer, refused, done}
-use Rattle.line.specs.Receiving.{Reading, Report, reported, receive, receiveState, receivedAnswer, Receive}
+use Rattle.line.specs.Receiving.{arrayBytes, Reading, Report, reported, receive, receiveState, receivedAnswer, Receive}
+use Rattle.line.specs.ReceivingInPlace.{whole, ReceiveInPlace}
+use Rattle.line.specs.Code.ReceiveSteps.{stepWith}
+use Rattle.line.specs.declared.head.Head.{Head}
+use Rattle.line.specs.declared.head.HeadStep.{HeadStep}
 use Rattle.line.specs.declared.receiver.Receiver.{Receiver}
 use Rattle.line.specs.declared.receiver.Event.{Event}
-use Rattle.line.specs.declared.receiver.Step.{Step}
-use Rattle.line_c.specs.State.{receiverSize, holdsReceiver, receiverIn, receiverOf}
+use Rattle.line.proofs.InPlace.{by-value}
+use Rattle.line_c.specs.State.{headSize, receiverSize, holdsReceiver, receiverIn, receiverOf, receiverHead, receiverBytes}
 use Rattle.line_c.specs.ReceiverCalls.{receiverOver, eventNumber, eventLength, reportNumber, reportUsed, reportLength, receivedState, ReceiveCall}
 use Rattle.line_c.proofs.RoundTrip.{held}
 use borrow.Author.Needs.{needs}
@@ -21,63 +26,109 @@ use Rattle.line_c.proofs.receiver_calls.order_line_receive.Statement.{s
 use Rattle.line_c.proofs.receiver_calls.order_line_receive.Tie as tie
 
 -- the state's bytes, by what the call came to
-kept-refused : (state : List ℕ) (a : Answer Reading) (n : ℕ) → reported a ≡ refused n → state ≡ receivedState state a
-kept-refused state (refused m) n r = refl
-kept-refused state (done x) n r = absurd (let z : _≡_ {A = ℕ} 0 1 = cc in omega arith)
+kept-refused : (state : List ℕ) (s : Receiver) (a : Answer Reading) (n : ℕ) → reported a ≡ refused n
+    → (receivedState state a ≡ state) × (receiveState s a ≡ s)
+kept-refused state s (refused m) n r = (refl, refl)
+kept-refused state s (done x) n r = absurd (let z : _≡_ {A = ℕ} 0 1 = cc in omega arith)
 
 kept-done : (state : List ℕ) (s : Receiver) (a : Answer Reading) (r : Report) → reported a ≡ done r
     → receiverOver state (receiveState s a) ≡ receivedState state a
 kept-done state s (refused m) r e = absurd (let z : _≡_ {A = ℕ} 0 1 = cc in omega arith)
 kept-done state s (done x) r e = refl
 
+module _ (state : List ℕ) where
+  abbrev array : List ℕ
+  array = take arrayBytes (drop headSize state)
+
+  -- the state's bytes with another array
+  abbrev with-array : List ℕ → List ℕ
+  with-array array′ = take headSize state ++ (array′ ++ drop arrayBytes (drop headSize state))
+
+  same-array : (array′ : List ℕ) → array′ ≡ array → with-array array′ ≡ state
+  same-array array′ e =
+      ap with-array e ∙ ap (λ (l : List ℕ). take headSize state ++ l) (take-append-drop arrayBytes (drop headSize state))
+      ∙ take-append-drop headSize state
+
+  module _ (h : receiverSize ≤ length state) where
+    length-array : length array ≡ arrayBytes
+    length-array = length-take-le arrayBytes (drop headSize state) (omega (arith, length-drop headSize state))
+
+    head-room : (array′ : List ℕ) → headSize ≤ length (with-array array′)
+    head-room array′ =
+        let n : length (take headSize state) ≡ headSize = length-take-le headSize state (omega arith) in
+        simp length-append (omega arith)
+
+    -- and another head
+    head-over : (head : Head) (array′ state′ : List ℕ) → state′ ≡ receiverHead (whole head []) ++ drop headSize (with-array array′)
+        → state′ ≡ receiverOver state (whole head array′)
+    unfolding receiverBytes
+    head-over head array′ state′ e =
+        let n : length (take headSize state) ≡ headSize = length-take-le headSize state (omega arith) in
+        e
+        ∙ ap (λ (l : List ℕ). receiverHead (whole head []) ++ l)
+        (drop-at (take headSize state) (array′ ++ drop arrayBytes (drop headSize state)) headSize n
+        ∙ ap (λ (l : List ℕ). array′ ++ l) (drop-drop arrayBytes headSize state))
+        ∙ sym (append-assoc (receiverHead (whole head [])) array′ (drop receiverSize state))
+
 module _ (state line : List ℕ) (count : ℕ) (store : List ℕ) (used len : ℕ) where
   unheld : holdsReceiver state ≡ false → ReceiveCall state line count store used len A.spoiled state store used len
   unfolding receiverOf
   unheld h = record { answers = rw h; keeps = rw h; writes = rw h; uses = rw h; ends = rw h }
 
-  module _ (s : Receiver) (h : holdsReceiver state ≡ true) (e : s ≡ receiverIn state) where
+  module _ (h : holdsReceiver state ≡ true) (head : Head) (e : whole head (array state) ≡ receiverIn state) where
+    abbrev s : Receiver
+    s = whole head (array state)
+
     receiver-held : receiverOf state ≡ done s
     unfolding receiverOf
     receiver-held = rw (h, e)
 
-    module _ (result : Step) (store′ : List ℕ) (p : Receive s line count store result store′) where
+    enough : receiverSize ≤ length state
+    enough = held receiverSize 1 1 3 state h .enough
+
+    module _ (result : HeadStep) (array′ store′ : List ℕ) (q : ReceiveInPlace head (array state) line count store result array′ store′) where
+      call : Receive s line count store (stepWith result array′) store′
+      call = by-value head (array state) line count store (length-array state enough) result array′ store′ q
+
       turned : (n : ℕ) → receivedAnswer (result .answer) ≡ refused n
-          → ReceiveCall state line count store used len n state store′ used len
+          → ReceiveCall state line count store used len n (with-array state array′) store′ used len
       turned n a =
-          let r : reported (receive s line count store) ≡ refused n = sym (p .answers) ∙ a in
+          let r : reported (receive s line count store) ≡ refused n = sym (call .answers) ∙ a in
+          let k = kept-refused state s (receive s line count store) n r in
+          let w : array′ ≡ array state = ap (λ (x : Receiver). x .bits) (call .state ∙ k .1) in
           record {
             answers = rw receiver-held (sym (ap reportNumber r));
-            keeps = rw receiver-held (kept-refused state (receive s line count store) n r);
-            writes = rw receiver-held (p .writes);
+            keeps = rw receiver-held (same-array state array′ w ∙ sym (k .0));
+            writes = rw receiver-held (call .writes);
             uses = rw receiver-held (sym (ap (reportUsed used) r));
             ends = rw receiver-held (sym (ap (reportLength len) r));
           }
 
       heard : (event : Event) (bits : ℕ) → receivedAnswer (result .answer) ≡ done (record { event = event; used = bits })
-          → (number : ℕ) (state′ : List ℕ) (len′ : ℕ) → number ≡ eventNumber event → state′ ≡ receiverOver state (result .state)
+          → (number : ℕ) (state′ : List ℕ) (len′ : ℕ) → number ≡ eventNumber event
+          → state′ ≡ receiverHead (whole (result .head) []) ++ drop headSize (with-array state array′)
           → len′ ≡ eventLength len event → ReceiveCall state line count store used len number state′ store′ bits len′
       heard event bits a number state′ len′ n w l =
-          let r = sym (p .answers) ∙ a in
+          let r = sym (call .answers) ∙ a in
           record {
             answers = rw receiver-held (n ∙ sym (ap reportNumber r));
-            keeps = rw receiver-held (w ∙ ap (receiverOver state) (p .state) ∙ kept-done state s (receive s line count store) _ r);
-            writes = rw receiver-held (p .writes);
+            keeps = rw receiver-held
+                (head-over state enough (result .head) array′ state′ w ∙ ap (receiverOver state) (call .state)
+                ∙ kept-done state s (receive s line count store) _ r);
+            writes = rw receiver-held (call .writes);
             uses = rw receiver-held (sym (ap (reportUsed used) r));
             ends = rw receiver-held (l ∙ sym (ap (reportLength len) r));
           }
 
 -- the places where the test was passed and where the function began
-abbrev tested : tie.After-next → tie.Else1
-tested c = c .before .before .before .before .before .before .before
-
 abbrev start : tie.Else1 → tie.Start
 start c = c .before .before .before .before .before .before
 
 bytes-held : (c : tie.Else1) → holdsReceiver (start c .args .state .now) ≡ true
 bytes-held c = sym (c .before .holds-receiver .ensures) ∙ not-false _ (c .if1 .left)
 
-enough : (c : tie.Else1) → receiverSize ≤ length (start c .args .state .now)
-enough c = held receiverSize 1 1 3 (start c .args .state .now) (bytes-held c) .enough
+size-held : (c : tie.Else1) → receiverSize ≤ length (start c .args .state .now)
+size-held c = held receiverSize 1 1 3 (start c .args .state .now) (bytes-held c) .enough
 
 holds-receiver-requires : tie.Need-holds-receiver-requires
 holds-receiver-requires c κs = search needs
@@ -88,8 +139,17 @@ same-length c = search needs
 returns : tie.Need-returns
 returns c = unheld _ _ _ _ _ _ (sym (c .before .holds-receiver .ensures) ∙ not-true _ (c .if1 .taken))
 
-load-receiver-requires : tie.Need-load-receiver-requires
-load-receiver-requires c κs = enough (c .before)
+load-head-requires : tie.Need-load-head-requires
+load-head-requires c κs = size-held (c .before)
+
+sub-receive : tie.Need-sub-receive
+sub-receive c = search needs
+
+part-receive-start : tie.Need-part-receive-start
+part-receive-start c = search needs
+
+part-receive-end : tie.Need-part-receive-end
+part-receive-end c = size-held (c .before .before)
 
 receive-requires : tie.Need-receive-requires
 receive-requires c κs = search needs
@@ -100,8 +160,11 @@ enum-known-answer c = search needs
 enum-known-answer-2 : tie.Need-enum-known-answer-2
 enum-known-answer-2 c = search needs
 
-store-receiver-requires : tie.Need-store-receiver-requires
-store-receiver-requires c κs = enough (tested (c .before .before .before .before))
+put-head-requires : tie.Need-put-head-requires
+put-head-requires c κs =
+    let receive = c .before .before .before .before .before .before .before .before .before in
+    let tested = receive .before .before .before .before .before in
+    head-room (start tested .args .state .now) (size-held tested) (receive .receive .last .1 .0)
 
 report-requires : tie.Need-report-requires
 report-requires c κs = search needs
@@ -114,9 +177,9 @@ same-length-3 c = search needs
 
 returns-2 : tie.Need-returns-2
 returns-2 c =
-    let next = c .before .before .before in
-    let call = next .before .before .before in
-    turned _ _ _ _ _ _ _ (bytes-held (tested next)) (call .before .before .load-receiver .ensures) _ _ (call .receive .ensures) _
+    let receive = c .before .before .before .before .before .before .before .before in
+    let loaded = receive .before .before .before in
+    turned _ _ _ _ _ _ (bytes-held (loaded .before .before)) _ (loaded .load-head .ensures) _ _ _ (receive .receive .ensures) _
     (ap receivedAnswer (c .before .answer .given .1))
 
 same-length-4 : tie.Need-same-length-4
@@ -127,12 +190,11 @@ same-length-5 c = search needs
 
 returns-3 : tie.Need-returns-3
 returns-3 c =
-    let answer = c .before .before .before .before .before .before .before in
-    let next = answer .before .before in
-    let call = next .before .before .before in
-    heard _ _ _ _ _ _ _ (bytes-held (tested next)) (call .before .before .load-receiver .ensures) _ _ (call .receive .ensures) _ _
-    (ap receivedAnswer (answer .answer2 .given .1)) _ _ _ (c .report .ensures .0)
-    (c .before .before .before .before .store-receiver .ensures) (c .report .ensures .1)
+    let put = c .before .before .before .before in
+    let receive = c .before .before .before .before .before .before .before .before .before .before .before .before .before .before in
+    let loaded = receive .before .before .before in
+    heard _ _ _ _ _ _ (bytes-held (loaded .before .before)) _ (loaded .load-head .ensures) _ _ _ (receive .receive .ensures) _ _
+    (ap receivedAnswer (c .before .before .before .before .before .before .before .answer2 .given .1)) _ _ _ (c .report .ensures .0) (put .put-head .ensures) (c .report .ensures .1)
 
 pub order-line-receive-spec : {M : Type 1} → statement M
 order-line-receive-spec =
@@ -141,11 +203,14 @@ order-line-receive-spec =
     holds-receiver-requires
     same-length
     returns
-    load-receiver-requires
+    load-head-requires
+    sub-receive
+    part-receive-start
+    part-receive-end
     receive-requires
     enum-known-answer
     enum-known-answer-2
-    store-receiver-requires
+    put-head-requires
     report-requires
     same-length-2
     same-length-3

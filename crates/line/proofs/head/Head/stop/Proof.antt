@@ -1,0 +1,138 @@
+-- `Head::stop` gives each rule of the code the state and event of its definition. Assumes nothing.
+use mathlib.Core.Path.{_≡_, sym, ap, _∙_}
+use mathlib.Core.List.{List, []}
+use Prim.Native.Nat.{ℕ}
+use Rattle.line.specs.declared.head.Head.{Head}
+use Rattle.line.specs.declared.receiver.Step.{Step}
+use Rattle.line.specs.declared.rules.Rule as D
+use Rattle.line.specs.Receiving.{stops}
+use Rattle.line.specs.ReceivingInPlace.{whole}
+use Rattle.line.specs.Code.ReceiveSteps.{ruleOf, handedBack}
+use borrow.Author.Needs.{needs}
+use Rattle.line.proofs.head.Head.stop.Statement.{statement}
+use Rattle.line.proofs.head.Head.stop.Tie as tie
+
+by-rule : (h : Head) (array : List ℕ) (used : ℕ) (r q : D.Rule) (x : Step)
+    → x ≡ handedBack (stops (whole h array) (ruleOf q) [] used) → r ≡ q → x ≡ handedBack (stops (whole h array) (ruleOf r) [] used)
+by-rule h array used r q x e t = e ∙ sym (ap (λ (y : D.Rule). handedBack (stops (whole h array) (ruleOf y) [] used)) t)
+
+enum-told : tie.Need-enum-told
+enum-told c = search needs
+
+add-well : tie.Need-add-well
+add-well c = search needs
+
+well-requires : tie.Need-well-requires
+well-requires c κs = search needs
+
+enum-told-2 : tie.Need-enum-told-2
+enum-told-2 c = search needs
+
+well-requires-2 : tie.Need-well-requires-2
+well-requires-2 c κs = search needs
+
+enum-told-3 : tie.Need-enum-told-3
+enum-told-3 c = search needs
+
+alarm-requires : tie.Need-alarm-requires
+alarm-requires c κs = search needs
+
+enum-known-rule : tie.Need-enum-known-rule
+enum-known-rule c = search needs
+
+well-requires-3 : tie.Need-well-requires-3
+well-requires-3 c κs = search needs
+
+enum-told-4 : tie.Need-enum-told-4
+enum-told-4 c = search needs
+
+alarm-requires-2 : tie.Need-alarm-requires-2
+alarm-requires-2 c κs = search needs
+
+enum-told-5 : tie.Need-enum-told-5
+enum-told-5 c = search needs
+
+well-requires-4 : tie.Need-well-requires-4
+well-requires-4 c κs = search needs
+
+enum-told-6 : tie.Need-enum-told-6
+enum-told-6 c = search needs
+
+bad-requires : tie.Need-bad-requires
+bad-requires c κs = search needs
+
+same-length : tie.Need-same-length
+same-length c = search needs
+
+returns : tie.Need-returns
+returns c = by-rule _ _ _ _ _ _ (c .before .before .well .ensures) (c .before .before .before .before .enum-told .given .1)
+
+same-length-2 : tie.Need-same-length-2
+same-length-2 c = search needs
+
+returns-2 : tie.Need-returns-2
+returns-2 c = by-rule _ _ _ _ _ _ (c .before .before .well2 .ensures) (c .before .before .before .before .enum-told2 .given .1)
+
+same-length-3 : tie.Need-same-length-3
+same-length-3 c = search needs
+
+returns-3 : tie.Need-returns-3
+returns-3 c = by-rule _ _ _ _ _ _ (c .before .before .alarm .ensures) (c .before .before .before .before .enum-told3 .given .1)
+
+same-length-4 : tie.Need-same-length-4
+same-length-4 c = search needs
+
+returns-4 : tie.Need-returns-4
+returns-4 c = by-rule _ _ _ _ _ _ (c .before .before .well3 .ensures) (c .before .before .before .before .before .rule .given .1)
+
+same-length-5 : tie.Need-same-length-5
+same-length-5 c = search needs
+
+returns-5 : tie.Need-returns-5
+returns-5 c = by-rule _ _ _ _ _ _ (c .before .before .alarm2 .ensures) (c .before .before .before .before .enum-told4 .given .1)
+
+same-length-6 : tie.Need-same-length-6
+same-length-6 c = search needs
+
+returns-6 : tie.Need-returns-6
+returns-6 c = by-rule _ _ _ _ _ _ (c .before .before .well4 .ensures) (c .before .before .before .before .enum-told5 .given .1)
+
+same-length-7 : tie.Need-same-length-7
+same-length-7 c = search needs
+
+returns-7 : tie.Need-returns-7
+returns-7 c = by-rule _ _ _ _ _ _ (c .before .before .bad .ensures) (c .before .before .before .before .enum-told6 .given .1)
+
+pub stop-spec : {M : Type 1} → statement M
+stop-spec =
+    tie.close
+    (tie.spec
+    enum-told
+    add-well
+    well-requires
+    enum-told-2
+    well-requires-2
+    enum-told-3
+    alarm-requires
+    enum-known-rule
+    well-requires-3
+    enum-told-4
+    alarm-requires-2
+    enum-told-5
+    well-requires-4
+    enum-told-6
+    bad-requires
+    same-length
+    returns
+    same-length-2
+    returns-2
+    same-length-3
+    returns-3
+    same-length-4
+    returns-4
+    same-length-5
+    returns-5
+    same-length-6
+    returns-6
+    same-length-7
+    returns-7)

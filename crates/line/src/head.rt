@@ -1,0 +1,392 @@
+// The receiving end in place: a state's array is lent, its other fields, the head, are handed over and back.
+ghost use mathlib.Core.Path.{_≡_};
+ghost use mathlib.Core.Bool.{true, _||_};
+ghost use mathlib.Core.List.{List, [], _++_};
+ghost use Prim.Native.Nat.{ℕ, _+_, _*_, _^_, _≤_, _<_};
+ghost use lib.Dec.{leb};
+ghost use lib.ListN.{length, take};
+ghost use lib.Seq.{paste};
+ghost use Rattle.crc.specs.Bits.{bitsOf};
+ghost use Rattle.block.specs.Lengths.{isLength, blockLength};
+ghost use Rattle.line.specs.Order.{mostItems};
+ghost use Rattle.line.specs.Receiving as S;
+ghost use Rattle.line.specs.Receiving.{arrayBytes, noBytes, receiverInRange};
+ghost use Rattle.line.specs.ReceivingInPlace.{whole, ReceiveInPlace};
+ghost use Rattle.line.specs.Code.ReceiveSteps.{windowBits, ruleOf, stepWith, stepped, handedBack, acceptance, acceptedStore, judged, turnedAway, Handed};
+use crate::hold::put_bits;
+use crate::order::MOST_ITEMS;
+use crate::order::OVERHEAD;
+use crate::order::too_short;
+use crate::receiver::ARRAY_SIZE;
+use crate::receiver::Event;
+use crate::receiver::Phase;
+use crate::receiver::Received;
+use crate::receiver::Setup;
+use crate::rules::Rule;
+use crate::rules::looks_sync;
+use crate::rules::service_rule;
+use crate::window::Window;
+use crate::window::bit_at;
+use block::Read;
+
+// The eighth bad block in a row starts a search.
+const LAST_BAD: usize = 8;
+
+// A receiver without its array.
+pub struct Head {
+    pub setup: Setup,
+    pub held: usize,
+    pub row: usize,
+    pub back: bool,
+    pub taken: usize,
+    pub ended: bool,
+    pub phase: Phase,
+}
+
+pub struct HeadStep {
+    pub head: Head,
+    pub answer: Received,
+}
+
+fn clear(array: &mut [u8])
+    requires { ⌜ length (now array) ≡ arrayBytes ⌝ }
+    ensures { λ _. ⌜ now (array .exit) ≡ noBytes ⌝ }
+{
+    let mut i = 0;
+    while i < ARRAY_SIZE {
+        array[i] = 0;
+        i += 1;
+    }
+}
+
+fn copied(array: &[u8]) -> [u8; 483]
+    requires { ⌜ length (now array) ≡ arrayBytes ⌝ }
+    ensures { λ r. ⌜ r ≡ now (array .entry) ⌝ }
+{
+    let mut copy = [0u8; ARRAY_SIZE];
+    let mut i = 0;
+    while i < ARRAY_SIZE {
+        copy[i] = array[i];
+        i += 1;
+    }
+    copy
+}
+
+// The first m bytes of the data become the store's from byte from on.
+fn keep(payload: &[u8], m: usize, from: usize, store: &mut [u8])
+    requires { ⌜ (m ≤ length (now payload)) × (from + m ≤ length (now store)) ⌝ }
+    ensures { λ _. ⌜ now (store .exit) ≡ paste (now (store .entry)) from (now (payload .entry)) m ⌝ }
+{
+    let mut i = 0;
+    while i < m {
+        store[from + i] = payload[i];
+        i += 1;
+    }
+}
+
+impl Head {
+    // Every field within its range.
+    pub fn in_range(self) -> bool
+        ensures { λ r. ⌜ ((array : List ℕ) → r ≡ receiverInRange (whole self array)) ⌝ }
+    {
+        let k = self.setup.k;
+        if !block::known_length(k) {
+            return false;
+        }
+        if LAST_BAD <= self.row {
+            return false;
+        }
+        if MOST_ITEMS < self.taken {
+            return false;
+        }
+        let phase = self.phase;
+        match phase {
+            Phase::Search => self.held <= 15,
+            _ => self.held < k + OVERHEAD,
+        }
+    }
+
+    // This head after an event, with nothing held, and the event.
+    fn after(self, array: &mut [u8], event: Event, used: usize) -> HeadStep
+        requires { ⌜ length (now array) ≡ arrayBytes ⌝ }
+        ensures { λ r. ⌜ stepWith r (now (array .exit)) ≡ stepped (whole self noBytes) event used ⌝ }
+    {
+        clear(array);
+        HeadStep {
+            head: self,
+            answer: Received::Used { event, bits: used },
+        }
+    }
+
+    // In step with return 0.
+    fn well(
+        self,
+        array: &mut [u8],
+        taken: usize,
+        ended: bool,
+        event: Event,
+        used: usize,
+    ) -> HeadStep
+        requires { ⌜ length (now array) ≡ arrayBytes ⌝ }
+        ensures { λ r. ⌜ stepWith r (now (array .exit)) ≡ stepped (S.well (whole self (now (array .entry))) taken ended) event used ⌝ }
+    {
+        let next = Head {
+            held: 0,
+            row: 0,
+            back: false,
+            taken,
+            ended,
+            phase: Phase::InStep,
+            ..self
+        };
+        next.after(array, event, used)
+    }
+
+    fn alarm(self, array: &mut [u8], phase: Phase, event: Event, used: usize) -> HeadStep
+        requires { ⌜ length (now array) ≡ arrayBytes ⌝ }
+        ensures { λ r. ⌜ stepWith r (now (array .exit)) ≡ stepped (S.alarmed (whole self (now (array .entry))) phase) event used ⌝ }
+    {
+        let next = Head {
+            held: 0,
+            row: 0,
+            back: true,
+            phase,
+            ..self
+        };
+        next.after(array, event, used)
+    }
+
+    // A bad block; lost where rule 7 goes back to search.
+    fn bad(self, array: &mut [u8], lost: bool, used: usize) -> HeadStep
+        requires { ⌜ (length (now array) ≡ arrayBytes) × (self .row < S.lastBad) ⌝ }
+        ensures { λ r. ⌜ stepWith r (now (array .exit)) ≡ stepped (S.badly (whole self (now (array .entry))) (leb S.lastBad (self .row + 1) || lost)) Event.Bad used ⌝ }
+    {
+        let row = self.row + 1;
+        if LAST_BAD <= row {
+            return self.alarm(array, Phase::Search, Event::Bad, used);
+        }
+        if lost {
+            return self.alarm(array, Phase::Search, Event::Bad, used);
+        }
+        let next = Head {
+            held: 0,
+            row,
+            back: true,
+            phase: Phase::InStep,
+            ..self
+        };
+        next.after(array, Event::Bad, used)
+    }
+
+    // What a rule comes to, the store apart.
+    fn stop(self, array: &mut [u8], rule: Rule, used: usize) -> HeadStep
+        requires { ⌜ (length (now array) ≡ arrayBytes) × (self .row < S.lastBad) × (self .taken ≤ mostItems) ⌝ }
+        ensures { λ r. ⌜ stepWith r (now (array .exit)) ≡ handedBack (S.stops (whole self (now (array .entry))) (ruleOf rule) [] used) ⌝ }
+    {
+        let taken = self.taken;
+        let ended = self.ended;
+        match rule {
+            Rule::Accepts => self.well(array, taken + 1, ended, Event::Accepted, used),
+            Rule::Previous => self.well(array, taken, ended, Event::Previous, used),
+            Rule::OutOfSequence => self.alarm(
+                array,
+                Phase::SequenceAlarm,
+                Event::SequenceAlarm,
+                used,
+            ),
+            Rule::Ends(bits) => self.well(array, taken, true, Event::Ended(bits), used),
+            Rule::WrongLength => self.alarm(array, Phase::LengthAlarm, Event::LengthAlarm, used),
+            Rule::EndsAgain => self.well(array, taken, ended, Event::Previous, used),
+            Rule::AnythingElse => self.bad(array, taken == 0, used),
+        }
+    }
+
+    // Rule 3: the data go to the store, which is judged first.
+    fn accept(self, array: &mut [u8], payload: &[u8], used: usize, store: &mut [u8]) -> HeadStep
+        requires { ⌜ (length (now array) ≡ arrayBytes) × (isLength (self .setup .k) ≡ true) × (self .row < S.lastBad) × (self .taken ≤ mostItems) × (self .setup .k ≤ 8 * length (now payload)) ⌝ }
+        ensures { λ r. ⌜ stepWith r (now (array .exit)) ≡ acceptance (whole self (now (array .entry))) (now (store .entry)) used ⌝ }
+        ensures { λ _. ⌜ now (store .exit) ≡ acceptedStore (whole self (now (array .entry))) (now (payload .entry)) (now (store .entry)) ⌝ }
+    {
+        let m = self.setup.k / 8;
+        let from = self.taken * m;
+        if store.len() < from + m {
+            return HeadStep {
+                head: self,
+                answer: Received::Refused(block::SHORT),
+            };
+        }
+        keep(payload, m, from, store);
+        self.stop(array, Rule::Accepts, used)
+    }
+
+    // A finished block: rule 1, then the check, then the rules of what passes.
+    fn judge(self, array: &mut [u8], row: &[u8], used: usize, store: &mut [u8]) -> HeadStep
+        requires { ⌜ (length (now array) ≡ arrayBytes) × (isLength (self .setup .k) ≡ true) × (self .row < S.lastBad) × (self .taken ≤ mostItems) × (blockLength (self .setup .k) ≤ 8 * length (now row)) ⌝ }
+        ensures { λ r. ⌜ Handed (whole self (now (array .entry))) (now (store .entry)) (judged (whole self (now (array .entry))) (take (blockLength (self .setup .k)) (bitsOf (now (row .entry)))) used) (stepWith r (now (array .exit))) (now (store .exit)) ⌝ }
+    {
+        let k = self.setup.k;
+        let taken = self.taken;
+        let ended = self.ended;
+        if looks_sync(k, row) {
+            return self.well(array, taken, ended, Event::Sync, used);
+        }
+        let mut payload = [0u8; 480];
+        let answer = block::read_block(k, row, &mut payload);
+        let Read::Passed(service) = answer else {
+            return self.bad(array, false, used);
+        };
+        let rule = service_rule(k, taken, ended, service, &payload);
+        if let Rule::Accepts = rule {
+            return self.accept(array, &payload, used, store);
+        }
+        self.stop(array, rule, used)
+    }
+
+    // The block's last bits have come. A block that stands whole in the line is judged there; and the array stays as it
+    // is where the store is refused, so the others are finished in a copy.
+    fn finish(self, array: &mut [u8], line: &[u8], missing: usize, store: &mut [u8]) -> HeadStep
+        requires { ⌜ (length (now array) ≡ arrayBytes) × (isLength (self .setup .k) ≡ true) × (self .row < S.lastBad) × (self .taken ≤ mostItems) × (self .held + missing ≡ blockLength (self .setup .k)) × (missing ≤ 8 * length (now line)) ⌝ }
+        ensures { λ r. ⌜ Handed (whole self (now (array .entry))) (now (store .entry)) (judged (whole self (now (array .entry))) (S.heldBits (whole self (now (array .entry))) ++ take missing (bitsOf (now (line .entry)))) missing) (stepWith r (now (array .exit))) (now (store .exit)) ⌝ }
+    {
+        if self.held == 0 {
+            return self.judge(array, line, missing, store);
+        }
+        let mut row = copied(array);
+        put_bits(&mut row, self.held, line, missing);
+        self.judge(array, &row, missing, store)
+    }
+
+    // In step: the bits up to the block's end, or to the last.
+    fn in_step(self, array: &mut [u8], line: &[u8], bits: usize, store: &mut [u8]) -> HeadStep
+        requires { ⌜ (length (now array) ≡ arrayBytes) × (isLength (self .setup .k) ≡ true) × (self .row < S.lastBad) × (self .taken ≤ mostItems) × (self .held < blockLength (self .setup .k)) × (bits ≤ 8 * length (now line)) ⌝ }
+        ensures { λ r. ⌜ Handed (whole self (now (array .entry))) (now (store .entry)) (S.inStep (whole self (now (array .entry))) (take bits (bitsOf (now (line .entry))))) (stepWith r (now (array .exit))) (now (store .exit)) ⌝ }
+    {
+        let held = self.held;
+        let missing = self.setup.k + OVERHEAD - held;
+        if missing <= bits {
+            return self.finish(array, line, missing, store);
+        }
+        put_bits(array, held, line, bits);
+        HeadStep {
+            head: Head {
+                held: held + bits,
+                ..self
+            },
+            answer: Received::Used {
+                event: Event::None,
+                bits,
+            },
+        }
+    }
+
+    // The search's window back in the array's first two bytes.
+    fn hold_window(self, array: &mut [u8], window: Window, used: usize) -> HeadStep
+        requires { ⌜ (length (now array) ≡ arrayBytes) × (window .held ≤ 15) × (window .number < 2 ^ window .held) ⌝ }
+        ensures { λ r. ⌜ stepWith r (now (array .exit)) ≡ stepped (S.searching (whole self (now (array .entry))) (windowBits window)) Event.None used ⌝ }
+    {
+        let pair = window.store();
+        array[0] = pair.0;
+        array[1] = pair.1;
+        HeadStep {
+            head: Head {
+                held: window.held,
+                back: true,
+                ..self
+            },
+            answer: Received::Used {
+                event: Event::None,
+                bits: used,
+            },
+        }
+    }
+
+    // Search: bit by bit, up to the sequence's end or to the last.
+    fn search(self, array: &mut [u8], line: &[u8], bits: usize) -> HeadStep
+        requires { ⌜ (length (now array) ≡ arrayBytes) × (self .held ≤ 15) × (bits ≤ 8 * length (now line)) ⌝ }
+        ensures { λ r. ⌜ stepWith r (now (array .exit)) ≡ handedBack (S.search (whole self (now (array .entry))) (S.heldBits (whole self (now (array .entry)))) (take bits (bitsOf (now (line .entry)))) 0) ⌝ }
+    {
+        let mut window = Window::load(self.held, array[0], array[1]);
+        let mut used = 0;
+        while used < bits {
+            let next = bit_at(line, used);
+            used += 1;
+            if window.ends_sequence(next) {
+                return self.well(array, self.taken, self.ended, Event::Sync, used);
+            }
+            window = window.slide(next);
+        }
+        self.hold_window(array, window, used)
+    }
+
+    // A standing alarm: all bits used.
+    fn stand(self, alarm: Event, bits: usize) -> HeadStep
+        ensures { λ r. ⌜ ((array : List ℕ) → stepWith r array ≡ stepped (S.stands (whole self array)) alarm bits) ⌝ }
+    {
+        HeadStep {
+            head: Head {
+                row: 0,
+                back: true,
+                ..self
+            },
+            answer: Received::Used { event: alarm, bits },
+        }
+    }
+
+    // No bits: nothing changed, but a standing alarm is reported.
+    fn idle(self) -> HeadStep
+        ensures { λ r. ⌜ ((array : List ℕ) → stepWith r array ≡ handedBack (S.idle (whole self array))) ⌝ }
+    {
+        let phase = self.phase;
+        let event = match phase {
+            Phase::Search | Phase::InStep => Event::None,
+            Phase::SequenceAlarm => Event::SequenceAlarm,
+            Phase::LengthAlarm => Event::LengthAlarm,
+        };
+        HeadStep {
+            head: self,
+            answer: Received::Used { event, bits: 0 },
+        }
+    }
+
+    // The bits of a line up to the next event, or to the last.
+    fn read(self, array: &mut [u8], line: &[u8], bits: usize, store: &mut [u8]) -> HeadStep
+        requires { ⌜ (length (now array) ≡ arrayBytes) × (receiverInRange (whole self (now array)) ≡ true) × (bits ≤ 8 * length (now line)) ⌝ }
+        ensures { λ r. ⌜ Handed (whole self (now (array .entry))) (now (store .entry)) (S.readings (whole self (now (array .entry))) (take bits (bitsOf (now (line .entry)))) bits) (stepWith r (now (array .exit))) (now (store .exit)) ⌝ }
+    {
+        if bits == 0 {
+            return self.idle();
+        }
+        let phase = self.phase;
+        match phase {
+            Phase::Search => self.search(array, line, bits),
+            Phase::InStep => self.in_step(array, line, bits, store),
+            Phase::SequenceAlarm => self.stand(Event::SequenceAlarm, bits),
+            Phase::LengthAlarm => self.stand(Event::LengthAlarm, bits),
+        }
+    }
+
+    fn refused(self, number: u8) -> HeadStep
+        ensures { λ r. ⌜ r ≡ turnedAway self number ⌝ }
+    {
+        HeadStep {
+            head: self,
+            answer: Received::Refused(number),
+        }
+    }
+
+    // The next event among these bits of a line, with the number of them used; an accepted block's data go to the store.
+    pub fn receive(self, array: &mut [u8], line: &[u8], bits: usize, store: &mut [u8]) -> HeadStep
+        ensures { λ r. ⌜ ReceiveInPlace self (now (array .entry)) (now (line .entry)) bits (now (store .entry)) r (now (array .exit)) (now (store .exit)) ⌝ }
+    {
+        if array.len() != ARRAY_SIZE {
+            return self.refused(block::SPOILED);
+        }
+        if !self.in_range() {
+            return self.refused(block::SPOILED);
+        }
+        if too_short(line, bits) {
+            return self.refused(block::SHORT);
+        }
+        self.read(array, line, bits, store)
+    }
+}
