@@ -13,4 +13,5 @@ pub mod Searching
 pub mod Calling
 pub mod InPlace
 pub mod Delivery
+pub mod Pieces
 pub mod Examples

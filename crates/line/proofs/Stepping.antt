@@ -9,7 +9,7 @@ use lib.Seq.{take-at, take-take, take-append-le, length-take-le}
 use Rattle.crc.specs.Bits.{Bits, zeros, bitsOf, bytesOf}
 use Rattle.crc.proofs.Bytes.{length-bitsOf, bitsOf-bytesOf}
 use Rattle.block.specs.Lengths.{blockLength}
-use Rattle.line.specs.Receiving.{arrayBytes, unfinished, heldBits, overwrite, holding, missing, Reading, inStep}
+use Rattle.line.specs.Receiving.{arrayBytes, unfinished, heldBits, overwrite, holding, missing, finishedRow, Reading, inStep}
 use Rattle.line.specs.Code.ReceiveSteps.{stepped, judged, Handed}
 use Rattle.line.specs.declared.receiver.Receiver.{Receiver}
 use Rattle.line.specs.declared.receiver.Event.the-variants as E
@@ -49,47 +49,53 @@ module _ (array : List ℕ) (new : Bits) (held : ℕ) (h : held + length new ≤
       ∙ ap (take (held + length new)) in-order
       ∙ take-at front (drop (held + length new) (bitsOf array)) (held + length new) length-front
 
--- no block is complete
-module _ (s : Receiver) (store : List ℕ) (new : Bits) where
-  more : length new < missing s
-      → inStep s new ≡ record { rule = unfinished; row = []; used = length new; state = holding s new }
+-- no block is complete, ...
+abbrev pub held-on : Receiver → Bits → Reading
+held-on s new = record { rule = unfinished; row = []; used = length new; state = holding s new }
+
+module _ (s : Receiver) (new : Bits) where
+  pub step-on : length new < missing s → inStep s new ≡ held-on s new
   unfolding inStep
-  more h = rw (lt-ltb (length new) (missing s) h)
+  step-on h = rw (lt-ltb (length new) (missing s) h)
 
-  abbrev held-with : List ℕ → ℕ → Step
-  held-with array n =
-      stepped
-      (record {
-        setup = s .setup;
-        bits = array;
-        held = s .held + n;
-        row = s .row;
-        back = s .back;
-        taken = s .taken;
-        ended = s .ended;
-        phase = s .phase;
-      }) E.None n
+  -- ... or one is
+  pub step-done : missing s ≤ length new → inStep s new ≡ judged s (finishedRow s new) (missing s)
+  unfolding inStep
+  step-done h = rw (le-ltb (length new) (missing s) h)
 
-  pub in-step-more : (array : List ℕ) (n : ℕ) → array ≡ bytesOf arrayBytes (overwrite (s .held) new (bitsOf (s .bits))) → n ≡ length new
-      → n < missing s → Handed s store (inStep s new) (held-with array n) store
-  in-step-more array n e l h =
-      subst (λ (x : Reading). Handed s store x (held-with array n) store) (sym (more (subst (λ (k : ℕ). k < missing s) l h)))
-      (subst (λ (r : Step). Handed s store (record { rule = unfinished; row = []; used = length new; state = holding s new }) r store)
-      (sym (ap₂ held-with e l)) (handed-plain s store (record { rule = unfinished; row = []; used = length new; state = holding s new }) refl))
+  module _ (store : List ℕ) where
+    abbrev held-with : List ℕ → ℕ → Step
+    held-with array n =
+        stepped
+        (record {
+          setup = s .setup;
+          bits = array;
+          held = s .held + n;
+          row = s .row;
+          back = s .back;
+          taken = s .taken;
+          ended = s .ended;
+          phase = s .phase;
+        }) E.None n
 
--- a block is complete: its row is what was held and the missing bits of the line
+    pub in-step-more : (array : List ℕ) (n : ℕ) → array ≡ bytesOf arrayBytes (overwrite (s .held) new (bitsOf (s .bits))) → n ≡ length new
+        → n < missing s → Handed s store (inStep s new) (held-with array n) store
+    in-step-more array n e l h =
+        subst (λ (x : Reading). Handed s store x (held-with array n) store) (sym (step-on (subst (λ (k : ℕ). k < missing s) l h)))
+        (subst (λ (r : Step). Handed s store (held-on s new) r store) (sym (ap₂ held-with e l)) (handed-plain s store (held-on s new) refl))
+
+-- the row of a complete block: what was held and the missing bits of the line
 module _ (s : Receiver) (line : List ℕ) where
   abbrev finished : ℕ → Bits
   finished rest = heldBits s ++ take rest (bitsOf line)
 
   pub in-step-done : (count : ℕ) → count ≤ 8 * length line → missing s ≤ count
       → judged s (finished (missing s)) (missing s) ≡ inStep s (take count (bitsOf line))
-  unfolding inStep
   in-step-done count h l =
       let new : Bits = take count (bitsOf line) in
       let n : length new ≡ count = length-take-le count (bitsOf line) (omega (arith, length-bitsOf line)) in
-      let e : take (missing s) new ≡ take (missing s) (bitsOf line) = take-take (missing s) count (bitsOf line) l in
-      sym (rw (le-ltb (length new) (missing s) (omega arith), e))
+      sym (step-done s new (omega arith)
+      ∙ ap (λ (x : Bits). judged s (heldBits s ++ x) (missing s)) (take-take (missing s) count (bitsOf line) l))
 
   module _ (rest : ℕ) (k : s .held + rest ≡ blockLength (s .setup .k)) where
     -- it stands whole in the line

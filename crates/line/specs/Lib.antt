@@ -1,10 +1,12 @@
--- Document 01 in its order, demand 3, the examples that are proved, and what the private functions promise.
+-- Document 01 in its order, a receiving call in place and in pieces, demand 3, the examples that are proved, and what the
+-- private functions promise.
 pub mod LoopTime
 pub mod Order
 pub mod Sending
 pub mod SendCalls
 pub mod Receiving
 pub mod ReceivingInPlace
+pub mod Pieces
 pub mod Course
 pub mod Delivery
 pub mod Examples

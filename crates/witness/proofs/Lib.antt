@@ -1,4 +1,5 @@
 pub mod Corners
+pub mod Pieces
 pub mod Sends
 pub mod Meets
 pub mod Tally

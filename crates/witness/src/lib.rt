@@ -1,1 +1,1 @@
-// No code: lists of calls that meet all that demand 3 supposes, and the receiving end's corner cases, computed.
+// No code: lists of calls that meet all that demand 3 supposes, and the receiving end's corner cases and split calls, computed.

@@ -80,7 +80,7 @@ module _ (s : Receiver) (b : Bool) where
   bit-last w = let one : missing s ≡ 1 = omega (arith, w .held) in rw one refl
 
 -- what a rule that ends a block leaves does not depend on the bits held
-after-holding : (s : Receiver) (new : Bits) {x : Rule} → Judged x → after (holding s new) x ≡ after s x
+pub after-holding : (s : Receiver) (new : Bits) {x : Rule} → Judged x → after (holding s new) x ≡ after s x
 after-holding s new as-sync = refl
 after-holding s new fails = refl
 after-holding s new {x} (as-data h) = data-or-end x h

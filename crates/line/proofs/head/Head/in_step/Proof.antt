@@ -63,7 +63,7 @@ returns-2 c =
     let p = c .before .before .before .before .before .before .before .before .before .before .pre in
     let n : a .bits ≡ length (take (a .bits) (bitsOf (a .line .now))) =
     sym (length-take-le (a .bits) (bitsOf (a .line .now)) (omega (arith, length-bitsOf (a .line .now)))) in
-    in-step-more (whole (a .self) (a .array .now)) (a .store .now) (take (a .bits) (bitsOf (a .line .now))) _ (a .bits) (c .before .before .before .put-bits .ensures) n (omega arith)
+    in-step-more (whole (a .self) (a .array .now)) (take (a .bits) (bitsOf (a .line .now))) (a .store .now) _ (a .bits) (c .before .before .before .put-bits .ensures) n (omega arith)
 
 pub in-step-spec : {M : Type 1} → statement M
 in-step-spec =

@@ -1,0 +1,199 @@
+-- What a call reads is what its first bits come to and then the others, in every phase. Assumes nothing.
+use mathlib.Core.Path.{_≡_, refl, ap, ap₂, sym, _∙_, subst}
+use mathlib.Core.Logic.{_⊎_, inl, inr, ⊎-elim}
+use mathlib.Core.Bool.{Bool, true, false, _&&_, true≢false}
+use mathlib.Core.List.{[], _∷_, _++_, append-nil}
+use native.Mathlib.Omega.{arith}
+use Prim.Native.Nat.{ℕ, _+_, _≤_, _<_}
+use lib.Dec.{ltb}
+use lib.ListN.{length, length-append}
+use borrow.Author.Tests.{ltb-true, ltb-false, lt-ltb, le-leb}
+use Rattle.crc.specs.Bits.{Bits}
+use Rattle.block.specs.Lengths.{blockLength}
+use Rattle.line.specs.Order.{mostItems}
+use Rattle.line.specs.Receiving.{arrayBytes, lastBad, Rule, standing, heldBits, Reading, searching, search, holding, missing, finishedRow, inStep, stands, stood, reading, idleRule, idle, readings, heldInRange, receiverInRange}
+use Rattle.line.specs.Pieces.{usesAll, reads, later}
+use Rattle.line.specs.declared.receiver.Receiver.{Receiver}
+use Rattle.line.specs.declared.receiver.Phase.{Phase}
+use Rattle.line.specs.declared.receiver.Phase.the-variants as P
+use Rattle.line.specs.declared.receiver.Event.{Event}
+use Rattle.line.specs.declared.receiver.Event.the-variants as E
+use Rattle.line.proofs.Stepping.{held-on, step-on, step-done}
+use Rattle.line.proofs.Calling.{InRange, held-search, readings-some}
+use Rattle.line.proofs.Delivery.Tests.{either}
+use Rattle.line.proofs.Delivery.Judging.{judged}
+use Rattle.line.proofs.Delivery.Holding.{length-heldBits, length-holding, length-searching, heldBits-searching}
+use Rattle.line.proofs.Pieces.Search.{Passed, Found, unfound, search-splits, search-later}
+use Rattle.line.proofs.Pieces.Step.{step-later, step-within, judged-event}
+
+-- all of a's bits are used, and further bits are read from the state then
+pub record Onward (s : Receiver) (a : Bits) (x : Reading) : Type 0 where
+  pub quiet : usesAll (x .rule) ≡ true
+  pub used : x .used ≡ length a
+  pub range : receiverInRange (x .state) ≡ true
+  pub array : length (x .state .bits) ≡ arrayBytes
+  pub k : x .state .setup .k ≡ s .setup .k
+  pub taken : x .state .taken ≡ s .taken
+  pub more : (b : Bits) → reads s (a ++ b) ≡ later (length a) (reads (x .state) b)
+
+-- an event comes within a
+pub record Within (s : Receiver) (a : Bits) (x : Reading) : Type 0 where
+  pub event : usesAll (x .rule) ≡ false
+  pub more : (b : Bits) → reads s (a ++ b) ≡ x
+
+abbrev pub Splits : Receiver → Bits → Reading → Type 0
+Splits s a x = Onward s a x ⊎ Within s a x
+
+range-in : (s : Receiver) → InRange s → receiverInRange s ≡ true
+unfolding receiverInRange
+range-in s r =
+    ap₂ _&&_ (ap₂ _&&_ (ap₂ _&&_ (r .known) (lt-ltb (s .row) lastBad (r .row))) (le-leb (s .taken) mostItems (r .taken))) (r .held)
+
+reads-some : (s : Receiver) (p : Phase) → s .phase ≡ p → (b : Bool) (bs : Bits) → reads s (b ∷ bs) ≡ reading s p (b ∷ bs)
+reads-some s p e b bs = sym (readings-some s [] (b ∷ bs) (length (b ∷ bs)) (λ z. absurd (omega arith)) p e)
+
+reads-none : (s : Receiver) → reads s [] ≡ idle s
+unfolding readings
+reads-none s = refl
+
+idle-uses-all : (p : Phase) → usesAll (idleRule p) ≡ true
+idle-uses-all P.Search = refl
+idle-uses-all P.InStep = refl
+idle-uses-all P.SequenceAlarm = refl
+idle-uses-all P.LengthAlarm = refl
+
+module _ (s : Receiver) (r : InRange s) (array : length (s .bits) ≡ arrayBytes) where
+  none : Onward s [] (idle s)
+  none =
+      record {
+        quiet = idle-uses-all (s .phase);
+        used = refl;
+        range = range-in s r;
+        array = array;
+        k = refl;
+        taken = refl;
+        more = λ b. ap (λ (n : ℕ). record { rule = reads s b .rule; row = reads s b .row; used = n; state = reads s b .state }) (omega arith);
+      }
+
+  module _ (c : Bool) (cs : Bits) where
+    abbrev a : Bits
+    a = c ∷ cs
+
+    in-search : s .phase ≡ P.Search → Splits s a (search s (heldBits s) a 0)
+    in-search e = ⊎-elim (λ p. inl (subst (Onward s a) (sym (p .is)) (passed p)))
+        (λ f. inr (record { event = f .event; more = λ b. reads-some s P.Search e c (cs ++ b) ∙ f .more b })) splits
+      where
+        splits : Passed s (heldBits s) a 0 ⊎ Found s (heldBits s) a 0
+        splits = search-splits s (heldBits s) a 0
+            (omega (arith, held-search s r e, length-heldBits s array (omega (arith, held-search s r e))))
+
+        behind : (w : Bits) → length w ≤ 15 → (b : Bits) → search s w b (0 + length a) ≡ later (length a) (reads (searching s w) b)
+        behind w h [] = ap₂ (λ (x : Rule) (n : ℕ). record { rule = x; row = []; used = n; state = searching s w })
+            (ap idleRule (sym e)) (omega arith)
+            ∙ ap (later (length a)) (sym (reads-none (searching s w)))
+        behind w h (d ∷ b) =
+            ap (search s w (d ∷ b)) (omega arith)
+            ∙ search-later s w w (d ∷ b) (length a) 0
+            ∙ ap (later (length a))
+            (ap (λ (v : Bits). search (searching s w) v (d ∷ b) 0) (sym (heldBits-searching s w h))
+            ∙ sym (reads-some (searching s w) P.Search e d b))
+
+        passed : (p : Passed s (heldBits s) a 0) → Onward s a (unfound s (p .then) (0 + length a))
+        passed p =
+            record {
+              quiet = refl;
+              used = omega arith;
+              range = range-in (searching s (p .then)) (record {
+                known = r .known;
+                row = r .row;
+                taken = r .taken;
+                held = ap (λ (q : Phase). heldInRange q (blockLength (s .setup .k)) (length (p .then))) e
+                    ∙ le-leb (length (p .then)) 15 (p .short);
+              });
+              array = length-searching s (p .then) array;
+              k = refl;
+              taken = refl;
+              more = λ b. reads-some s P.Search e c (cs ++ b) ∙ p .more b ∙ behind (p .then) (p .short) b;
+            }
+
+    in-step : s .phase ≡ P.InStep → Splits s a (inStep s a)
+    in-step e =
+        ⊎-elim (λ t. let h = ltb-true (length a) (missing s) t in inl (subst (Onward s a) (sym (step-on s a h)) (held h)))
+        (λ t. inr (complete (ltb-false (length a) (missing s) t))) (either (ltb (length a) (missing s)))
+      where
+        complete : missing s ≤ length a → Within s a (inStep s a)
+        complete h =
+            record {
+              event = ap (λ (x : Reading). usesAll (x .rule)) (step-done s a h)
+                  ∙ judged-event (judged (s .setup .k) (s .taken) (s .ended) (finishedRow s a));
+              more = λ b. reads-some s P.InStep e c (cs ++ b) ∙ step-within s a b h;
+            }
+
+        behind : length a < missing s → (b : Bits) → inStep s (a ++ b) ≡ later (length a) (reads (holding s a) b)
+        behind h [] =
+            let n : length a ≡ length a + 0 = omega arith in
+            ap (inStep s) (append-nil a) ∙ step-on s a h
+            ∙ ap₂ (λ (x : Rule) (m : ℕ). record { rule = x; row = []; used = m; state = holding s a }) (ap idleRule (sym e)) n
+            ∙ ap (later (length a)) (sym (reads-none (holding s a)))
+        behind h (d ∷ b) =
+            step-later s array (r .known) a h (d ∷ b)
+            ∙ ap (later (length a)) (sym (reads-some (holding s a) P.InStep e d b))
+
+        held : length a < missing s → Onward s a (held-on s a)
+        held h =
+            record {
+              quiet = refl;
+              used = refl;
+              range = range-in (holding s a) (record {
+                known = r .known;
+                row = r .row;
+                taken = r .taken;
+                held = ap (λ (q : Phase). heldInRange q (blockLength (s .setup .k)) (s .held + length a)) e
+                    ∙ lt-ltb (s .held + length a) (blockLength (s .setup .k)) (omega arith);
+              });
+              array = length-holding s a;
+              k = refl;
+              taken = refl;
+              more = λ b. reads-some s P.InStep e c (cs ++ b) ∙ behind h b;
+            }
+
+    -- an alarm stands: this event, in this phase
+    alarmed : (p : Phase) (alarm : Event) → s .phase ≡ p → idleRule p ≡ standing alarm
+        → ((t : Receiver) (new : Bits) → reading t p new ≡ stood t alarm (length new)) → Onward s a (stood s alarm (length a))
+    alarmed p alarm e i st =
+        record {
+          quiet = refl;
+          used = refl;
+          range = range-in (stands s) (record {
+            known = r .known;
+            row = omega arith;
+            taken = r .taken;
+            held = r .held;
+          });
+          array = array;
+          k = refl;
+          taken = refl;
+          more = λ b. reads-some s p e c (cs ++ b) ∙ st s (a ++ b)
+              ∙ ap (stood s alarm) (length-append a b) ∙ ap (later (length a)) (sym (behind b));
+        }
+      where
+        behind : (b : Bits) → reads (stands s) b ≡ stood s alarm (length b)
+        behind [] = reads-none (stands s) ∙ ap (λ (x : Rule). record { rule = x; row = []; used = 0; state = stands s }) (ap idleRule e ∙ i)
+        behind (d ∷ b) = reads-some (stands s) p e d b ∙ st (stands s) (d ∷ b)
+
+    by-phase : (p : Phase) → s .phase ≡ p → Splits s a (reading s p a)
+    by-phase P.Search e = in-search e
+    by-phase P.InStep e = in-step e
+    by-phase P.SequenceAlarm e = inl (alarmed P.SequenceAlarm E.SequenceAlarm e refl (λ t new. refl))
+    by-phase P.LengthAlarm e = inl (alarmed P.LengthAlarm E.LengthAlarm e refl (λ t new. refl))
+
+pub splits : (s : Receiver) → InRange s → length (s .bits) ≡ arrayBytes → (a : Bits) → Splits s a (reads s a)
+splits s r array [] = inl (subst (Onward s []) (sym (reads-none s)) (none s r array))
+splits s r array (c ∷ cs) = subst (Splits s (c ∷ cs)) (sym (reads-some s (s .phase) refl c cs)) (by-phase s r array c cs (s .phase) refl)
+
+pub onward-of : (s : Receiver) → InRange s → length (s .bits) ≡ arrayBytes → (a : Bits) (x : Reading) → reads s a ≡ x
+    → usesAll (x .rule) ≡ true → Onward s a x
+onward-of s r array a x e q =
+    ⊎-elim (λ o. subst (Onward s a) e o)
+    (λ w. absurd (true≢false (sym (ap (λ (y : Reading). usesAll (y .rule)) e ∙ q) ∙ w .event)))
+    (splits s r array a)

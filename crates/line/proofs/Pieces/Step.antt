@@ -1,0 +1,130 @@
+-- A block split anywhere, in step: what is held of it, and its row when it is complete. Assumes nothing.
+use mathlib.Core.Path.{_≡_, refl, ap, ap₂, sym, _∙_}
+use mathlib.Core.Logic.{⊎-elim}
+use mathlib.Core.Bool.{true, false, false≢true}
+use mathlib.Core.List.{List, [], _++_, append-assoc}
+use native.Mathlib.Omega.{arith}
+use Prim.Native.Nat.{ℕ, _+_, _*_, _≤_, _<_}
+use lib.Dec.{ltb}
+use lib.ListN.{length, take, drop, length-append}
+use lib.Seq.{take-append-le, take-append-add, drop-drop}
+use borrow.Author.Tests.{ltb-true, ltb-false, lt-ltb}
+use Rattle.crc.specs.Bits.{Bits, bitsOf, bytesOf}
+use Rattle.crc.proofs.Bytes.{length-bitsOf}
+use Rattle.block.specs.Lengths.{isLength}
+use Rattle.block.proofs.Lengths.{length-facts}
+use Rattle.line.specs.Receiving.{arrayBytes, Rule, unfinished, standing, found, sync-block, check-fails, accepts, previous, out-of-sequence, ends, wrong-length, ends-again, anything-else, meaning, judge, heldBits, Reading, stops, overwrite, holding, missing, finishedRow, inStep}
+use Rattle.line.specs.Pieces.{usesAll, later}
+use Rattle.line.specs.declared.receiver.Receiver.{Receiver}
+use Rattle.line.proofs.Stepping.{step-on, step-done}
+use Rattle.line.proofs.Delivery.Tests.{either}
+use Rattle.line.proofs.Delivery.Judging.{Judged, as-sync, fails, as-data, as-other, judged}
+use Rattle.line.proofs.Delivery.Holding.{length-overwrite, take-overwrite, drop-overwrite, bitsOf-exact, heldBits-holding}
+use Rattle.line.proofs.Delivery.BitByBit.{after-holding}
+
+-- a row written behind a row written is both written
+overwrite-again : (at : ℕ) (a b row : Bits) → at + length a ≤ length row
+    → overwrite (at + length a) b (overwrite at a row) ≡ overwrite at (a ++ b) row
+overwrite-again at a b row h =
+    ap₂ (λ (x y : Bits). x ++ (b ++ y)) (take-overwrite at a row h)
+    (sym (drop-drop (length b) (at + length a) (overwrite at a row)) ∙ ap (drop (length b)) (drop-overwrite at a row h)
+    ∙ drop-drop (length b) (at + length a) row ∙ ap (λ (n : ℕ). drop n row) n)
+    ∙ append-assoc (take at row) a (b ++ drop (at + length (a ++ b)) row)
+    ∙ ap (λ (x : Bits). take at row ++ x) (sym (append-assoc a b (drop (at + length (a ++ b)) row)))
+  where
+    n : at + length a + length b ≡ at + length (a ++ b)
+    n = omega (arith, length-append a b)
+
+module _ (s : Receiver) (array : length (s .bits) ≡ arrayBytes) (a : Bits) (room : s .held + length a ≤ 3864) where
+  fits : s .held + length a ≤ length (bitsOf (s .bits))
+  fits = omega (arith, length-bitsOf (s .bits))
+
+  holding-again : (b : Bits) → holding (holding s a) b ≡ holding s (a ++ b)
+  holding-again b =
+      ap₂ (λ (bytes : List ℕ) (held : ℕ). record {
+        setup = s .setup;
+        bits = bytes;
+        held = held;
+        row = s .row;
+        back = s .back;
+        taken = s .taken;
+        ended = s .ended;
+        phase = s .phase;
+      })
+      (ap (λ (row : Bits). bytesOf arrayBytes (overwrite (s .held + length a) b row))
+      (bitsOf-exact arrayBytes (overwrite (s .held) a (bitsOf (s .bits))) long)
+      ∙ ap (bytesOf arrayBytes) (overwrite-again (s .held) a b (bitsOf (s .bits)) fits)) n
+    where
+      long : length (overwrite (s .held) a (bitsOf (s .bits))) ≡ 8 * arrayBytes
+      long = omega (arith, length-overwrite (s .held) a (bitsOf (s .bits)) fits, length-bitsOf (s .bits))
+
+      n : s .held + length a + length b ≡ s .held + length (a ++ b)
+      n = omega (arith, length-append a b)
+
+  finishedRow-again : (b : Bits) → length a ≤ missing s → finishedRow (holding s a) b ≡ finishedRow s (a ++ b)
+  finishedRow-again b h =
+      ap (λ (x : Bits). x ++ take (missing (holding s a)) b) (heldBits-holding s a array room)
+      ∙ append-assoc (heldBits s) a (take (missing (holding s a)) b)
+      ∙ ap (λ (x : Bits). heldBits s ++ x) (sym (take-append-add a b (missing (holding s a))) ∙ ap (λ (n : ℕ). take n (a ++ b)) n)
+    where
+      n : length a + missing (holding s a) ≡ missing s
+      n = omega arith
+
+-- a first piece that completes no block
+module _ (s : Receiver) (array : length (s .bits) ≡ arrayBytes) (known : isLength (s .setup .k) ≡ true)
+    (a : Bits) (h : length a < missing s) where
+  room : s .held + length a ≤ 3864
+  room = omega (arith, length-facts (s .setup .k) known)
+
+  pub step-later : (b : Bits) → inStep s (a ++ b) ≡ later (length a) (inStep (holding s a) b)
+  step-later b = ⊎-elim (λ t. on (ltb-true (length b) (missing (holding s a)) t))
+      (λ t. complete (ltb-false (length b) (missing (holding s a)) t)) (either (ltb (length b) (missing (holding s a))))
+    where
+      on : length b < missing (holding s a) → inStep s (a ++ b) ≡ later (length a) (inStep (holding s a) b)
+      on l =
+          step-on s (a ++ b) (omega (arith, length-append a b))
+          ∙ ap₂ (λ (n : ℕ) (t : Receiver). record { rule = unfinished; row = []; used = n; state = t })
+          (length-append a b) (sym (holding-again s array a room b))
+          ∙ ap (later (length a)) (sym (step-on (holding s a) b l))
+
+      complete : missing (holding s a) ≤ length b → inStep s (a ++ b) ≡ later (length a) (inStep (holding s a) b)
+      complete l =
+          let n : missing s ≡ length a + missing (holding s a) = omega arith in
+          let row : Bits = finishedRow (holding s a) b in
+          let rule : Rule = judge (s .setup .k) (s .taken) (s .ended) row in
+          step-done s (a ++ b) (omega (arith, length-append a b))
+          ∙ ap₂ (λ (x : Bits) (m : ℕ). stops s (judge (s .setup .k) (s .taken) (s .ended) x) x m)
+          (sym (finishedRow-again s array a room b (omega arith))) n
+          ∙ ap (λ (t : Receiver). record { rule = rule; row = row; used = length a + missing (holding s a); state = t })
+          (sym (after-holding s a (judged (s .setup .k) (s .taken) (s .ended) row)))
+          ∙ ap (later (length a)) (sym (step-done (holding s a) b l))
+
+-- a block is complete, and bits behind it change nothing
+pub step-within : (s : Receiver) (a b : Bits) → missing s ≤ length a → inStep s (a ++ b) ≡ inStep s a
+step-within s a b h =
+    step-done s (a ++ b) (omega (arith, length-append a b))
+    ∙ ap (λ (x : Bits). stops s (judge (s .setup .k) (s .taken) (s .ended) (heldBits s ++ x)) (heldBits s ++ x) (missing s))
+    (take-append-le (missing s) a b h)
+    ∙ sym (step-done s a h)
+
+-- a rule that uses all bits stores nothing, and reads no block
+pub quiet-rule : (x : Rule) → usesAll x ≡ true → (meaning x .stores ≡ false) × (meaning x .data-or-end ≡ false)
+quiet-rule unfinished e = (refl, refl)
+quiet-rule (standing alarm) e = (refl, refl)
+quiet-rule found e = absurd (false≢true e)
+quiet-rule sync-block e = absurd (false≢true e)
+quiet-rule check-fails e = absurd (false≢true e)
+quiet-rule accepts e = absurd (false≢true e)
+quiet-rule previous e = absurd (false≢true e)
+quiet-rule out-of-sequence e = absurd (false≢true e)
+quiet-rule (ends L) e = absurd (false≢true e)
+quiet-rule wrong-length e = absurd (false≢true e)
+quiet-rule ends-again e = absurd (false≢true e)
+quiet-rule anything-else e = absurd (false≢true e)
+
+pub judged-event : {x : Rule} → Judged x → usesAll x ≡ false
+judged-event as-sync = refl
+judged-event fails = refl
+judged-event {x} (as-data h) =
+    ⊎-elim (λ q. absurd (false≢true (sym (quiet-rule x q .1) ∙ h))) (λ q. q) (either (usesAll x))
+judged-event as-other = refl

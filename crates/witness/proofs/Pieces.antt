@@ -1,0 +1,73 @@
+-- Bits of two blocks lent in pieces, and in one call, each computed at k 240. Assumes nothing.
+use mathlib.Core.Path.{_≡_, refl}
+use mathlib.Core.Bool.{true, false}
+use mathlib.Core.List.{List, [], _∷_, _++_}
+use Prim.Native.Nat.{ℕ}
+use lib.ListN.{take, drop, replicate}
+use Rattle.crc.specs.Bits.{Bits, binary, number, bitsOf, bytesOf, zeros}
+use Rattle.crc.specs.Check.{remainder, passes, check}
+use Rattle.block.specs.Answer.{done}
+use Rattle.block.specs.Lengths.{isLength}
+use Rattle.block.specs.Block.{blockBits, verdict, syncBlock}
+use Rattle.line.specs.Order.{letter, letterA, letterB, isLetter}
+use Rattle.line.specs.Receiving.{freshReceiver, noBytes, unfinished, found, accepts, place, serviceRule, looksSync, judge, blank, Reading, searching, inStep, readings, receiverInRange, receive, storeAt}
+use Rattle.line.specs.Pieces.{Piece, call}
+use Rattle.line.specs.declared.receiver.Receiver.{Receiver}
+use Rattle.line.specs.declared.receiver.Phase.the-variants as P
+use Rattle.line.proofs.Delivery.Holding.{length-noBytes}
+use Rattle.line.proofs.Pieces.{pieces}
+
+abbrev block : ℕ → Bits
+block service = blockBits (binary 4 service) (zeros 240)
+
+-- ---- in search: the end of a data block and 20 bits of the synchronising block behind it, then the rest of that
+
+abbrev searches : Receiver
+searches = blank (freshReceiver 240) 0 true 2 false P.Search
+
+abbrev earlier : Bits
+earlier = drop 200 (block letterB) ++ take 20 (syncBlock 240)
+
+abbrev window : Bits
+window = drop 65 earlier
+
+abbrev passed : Reading
+passed = record { rule = unfinished; row = []; used = 80; state = searching searches window }
+
+abbrev all : List ℕ
+all = bytesOf 40 (earlier ++ drop 20 (syncBlock 240))
+
+abbrev rest : List ℕ
+rest = bytesOf 30 (drop 20 (syncBlock 240))
+
+-- found at the last bit
+pub search-split : receive searches all 320 []
+    ≡ done (record { rule = found; row = []; used = 320; state = blank searches 0 false 2 false P.InStep })
+unfolding receive receiverInRange readings blockBits syncBlock check remainder number binary bitsOf bytesOf noBytes freshReceiver isLength
+search-split = pieces .two searches [] (bytesOf 10 earlier) rest all 80 240 passed length-noBytes refl refl refl
+
+-- ---- in step: 100 bits of a data block, its other 160, and 40 bits of the block behind it, which are not looked at
+
+abbrev stepping : Receiver
+stepping = blank (freshReceiver 240) 0 false 0 false P.InStep
+
+abbrev first : Piece
+first = record { line = bytesOf 13 (take 100 (block letterA)); count = 100 }
+
+abbrev further : List Piece
+further =
+    record { line = bytesOf 20 (drop 100 (block letterA)); count = 160 }
+    ∷ record { line = bytesOf 5 (take 40 (block letterB)); count = 40 }
+    ∷ []
+
+abbrev joint : List ℕ
+joint = bytesOf 38 (block letterA ++ take 40 (block letterB))
+
+-- accepted and stored at the block's last bit
+pub step-split : call stepping (replicate 30 255) (record { line = joint; count = 300 })
+    ≡ record {
+      answer = done (record { rule = accepts; row = block letterA; used = 260; state = blank stepping 0 false 1 false P.InStep });
+      store = replicate 30 0;
+    }
+unfolding receive receiverInRange readings inStep judge looksSync verdict passes remainder check blockBits serviceRule place letter isLetter number binary bitsOf bytesOf noBytes freshReceiver isLength storeAt
+step-split = pieces .any stepping (replicate 30 255) joint first further length-noBytes refl refl
