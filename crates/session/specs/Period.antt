@@ -28,6 +28,8 @@ use Rattle.session.specs.declared.period.Outcome.the-variants as O
 use Rattle.session.specs.declared.period.Period.{Period}
 use Rattle.session.specs.declared.period.Reading as Shown
 use Rattle.session.specs.declared.period.Reading.the-variants as R
+use Rattle.session.specs.declared.period.Sending.{Sending}
+use Rattle.session.specs.declared.period.Sending.the-variants as W
 
 -- ---- the line between the ends: t undisturbed, f the reading turned over, d the block's first bit inverted
 
@@ -107,6 +109,10 @@ ifUsed used reading = cond used (R.Used reading) R.Ignored
 abbrev pub shownReading : S.Block → Bool → Shown.Reading
 shownReading S.synchronising reading = R.Ignored
 shownReading (S.item i end used cancelled) reading = ifUsed used reading
+
+abbrev pub shownSending : Answer S.Block → Bool → Sending
+shownSending (refused n) reading = W.Refused n
+shownSending (done b) reading = W.Sent (shownBlock b) (shownReading b reading)
 
 abbrev pub lineOf : Block → Shown.Reading → Bool → Last → Outcome
 lineOf block reading back (L.Refused n) = O.Refused n

@@ -3,8 +3,9 @@ ghost use mathlib.Core.Path.{_≡_};
 ghost use Prim.Native.Nat.{_<_};
 ghost use lib.ListN.{length, take};
 ghost use Rattle.crc.specs.Bits.{bitsOf};
+ghost use Rattle.line.specs.Sending.{sentAnswer};
 ghost use Rattle.session.specs.Period as P;
-ghost use Rattle.session.specs.Period.{Lent, readingOf, arriving, disturbed, later, ifUsed, heardCourse, RunPeriod};
+ghost use Rattle.session.specs.Period.{Lent, readingOf, arriving, disturbed, later, ifUsed, shownSending, heardCourse, RunPeriod};
 use crate::shift::drop_bits;
 use line::receiver::Event;
 use line::receiver::Received;
@@ -51,6 +52,12 @@ pub struct Line {
 pub enum Outcome {
     Refused(u8),
     Line(Line),
+}
+
+// How the sending call of a period ended, its block and reading as they are shown.
+pub enum Sending {
+    Refused(u8),
+    Sent { block: Block, reading: Reading },
 }
 
 // How the receiving calls of a period ended.
@@ -102,6 +109,31 @@ fn shown_reading(used: bool, reading: bool) -> Reading
         Reading::Used(reading)
     } else {
         Reading::Ignored
+    }
+}
+
+fn shown_sending(answer: Sent, reading: bool) -> Sending
+    ensures { λ r. ⌜ r ≡ shownSending (sentAnswer answer) reading ⌝ }
+{
+    match answer {
+        Sent::Refused(number) => Sending::Refused(number),
+        Sent::Synchronising => Sending::Sent {
+            block: Block::Synchronising,
+            reading: Reading::Ignored,
+        },
+        Sent::Item {
+            number,
+            end,
+            used,
+            cancelled,
+        } => Sending::Sent {
+            block: Block::Item {
+                number,
+                end,
+                cancelled,
+            },
+            reading: shown_reading(used, reading),
+        },
     }
 }
 
@@ -206,41 +238,20 @@ pub fn run_period(
     let step = sender.send(order, reading, &mut line);
     let next = step.state;
     let answer = step.answer;
-    match answer {
-        Sent::Refused(number) => Period {
+    let sending = shown_sending(answer, reading);
+    match sending {
+        Sending::Refused(number) => Period {
             sender: next,
             receiver,
             outcome: Outcome::Refused(number),
         },
-        Sent::Synchronising => {
-            heard_period(
-                kind,
-                next,
-                receiver,
-                Block::Synchronising,
-                Reading::Ignored,
-                &mut line,
-                setup.k + OVERHEAD,
-                store,
-            )
-        }
-        Sent::Item {
-            number,
-            end,
-            used,
-            cancelled,
-        } => {
-            let block = Block::Item {
-                number,
-                end,
-                cancelled,
-            };
+        Sending::Sent { block, reading } => {
             heard_period(
                 kind,
                 next,
                 receiver,
                 block,
-                shown_reading(used, reading),
+                reading,
                 &mut line,
                 setup.k + OVERHEAD,
                 store,

@@ -10,31 +10,24 @@ enum-told c = search needs
 enum-told-2 : tie.Need-enum-told-2
 enum-told-2 c = search needs
 
--- src/period.rt:144:23
 enum-told-3 : tie.Need-enum-told-3
 enum-told-3 c = search needs
 
--- src/period.rt:144:23
 slice-read-line : tie.Need-slice-read-line
 slice-read-line c = search needs
 
--- src/period.rt:144:13
 slice-write-line : tie.Need-slice-write-line
 slice-write-line c = search needs
 
--- src/period.rt:136:1
 returns : tie.Need-returns
 returns c = search needs
 
--- src/period.rt:136:1
 returns-2 : tie.Need-returns-2
 returns-2 c = search needs
 
--- src/period.rt:136:1
 same-length : tie.Need-same-length
 same-length c = search needs
 
--- src/period.rt:136:1
 returns-3 : tie.Need-returns-3
 returns-3 c = rw (c .before .enum-told3 .given .1)
 

@@ -21,27 +21,21 @@ Inv-loop line₀ count store₀ state₀ left₀ last₀ line store state left l
 abbrev μ-loop : tie.MeasureT-loop
 μ-loop line₀ count store₀ state₀ left₀ last₀ line store state left last = left
 
--- src/period.rt:109:5
 loop-holds : tie.Need-loop-holds Inv-loop μ-loop
 loop-holds c = (c .before .before .pre, refl, refl, refl)
 
--- src/period.rt:110:13
 receive-requires : tie.Need-receive-requires Inv-loop μ-loop
 receive-requires c κs = tt
 
--- src/period.rt:114:31
 enum-known-answer : tie.Need-enum-known-answer Inv-loop μ-loop
 enum-known-answer c = search needs
 
--- src/period.rt:115:17
 same-length : tie.Need-same-length Inv-loop μ-loop
 same-length c = c .before .before .before .before .before .before .before .before .before .before .loop .inv .1
 
--- src/period.rt:115:17
 same-length-2 : tie.Need-same-length-2 Inv-loop μ-loop
 same-length-2 c = c .before .before .before .before .before .before .receive .kept .1 .1 .1 .0 ∙ c .before .before .before .before .before .before .before .before .before .before .loop .inv .2
 
--- src/period.rt:115:17
 returns : tie.Need-returns Inv-loop μ-loop
 returns c =
     let l = c .before .before .before .before .before .before .before .before .before .before .loop in
@@ -52,19 +46,15 @@ returns c =
     let e = sym g ∙ l .inv .3 in
     (ap (λ (h : Hearing). h .heard) e, ap (λ (h : Hearing). h .store) e)
 
--- src/period.rt:120:30
 enum-known-answer-2 : tie.Need-enum-known-answer-2 Inv-loop μ-loop
 enum-known-answer-2 c = search needs
 
--- src/period.rt:121:17
 later-of-requires : tie.Need-later-of-requires Inv-loop μ-loop
 later-of-requires c κs = tt
 
--- src/period.rt:122:17
 drop-bits-requires : tie.Need-drop-bits-requires Inv-loop μ-loop
 drop-bits-requires c κs = tt
 
--- src/period.rt:123:17
 sub-left : tie.Need-sub-left Inv-loop μ-loop
 sub-left c =
     let l = c .before .before .before .before .before .before .before .before .before .before .before .before .before .before .before .loop in
@@ -74,7 +64,6 @@ sub-left c =
     (c .before .before .before .before .before .before .before .before .before .before .before .before .before .before .loop-test .taken) (r .ensures) _ _ (c .before .before .before .before .before .before .answer2 .given .1) in
     m .uses .1
 
--- src/period.rt:109:5
 loop-less : tie.Need-loop-less Inv-loop μ-loop
 loop-less c =
     let l = c .before .before .before .before .before .before .before .before .before .before .before .before .before .before .before .loop in
@@ -84,7 +73,6 @@ loop-less c =
     (c .before .before .before .before .before .before .before .before .before .before .before .before .before .before .loop-test .taken) (r .ensures) _ _ (c .before .before .before .before .before .before .answer2 .given .1) in
     omega (arith, m .uses .0, m .uses .1)
 
--- src/period.rt:109:5
 loop-again : tie.Need-loop-again Inv-loop μ-loop
 loop-again c =
     let l = c .before .before .before .before .before .before .before .before .before .before .before .before .before .before .before .loop in
@@ -99,15 +87,12 @@ loop-again c =
       rw (d .ensures, c .before .before .before .before .later-of .ensures) (sym (m .goes-on) ∙ l .inv .3),
     )
 
--- src/period.rt:101:1
 same-length-3 : tie.Need-same-length-3 Inv-loop μ-loop
 same-length-3 c = c .before .loop .inv .1
 
--- src/period.rt:101:1
 same-length-4 : tie.Need-same-length-4 Inv-loop μ-loop
 same-length-4 c = c .before .loop .inv .2
 
--- src/period.rt:101:1
 returns-2 : tie.Need-returns-2 Inv-loop μ-loop
 unfolding hear
 returns-2 c =
