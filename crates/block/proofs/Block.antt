@@ -1,7 +1,7 @@
 -- The block as a row: its length and parts, that it passes, that the synchronising block fails, and what cancelling inverts.
 -- Assumes nothing.
 use mathlib.Core.Path.{_≡_, refl, sym, ap, ap₂, _∙_}
-use mathlib.Core.Bool.{Bool, true, false, not}
+use mathlib.Core.Bool.{Bool, true, false, not, Bool·not-not}
 use mathlib.Core.List.{[], _∷_, _++_, append-assoc}
 use Prim.Native.Nat.{ℕ, zero, suc, _+_, _-_, _*_, _/_, _<_}
 use native.Mathlib.Omega.{arith}
@@ -10,7 +10,7 @@ use lib.ListN.{length, take, drop, length-append}
 use lib.Seq.{take-at, drop-at}
 use Rattle.crc.specs.Bits.{Bits, zeros, binary, xor, xorBits}
 use Rattle.crc.specs.Check.{check, remainder, passes}
-use Rattle.crc.proofs.Rows.{length-binary}
+use Rattle.crc.proofs.Rows.{length-binary, xor-bits-self}
 use Rattle.crc.proofs.Codeword.{passes-checked}
 use Rattle.block.specs.Lengths.{isLength, blockLength}
 use Rattle.block.specs.Block.{blockBits, serviceOf, payloadOf, tens, serviceSync, syncSequence, syncBlock, cancelled}
@@ -87,27 +87,19 @@ xor-not : (b : Bool) → xor (not b) b ≡ true
 xor-not true = refl
 xor-not false = refl
 
-xor-same : (b : Bool) → xor b b ≡ false
-xor-same true = refl
-xor-same false = refl
-
 pub cancelled-last : (b : Bits) → 0 < length b → xorBits (cancelled b) b ≡ zeros (length b - 1) ++ true ∷ []
 unfolding cancelled xorBits
 cancelled-last [] h = absurd (omega arith)
 cancelled-last (b ∷ []) h = ap (λ (x : Bool). x ∷ []) (xor-not b)
 cancelled-last (b ∷ c ∷ bs) h =
     let e : suc (suc (length bs)) - 1 ≡ suc (suc (length bs) - 1) = omega arith in
-    ap₂ (λ (x : Bool) (l : Bits). x ∷ l) (xor-same b) (cancelled-last (c ∷ bs) (omega arith))
+    ap₂ (λ (x : Bool) (l : Bits). x ∷ l) (xor-bits-self b) (cancelled-last (c ∷ bs) (omega arith))
     ∙ ap (λ (n : ℕ). zeros n ++ true ∷ []) (sym e)
-
-not-not : (b : Bool) → not (not b) ≡ b
-not-not true = refl
-not-not false = refl
 
 pub cancelled-cancelled : (b : Bits) → cancelled (cancelled b) ≡ b
 unfolding cancelled
 cancelled-cancelled [] = refl
-cancelled-cancelled (b ∷ []) = ap (λ (x : Bool). x ∷ []) (not-not b)
+cancelled-cancelled (b ∷ []) = ap (λ (x : Bool). x ∷ []) (Bool·not-not b)
 cancelled-cancelled (b ∷ c ∷ bs) =
     cancelled-cons b (cancelled (c ∷ bs)) (omega (arith, length-cancelled (c ∷ bs)))
     ∙ ap (λ (l : Bits). b ∷ l) (cancelled-cancelled (c ∷ bs))

@@ -8,19 +8,12 @@ use native.Mathlib.Omega.{arith}
 use borrow.Author.Tests.{eqb-true, leb-true}
 use lib.Dec.{eqb, leb}
 use Rattle.block.specs.Lengths.{lengths, among, isLength}
+use Rattle.block.proofs.Truth.{and-left, and-right}
 
 -- a test that holds of each number of a list
 abbrev pub each : (ℕ → Bool) → List ℕ → Bool
 each test [] = true
 each test (l ∷ ls) = test l && each test ls
-
-and-left : (a b : Bool) → a && b ≡ true → a ≡ true
-and-left true b h = refl
-and-left false b h = h
-
-and-right : (a b : Bool) → a && b ≡ true → b ≡ true
-and-right true b h = h
-and-right false b h = absurd (let z : _≡_ {A = ℕ} 0 1 = cc in omega arith)
 
 one-of : (test : ℕ → Bool) (l : ℕ) (b : Bool) (k : ℕ) (hit : Bool) → eqb k l ≡ hit → test l && b ≡ true
     → (hit ≡ false → b ≡ true → test k ≡ true) → test k ≡ true

@@ -1,3 +1,4 @@
+pub mod Truth
 pub mod Lengths
 pub mod Block
 pub mod Packing

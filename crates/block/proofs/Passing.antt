@@ -18,7 +18,7 @@ use Rattle.block.specs.Block.{serviceOf, Verdict, passed, failed, verdic
 use Rattle.block.specs.Calls.{tooShort, readBlock, ReadBlock}
 use Rattle.block.specs.declared.Read.{Read}
 use Rattle.block.specs.declared.Read.the-variants as R
-use Rattle.block.proofs.RoundTrip.{refuseIf-done}
+use Rattle.block.proofs.RoundTrip.{passed-test}
 
 -- what the verdict says of the check
 verdict-passed : (t : Bool) (n s : ℕ) → cond t (passed n) failed ≡ passed s → t ≡ true
@@ -37,8 +37,8 @@ module _ (k : ℕ) (slice payload payload′ : List ℕ) where
   verdict-row : (v : Verdict) → readBlock k slice payload ≡ done v → verdict row ≡ v
   unfolding readBlock
   verdict-row v e =
-      let t1 = refuseIf-done (not (isLength k)) A.block _ v e in
-      let t2 = refuseIf-done (tooShort slice (blockLength k) || tooShort payload k) A.short (done (verdict row)) v (t1 .1) in
+      let t1 = passed-test (not (isLength k)) A.block _ v e in
+      let t2 = passed-test (tooShort slice (blockLength k) || tooShort payload k) A.short (done (verdict row)) v (t1 .1) in
       let q : done (verdict row) ≡ done v = t2 .1 in
       cc
 

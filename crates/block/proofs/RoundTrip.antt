@@ -22,6 +22,7 @@ use Rattle.block.specs.declared.Read.the-variants as R
 use Rattle.block.proofs.Lengths.{length-facts, length-bytes}
 use Rattle.block.proofs.Block.{length-blockBits, passes-blockBits, service-blockBits, payload-blockBits}
 use Rattle.block.proofs.Refusals.{read-done}
+use Rattle.block.proofs.Truth.{or-false}
 
 -- a part of bytes is bytes
 take-lt : (n : ℕ) (s : List ℕ) → ((i : ℕ) → getD s i 0 < 256) → (i : ℕ) → getD (take n s) i 0 < 256
@@ -113,14 +114,10 @@ module _ (k service : ℕ) (payload slice room : List ℕ) (known : isLength k �
 
 -- ---- the same on the promises of the two calls
 
-or-false : (a b : Bool) → a || b ≡ false → (a ≡ false) × (b ≡ false)
-or-false true b h = absurd (let z : _≡_ {A = ℕ} 0 1 = cc in omega arith)
-or-false false b h = (refl, h)
-
 -- a call that is done passed its test
-pub refuseIf-done : {X : Type 0} (t : Bool) (n : ℕ) (next : Answer X) (x : X) → refuseIf t n next ≡ done x → (t ≡ false) × (next ≡ done x)
-refuseIf-done true n next x h = absurd (let z : _≡_ {A = ℕ} 0 1 = cc in omega arith)
-refuseIf-done false n next x h = (refl, h)
+pub passed-test : {X : Type 0} (t : Bool) (n : ℕ) (next : Answer X) (x : X) → refuseIf t n next ≡ done x → (t ≡ false) × (next ≡ done x)
+passed-test true n next x h = absurd (let z : _≡_ {A = ℕ} 0 1 = cc in omega arith)
+passed-test false n next x h = (refl, h)
 
 passed-answer : (answer : Read) (s : ℕ) → readAnswer answer ≡ done (passed s) → answer ≡ R.Passed s
 passed-answer (R.Passed x) s h = cc
@@ -134,9 +131,9 @@ pub built-read : (k service : ℕ) (payload slice slice′ room room′ : List �
 unfolding buildBlock
 built-read k service payload slice slice′ room room′ answer b built read space =
     let d : buildBlock k service payload slice ≡ done tt = sym (built .answers) in
-    let t1 = refuseIf-done (not (isLength k)) A.block _ tt d in
-    let t2 = refuseIf-done (ltb 15 service) A.spoiled _ tt (t1 .1) in
-    let t3 = refuseIf-done (tooShort payload k || tooShort slice (blockLength k)) A.short (done tt) tt (t2 .1) in
+    let t1 = passed-test (not (isLength k)) A.block _ tt d in
+    let t2 = passed-test (ltb 15 service) A.spoiled _ tt (t1 .1) in
+    let t3 = passed-test (tooShort payload k || tooShort slice (blockLength k)) A.short (done tt) tt (t2 .1) in
     let t4 = or-false (tooShort payload k) (tooShort slice (blockLength k)) (t3 .0) in
     let known : isLength k ≡ true = not-false (isLength k) (t1 .0) in
     let small : service ≤ 15 = ltb-false 15 service (t2 .0) in

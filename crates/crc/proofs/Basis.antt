@@ -30,11 +30,11 @@ abbrev sameOn : (ℕ → ℕ) → (ℕ → ℕ) → ℕ → Bool
 sameOn f h zero = eqb (f 0) (h 0)
 sameOn f h (suc k) = eqb (f (2 ^ k)) (h (2 ^ k)) && sameOn f h k
 
-and-left : (a b : Bool) → T (a && b) → T a
+pub and-left : (a b : Bool) → T (a && b) → T a
 and-left true b t = tt
 and-left false b t = t
 
-and-right : (a b : Bool) → T (a && b) → T b
+pub and-right : (a b : Bool) → T (a && b) → T b
 and-right true b t = t
 and-right false b t = absurd t
 

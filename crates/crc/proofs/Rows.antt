@@ -41,7 +41,7 @@ pub xor-bits-false : (a : Bool) → xor a false ≡ a
 xor-bits-false false = refl
 xor-bits-false true = refl
 
-xor-bits-self : (a : Bool) → xor a a ≡ false
+pub xor-bits-self : (a : Bool) → xor a a ≡ false
 xor-bits-self false = refl
 xor-bits-self true = refl
 

@@ -11,6 +11,7 @@ use Rattle.block.specs.Answer as A
 use Rattle.block.specs.Answer.{refused}
 use Rattle.block.specs.Lengths.{isLength, blockLength}
 use Rattle.block.specs.Calls.{tooShort}
+use Rattle.block.proofs.Truth.{and-left, and-right}
 use Rattle.line.specs.Order.{mostItems}
 use Rattle.line.specs.Receiving as S
 use Rattle.line.specs.Receiving.{meaning, standing, stands, Reading, idleRule, idle, reading, readings, lastBad, heldInRange, receiverInRange, judgeStore, receive, reported, receiveState, receiveStore, Receive}
@@ -21,7 +22,6 @@ use Rattle.line.specs.declared.receiver.Phase.the-variants as P
 use Rattle.line.specs.declared.receiver.Event.{Event}
 use Rattle.line.specs.declared.receiver.Received.the-variants as R
 use Rattle.line.specs.declared.receiver.Step.{Step}
-use Rattle.line.proofs.Items.{and-left, and-right}
 use Rattle.line.proofs.Handing.{handed-plain}
 use Rattle.line.proofs.Searching.{search-stores}
 

@@ -1,5 +1,4 @@
 -- The proof of demand 3, in layers: the two ends block by block, what a block does to the receiver, one call, the whole list.
-pub mod Tests
 pub mod Ends
 pub mod Invariant
 pub mod Progress

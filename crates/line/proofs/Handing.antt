@@ -1,6 +1,6 @@
 -- What is handed back where a block is complete: the rule that reads it, the reader's answer, and the store. Assumes nothing.
 use mathlib.Core.Path.{_≡_, refl, sym, ap, _∙_, subst}
-use mathlib.Core.Bool.{Bool, true, false, _||_}
+use mathlib.Core.Bool.{Bool, true, false, _||_, or-false}
 use mathlib.Core.List.{List, [], _∷_, _++_, append-nil}
 use mathlib.Core.Logic.{⊎-elim}
 use Prim.Native.Nat.{ℕ, _+_, _-_, _*_, _/_, _≤_}
@@ -40,11 +40,7 @@ handed-plain s store x e = record { answers = rw e; state = rw e; writes = sym (
 -- a block whose check fails is never a reason of itself to search
 pub handed-bad : (s : Receiver) (used : ℕ)
     → stepped (badly s (leb lastBad (s .row + 1) || false)) E.Bad used ≡ handedBack (stops s check-fails [] used)
-handed-bad s used = ap (λ (t : Bool). stepped (badly s t) E.Bad used) (or-none (leb lastBad (s .row + 1)))
-  where
-    or-none : (t : Bool) → t || false ≡ t
-    or-none true = refl
-    or-none false = refl
+handed-bad s used = ap (λ (t : Bool). stepped (badly s t) E.Bad used) (or-false (leb lastBad (s .row + 1)))
 
 -- every rule of the code but the first stores nothing
 pub stores-nothing : (r : D.Rule) → OneOf (1 ∷ 2 ∷ 3 ∷ 4 ∷ 5 ∷ 6 ∷ []) (tagOf code.the-type r) → meaning (ruleOf r) .stores ≡ false

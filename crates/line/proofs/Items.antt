@@ -1,7 +1,7 @@
 -- Laws of the order as items: the number of items, the lengths of their parts, and their service bits. Assumes nothing.
 use mathlib.Core.Path.{_≡_, refl, ap, ap₂, sym, _∙_}
 use mathlib.Core.Logic.{_≢_}
-use mathlib.Core.Bool.{Bool, true, false, cond, not, _&&_, _||_}
+use mathlib.Core.Bool.{Bool, true, false, cond, not, _||_}
 use mathlib.Core.List.{List, _++_}
 use Prim.Native.Nat.{ℕ, zero, suc, _+_, _-_, _*_, _%_, _≤_, _<_}
 use native.Mathlib.Nat.{div-mul-le-self, lt-div-mul-add, mul-le-mul, mul-le-mul-right, le-div-iff-mul-le}
@@ -18,18 +18,9 @@ use Rattle.block.specs.Lengths.{isLength, blockLength}
 use Rattle.block.specs.Block.{blockBits, serviceOf, payloadOf}
 use Rattle.block.proofs.Lengths.{length-facts}
 use Rattle.block.proofs.Block.{length-blockBits, passes-blockBits, service-blockBits, payload-blockBits}
+use Rattle.block.proofs.Truth.{and-left, and-right}
 use Rattle.line.proofs.Table.{at-cell}
 use Rattle.line.specs.Order.{longestOrder, mostItems, validLength, itemCount, letter, third, endService, isLetter, orderBits, filled, version, endPayload, isData, itemService, itemPayload, itemBits}
-
--- ---- tests
-
-pub and-left : (a b : Bool) → a && b ≡ true → a ≡ true
-and-left true b h = refl
-and-left false b h = h
-
-pub and-right : (a b : Bool) → a && b ≡ true → b ≡ true
-and-right true b h = h
-and-right false b h = absurd (let z : _≡_ {A = ℕ} 0 1 = cc in omega arith)
 
 -- ---- the number of items
 

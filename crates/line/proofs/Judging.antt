@@ -1,6 +1,6 @@
 -- Laws of the judging of a finished block: the numbers that its bytes hold, and rule 6. Assumes nothing.
 use mathlib.Core.Path.{_≡_, refl, sym, ap, ap₂, _∙_}
-use mathlib.Core.Bool.{Bool, true, false, _&&_}
+use mathlib.Core.Bool.{Bool, true, false, _&&_, and-false}
 use mathlib.Core.List.{List, [], _∷_, _++_}
 use Prim.Native.Nat.{ℕ, _+_, _*_, _/_, _^_, _≤_, _<_}
 use native.Mathlib.Nat.{mod-eq-of-lt}
@@ -61,10 +61,6 @@ module _ (s : List ℕ) (h : 5 ≤ length s) (b : getD s 0 0 < 256) where
   version-not e = ne-eqb (number (take 8 (bitsOf s))) version (λ q. e (sym first-byte ∙ q))
 
 -- ---- rule 6: the version read, its length against the items taken
-
-and-false : (a : Bool) → a && false ≡ false
-and-false true = refl
-and-false false = refl
 
 module _ (k r L : ℕ) where
   pub length-zero : L ≡ 0 → lengthRule k r true L ≡ wrong-length

@@ -25,7 +25,9 @@ use Rattle.line.specs.declared.sender.Opened.the-variants as O
 use Rattle.line.specs.declared.sender.Sent.the-variants as W
 use Rattle.line.specs.declared.sender.Step.{Step}
 use Rattle.block.proofs.Lengths.{length-facts}
-use Rattle.line.proofs.Items.{and-left, and-right, valid-length, itemCount-pos}
+use Rattle.block.proofs.Truth.{and-left, and-right, or-false}
+use Rattle.block.proofs.RoundTrip.{passed-test}
+use Rattle.line.proofs.Items.{valid-length, itemCount-pos}
 
 -- ---- what the range says
 
@@ -65,17 +67,6 @@ range-in s r =
       le-leb (s .newer) (senderItems s + 1) (r .last),
       le-leb (s .run) lastRun (r .cancels),
     )
-
--- ---- a refusal test
-
-pub passed-test : {A : Type 0} (t : Bool) (n : ℕ) (next : Answer A) (a : A) → refuseIf t n next ≡ done a
-    → (t ≡ false) × (next ≡ done a)
-passed-test true n next a e = absurd (let z : _≡_ {A = ℕ} 0 1 = cc in omega arith)
-passed-test false n next a e = (refl, e)
-
-pub or-false : (a b : Bool) → a || b ≡ false → (a ≡ false) × (b ≡ false)
-or-false true b h = absurd (let z : _≡_ {A = ℕ} 0 1 = cc in omega arith)
-or-false false b h = (refl, h)
 
 -- ---- opening
 

@@ -1,6 +1,6 @@
 -- Laws of tables: a computed test over all cells holds at each, and a number's place in a list. Assumes nothing.
 use mathlib.Core.Path.{_≡_, refl, sym, _∙_}
-use mathlib.Core.Bool.{Bool, true, false, cond, _||_}
+use mathlib.Core.Bool.{Bool, true, false, cond, _&&_, _||_}
 use mathlib.Core.List.{List, [], _∷_}
 use Prim.Native.Nat.{ℕ, zero, suc, _<_}
 use native.Mathlib.Nat.{le-of-suc-le-suc, not-suc-le-zero}
@@ -8,32 +8,21 @@ use native.Mathlib.Omega.{arith}
 use borrow.Author.Tests.{eqb-true, lt-ltb}
 use lib.Dec.{T, eqb, ltb, leb·suc-suc}
 use lib.ListN.{length, getD}
+use Rattle.crc.proofs.Basis.{and-left, and-right}
 use Rattle.block.specs.Lengths.{among}
 use Rattle.line.specs.Code.Table.{place}
 
 -- ---- a test of each number below a bound
 
-abbrev pub both : Bool → Bool → Bool
-both true b = b
-both false b = false
-
-both-left : (a b : Bool) → T (both a b) → T a
-both-left true b t = tt
-both-left false b t = t
-
-both-right : (a b : Bool) → T (both a b) → T b
-both-right true b t = t
-both-right false b t = absurd t
-
 abbrev pub every : (ℕ → Bool) → ℕ → Bool
 every f zero = true
-every f (suc n) = both (f 0) (every (λ k. f (suc k)) n)
+every f (suc n) = f 0 && every (λ k. f (suc k)) n
 
 pub at : (f : ℕ → Bool) (n : ℕ) → T (every f n) → (k : ℕ) → k < n → T (f k)
 at f zero t k h = absurd (not-suc-le-zero h)
-at f (suc n) t zero h = both-left (f 0) (every (λ k. f (suc k)) n) t
+at f (suc n) t zero h = and-left (f 0) (every (λ k. f (suc k)) n) t
 at f (suc n) t (suc k) h =
-    at (λ k. f (suc k)) n (both-right (f 0) (every (λ k. f (suc k)) n) t) k (le-of-suc-le-suc h)
+    at (λ k. f (suc k)) n (and-right (f 0) (every (λ k. f (suc k)) n) t) k (le-of-suc-le-suc h)
 
 -- a test of each cell, by row and column
 pub at-cell : (f : ℕ → ℕ → Bool) (rows columns : ℕ) → T (every (λ r. every (f r) columns) rows)

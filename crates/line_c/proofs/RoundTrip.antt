@@ -12,12 +12,12 @@ use lib.ListN.{length, drop, getD, length-append, length-drop, take-append-drop}
 use lib.Seq.{length-take-le, drop-drop, take-at}
 use Rattle.block.specs.Answer as A
 use Rattle.block.specs.Answer.{Answer, refused, done}
-use Rattle.line.proofs.Items.{and-left, and-right}
+use Rattle.block.proofs.Truth.{and-left, and-right}
+use Rattle.block.proofs.RoundTrip.{passed-test}
 use Rattle.line.specs.declared.sender.Sender.{Sender}
 use Rattle.line.specs.declared.sender.Next.{Next}
 use Rattle.line.specs.declared.sender.Next.the-variants as N
 use Rattle.line.specs.Sending.{openSender, Block, senderInRange, send, sendState}
-use Rattle.line.proofs.Sending.{passed-test}
 use Rattle.line_c.specs.SenderCalls.{senderOver, judgeState, openSenderIn, openedBytes, OpenSenderCall, SendCall}
 use Rattle.line.specs.Receiving.{arrayBytes, openReceiver, freshReceiver, Reading, receiverInRange, receive}
 use Rattle.line.specs.declared.receiver.Receiver.{Receiver}

@@ -9,7 +9,7 @@ use native.Mathlib.Omega.{arith}
 use lib.Dec.{ltb}
 use lib.ListN.{length, length-append}
 use borrow.Author.Tests.{lt-ltb, le-ltb, ltb-true, ltb-false}
-use Rattle.session.specs.Text.{decimalTo, decimal}
+use Rattle.session.specs.Text.{decimalTo, decimal, bitText}
 
 -- below a number or not
 pub below-or : (a b : ℕ) (t : Bool) → ltb a b ≡ t → (a < b) ⊎ (b ≤ a)
@@ -44,3 +44,8 @@ length-decimal (suc p) n h =
     let l : length (decimal (n / 10)) ≤ suc p = length-decimal p (n / 10) (omega arith) in
     rw (decimal-more n m, length-append) (omega arith))
     (below-or n 10 _ refl)
+
+-- a truth value is shown in one
+pub length-bit : (b : Bool) → length (bitText b) ≡ 1
+length-bit false = refl
+length-bit true = refl

@@ -1,8 +1,8 @@
 -- The reader over the bytes of a line keeps what the line says. Assumes nothing.
 use mathlib.Core.Path.{_≡_, refl, sym, ap, ap₂, _∙_}
-use mathlib.Core.Bool.{Bool, true, false, cond}
+use mathlib.Core.Bool.{true, false, cond}
 use mathlib.Core.List.{List, [], _∷_, _++_, append-assoc, append-nil}
-use mathlib.Core.Logic.{_⊎_, inl, inr, ⊎-elim}
+use mathlib.Core.Logic.{⊎-elim}
 use mathlib.Core.Option.{Option, none, some}
 use Prim.Native.Nat.{ℕ, suc, _+_, _*_, _%_, _≤_, _<_, min}
 use native.Mathlib.Nat.{mod-eq-of-lt}
@@ -12,15 +12,11 @@ use lib.Dec.{ltb}
 use lib.ListN.{length, take, set, length-set}
 use lib.Seq.{take-all, take-append-le, take-suc-set, take-nil, length-take-le}
 use borrow.Author.Tests.{ltb-true, ltb-false, lt-ltb, le-ltb}
+use Rattle.block.proofs.Truth.{either}
 use Rattle.session.specs.LineOne.{isBlank, isDecimal, isHex, decimalValue, hexValue, lineEnd, withByte, hexBytes, halfByte, orderField, Order, withLength, lengthField, lengthStart, Opening, withK, kField, lineOne, limit, keep, grown, nextAt, nextOrder, start, readAll}
 use Rattle.session.specs.declared.line_one.LineOne.{LineOne}
 use Rattle.session.specs.declared.line_one.Place.{Place}
 use Rattle.session.specs.declared.line_one.Place.the-variants as P
-
--- a test holds or not
-test : (t : Bool) → (t ≡ true) ⊎ (t ≡ false)
-test true = inl refl
-test false = inr refl
 
 abbrev state : Place → ℕ → ℕ → ℕ → LineOne
 state place k L n = record { place = place; k = k; length = L; kept = n }
@@ -65,8 +61,8 @@ module _ (k L : ℕ) where
     bytes-read n (c ∷ cs) order h =
         ⊎-elim (λ e. rw e (half-read n (hexValue c) cs order h (ltb-true _ _ e)))
         (λ e.
-        rw e (⊎-elim (λ b. rw b (trailed n cs order h)) (λ b. rw b (unreadable-stays n cs order)) (test (isBlank c))))
-        (test (isHex c))
+        rw e (⊎-elim (λ b. rw b (trailed n cs order h)) (λ b. rw b (unreadable-stays n cs order)) (either (isBlank c))))
+        (either (isHex c))
 
     half-read : (n high : ℕ) (rest order : List ℕ) → n ≤ length order → high < 16
         → readAll (state (P.Half high) k L n) rest order ≡ ended k L (length order) (take n order) (halfByte high rest)
@@ -83,8 +79,8 @@ module _ (k L : ℕ) where
         (bytes-read (n + 1) cs (set order n x) (rw m (omega (arith, ltb-true n (length order) r)))
         ∙ rw m (byte-kept n x order (hexBytes cs) (ltb-true _ _ r))))
         (λ (r : ltb n (length order) ≡ false). simp r (bytes-read n cs order h ∙ byte-lost n (high * 16 + hexValue c) order (hexBytes cs) h (ltb-false _ _ r)))
-        (test (ltb n (length order)))))
-        (λ e. rw e (unreadable-stays n cs order)) (test (isHex c))
+        (either (ltb n (length order)))))
+        (λ e. rw e (unreadable-stays n cs order)) (either (isHex c))
 
   order-read : (rest order : List ℕ)
       → readAll (state P.Order k L 0) rest order ≡ ended k L (length order) [] (orderField rest)
@@ -92,7 +88,7 @@ module _ (k L : ℕ) where
   order-read [] order = rw (take-nil (length order))
   order-read (c ∷ cs) order =
       ⊎-elim (λ e. rw e (half-read 0 (hexValue c) cs order (omega arith) (ltb-true _ _ e)))
-      (λ e. rw e (unreadable-stays 0 cs order)) (test (isHex c))
+      (λ e. rw e (unreadable-stays 0 cs order)) (either (isHex c))
 
 -- a number up to the limit grows as the number itself
 grown-limit : (m n digit : ℕ) → m ≡ min n limit → grown m digit ≡ min (n * 10 + digit) limit
@@ -117,15 +113,15 @@ length-read k L L₀ (c ∷ cs) order h =
     (λ e.
     rw e
     (⊎-elim (λ b. rw b (order-read k L cs order ∙ with-length k L L₀ (length order) (orderField cs) h))
-    (λ b. rw b (unreadable-stays k L 0 cs order)) (test (isBlank c))))
-    (test (isDecimal c))
+    (λ b. rw b (unreadable-stays k L 0 cs order)) (either (isBlank c))))
+    (either (isDecimal c))
 
 length-start : (k : ℕ) (rest order : List ℕ) → readAll (state P.Length k 0 0) rest order ≡ kept-order k (length order) (lengthStart rest)
 unfolding readAll nextAt nextOrder
 length-start k [] order = refl
 length-start k (c ∷ cs) order =
     ⊎-elim (λ e. rw e (length-read k (grown 0 (decimalValue c)) (decimalValue c) cs order (omega arith)))
-    (λ e. rw e (unreadable-stays k 0 0 cs order)) (test (isDecimal c))
+    (λ e. rw e (unreadable-stays k 0 0 cs order)) (either (isDecimal c))
 
 with-k : (k k₀ room : ℕ) (o : Option Order) → k ≡ min k₀ limit → kept-order k room o ≡ keep room (withK k₀ o)
 with-k k k₀ room none e = refl
@@ -140,8 +136,8 @@ k-read k k₀ (c ∷ cs) order h =
     (λ e.
     rw e
     (⊎-elim (λ b. rw b (length-start k cs order ∙ with-k k k₀ (length order) (lengthStart cs) h))
-    (λ b. rw b (unreadable-stays k 0 0 cs order)) (test (isBlank c))))
-    (test (isDecimal c))
+    (λ b. rw b (unreadable-stays k 0 0 cs order)) (either (isBlank c))))
+    (either (isDecimal c))
 
 -- the reader, over the bytes of any line, keeps what the line says
 pub line-one : (line order : List ℕ) → readAll start line order ≡ keep (length order) (lineOne line)
@@ -149,4 +145,4 @@ unfolding readAll nextAt nextOrder
 line-one [] order = refl
 line-one (c ∷ cs) order =
     ⊎-elim (λ e. rw e (k-read (grown 0 (decimalValue c)) (decimalValue c) cs order (omega arith)))
-    (λ e. rw e (unreadable-stays 0 0 0 cs order)) (test (isDecimal c))
+    (λ e. rw e (unreadable-stays 0 0 0 cs order)) (either (isDecimal c))

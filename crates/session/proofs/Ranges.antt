@@ -1,6 +1,6 @@
 -- The test whether a number lies in a range, by its two bounds. Assumes nothing.
-use mathlib.Core.Path.{_≡_, refl}
-use mathlib.Core.Bool.{Bool, true, false, _&&_}
+use mathlib.Core.Path.{_≡_}
+use mathlib.Core.Bool.{true, false, _&&_, and-false}
 use Prim.Native.Nat.{ℕ, _≤_, _<_}
 use lib.Dec.{leb}
 use borrow.Author.Tests.{le-leb, lt-leb}
@@ -12,8 +12,4 @@ pub below : (a b n : ℕ) → n < a → (leb a n && leb n b) ≡ false
 below a b n h = rw (lt-leb a n h)
 
 pub above : (a b n : ℕ) → b < n → (leb a n && leb n b) ≡ false
-above a b n h = both (leb a n) (leb n b) (lt-leb n b h)
-  where
-    both : (x y : Bool) → y ≡ false → (x && y) ≡ false
-    both true y e = e
-    both false y e = refl
+above a b n h = rw (lt-leb n b h) (and-false (leb a n))

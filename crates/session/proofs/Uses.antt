@@ -1,8 +1,8 @@
 -- How many bits a receiving call uses: at least one of those that it is lent, and no more. Assumes nothing.
 use mathlib.Core.Path.{_≡_, refl, sym, ap, subst, _∙_}
-use mathlib.Core.Bool.{Bool, true, false, cond, not, _&&_}
+use mathlib.Core.Bool.{Bool, true, not, _&&_}
 use mathlib.Core.List.{List, [], _∷_, _++_}
-use mathlib.Core.Logic.{_⊎_, inl, inr, ⊎-elim}
+use mathlib.Core.Logic.{⊎-elim}
 use Prim.Native.Nat.{ℕ, suc, _+_, _-_, _*_, _≤_, _<_}
 use native.Mathlib.Numerals.{add-one}
 use native.Mathlib.Omega.{arith}
@@ -16,8 +16,9 @@ use Rattle.block.specs.Answer as A
 use Rattle.block.specs.Answer.{Answer, refused, done, refuseIf}
 use Rattle.block.specs.Lengths.{isLength, blockLength}
 use Rattle.block.specs.Calls.{tooShort}
+use Rattle.block.proofs.RoundTrip.{passed-test}
+use Rattle.block.proofs.Truth.{either, cond-case, and-right}
 use Rattle.line.specs.Order.{mostItems}
-use Rattle.line.proofs.Sending.{passed-test}
 use Rattle.line.specs.Receiving.{Reading, latest, isSequence, search, missing, inStep, reading, readings, heldBits, heldInRange, receiverInRange, lastBad, meaning, receive}
 use Rattle.line.specs.declared.receiver.Receiver.{Receiver}
 use Rattle.line.specs.declared.receiver.Phase.{Phase}
@@ -26,19 +27,14 @@ use Rattle.line.specs.declared.receiver.Phase.the-variants as P
 abbrev Uses : ℕ → ℕ → ℕ → Type 0
 Uses before count used = (before < used) × (used ≤ before + count)
 
--- the conditional is one of its two
-either : {A : Type 0} (P : A → Type 0) (t : Bool) (x y : A) → P x → P y → P (cond t x y)
-either P true x y px py = px
-either P false x y px py = py
-
 search-uses : (s : Receiver) (window : Bits) (b : Bool) (bs : Bits) (used : ℕ)
     → Uses used (length (b ∷ bs)) (search s window (b ∷ bs) used .used)
 search-uses s window b [] used =
-    either (λ (x : Reading). Uses used 1 (x .used)) (isSequence (window ++ (b ∷ []))) _ _ (omega arith) (omega arith)
+    cond-case (λ (x : Reading). Uses used 1 (x .used)) (isSequence (window ++ (b ∷ []))) (λ t. omega arith) (λ t. omega arith)
 search-uses s window b (c ∷ cs) used =
     let r : Uses (suc used) (length (c ∷ cs)) (search s (latest (window ++ (b ∷ []))) (c ∷ cs) (suc used) .used) =
     search-uses s (latest (window ++ (b ∷ []))) c cs (suc used) in
-    either (λ (x : Reading). Uses used (length (b ∷ c ∷ cs)) (x .used)) (isSequence (window ++ (b ∷ []))) _ _ (omega arith) (omega arith)
+    cond-case (λ (x : Reading). Uses used (length (b ∷ c ∷ cs)) (x .used)) (isSequence (window ++ (b ∷ []))) (λ t. omega arith) (λ t. omega arith)
 
 held-in-range : (phase : Phase) (k held : ℕ) → heldInRange phase (blockLength k) held ≡ true → phase ≡ P.InStep → held < blockLength k
 held-in-range P.Search k held e p = absurd (let z : _≡_ {A = ℕ} 0 1 = cc in omega arith)
@@ -51,11 +47,7 @@ in-step-uses : (s : Receiver) (new : Bits) → s .held < blockLength (s .setup .
 unfolding inStep
 in-step-uses s new h n =
     ⊎-elim (λ e. rw e (omega arith)) (λ e. rw e (omega (arith, ltb-false (length new) (missing s) e)))
-    (test (ltb (length new) (missing s)))
-  where
-    test : (t : Bool) → (t ≡ true) ⊎ (t ≡ false)
-    test true = inl refl
-    test false = inr refl
+    (either (ltb (length new) (missing s)))
 
 phase-uses : (s : Receiver) (phase : Phase) (new : Bits) → (phase ≡ P.InStep → s .held < blockLength (s .setup .k))
     → 0 < length new → Uses 0 (length new) (reading s phase new .used)
@@ -64,10 +56,6 @@ phase-uses s P.Search (b ∷ bs) h n = search-uses s (heldBits s) b bs 0
 phase-uses s P.InStep new h n = in-step-uses s new (h refl) n
 phase-uses s P.SequenceAlarm new h n = omega arith
 phase-uses s P.LengthAlarm new h n = omega arith
-
-and-last : (a b : Bool) → (a && b) ≡ true → b ≡ true
-and-last true b e = e
-and-last false b e = absurd (let z : _≡_ {A = ℕ} 0 1 = cc in omega arith)
 
 pub receive-uses : (s : Receiver) (line : List ℕ) (count : ℕ) (store : List ℕ) (x : Reading)
     → receive s line count store ≡ done x → 0 < count → Uses 0 count (x .used)
@@ -80,7 +68,7 @@ receive-uses s line count store x e h =
     let d : done (reading s (s .phase) new) ≡ done x = rw z at (passed-test (meaning (readings s new count .rule) .stores && tooShort store (s .taken * s .setup .k + s .setup .k)) A.short _ x (q .1) .1) in
     let y : reading s (s .phase) new ≡ x = cc in
     let n : length new ≡ count = length-take-le count (bitsOf line) (rw (length-bitsOf line) (omega (arith, ltb-false (8 * length line) count (q .0)))) in
-    let t : heldInRange (s .phase) (blockLength (s .setup .k)) (s .held) ≡ true = and-last (isLength (s .setup .k) && ltb (s .row) lastBad && leb (s .taken) mostItems) _ (not-false (receiverInRange s) (p .0)) in
+    let t : heldInRange (s .phase) (blockLength (s .setup .k)) (s .held) ≡ true = and-right (isLength (s .setup .k) && ltb (s .row) lastBad && leb (s .taken) mostItems) _ (not-false (receiverInRange s) (p .0)) in
     let u : Uses 0 (length new) (reading s (s .phase) new .used) =
     phase-uses s (s .phase) new (held-in-range (s .phase) (s .setup .k) (s .held) t) (rw n h) in
     rw (← y) (rw n at u)

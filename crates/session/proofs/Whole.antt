@@ -2,7 +2,7 @@
 use mathlib.Core.Path.{_≡_, refl, sym, ap, ap₂, _∙_}
 use mathlib.Core.Bool.{Bool, true, false, cond}
 use mathlib.Core.List.{List, [], _∷_, _++_, append-nil}
-use mathlib.Core.Logic.{_⊎_, inl, inr, ⊎-elim}
+use mathlib.Core.Logic.{⊎-elim}
 use mathlib.Core.Option.{Option, none, some}
 use Prim.Native.Nat.{ℕ, suc, _+_, _-_, _*_, _^_, _≤_, _<_, min}
 use native.Mathlib.Omega.{arith}
@@ -13,6 +13,7 @@ use borrow.Author.Tests.{lt-ltb, eqb-true}
 use Rattle.block.specs.Answer.{Answer, refused, done}
 use Rattle.block.specs.Lengths.{isLength}
 use Rattle.block.proofs.Lengths.{length-facts}
+use Rattle.block.proofs.Truth.{either}
 use Rattle.line.specs.Order.{longestOrder}
 use Rattle.line.specs.Sending.{openSender, freshSender}
 use Rattle.line.specs.Receiving.{openReceiver, freshReceiver}
@@ -35,11 +36,6 @@ use Rattle.session.specs.declared.script.Session.{Session}
 use Rattle.session.proofs.LineOne.{line-one}
 use Rattle.session.proofs.Openings.{open-kept}
 use Rattle.session.proofs.Orders.{period-kept, period-setup}
-
--- a test holds or not
-test : (t : Bool) → (t ≡ true) ⊎ (t ≡ false)
-test true = inl refl
-test false = inr refl
 
 written-text : (s : Session) (text : List ℕ) → written (writes s text) ≡ text
 written-text s text = take-append-seam text (drop (length text) (replicate 64 0))
@@ -114,7 +110,7 @@ module _ (o : LineOne) (order : List ℕ) where
       rw e
       (over-silent (session P.LineStart o s r n) order store cs
       ∙ ⊎-elim (λ (t : eqb c newline ≡ true). rw t)
-      (λ (t : eqb c newline ≡ false). rw t (sym (other-letter c (lines cs) n s r lent store e))) (test (eqb c newline)))
+      (λ (t : eqb c newline ≡ false). rw t (sym (other-letter c (lines cs) n s r lent store e))) (either (eqb c newline)))
   first-byte s r n store c cs (some kind) e rest =
       let t : eqb c newline ≡ false = letter-no-newline c kind e in
       rw (e, t) (rest kind e)
@@ -147,7 +143,7 @@ module _ (o : LineOne) (order : List ℕ) where
       (after-period o n x order ds out (periods (n + 1) (x .period .sender) (x .period .receiver) lent (x .store) (lines ds)) rest)))
       (λ (t : eqb d newline ≡ false).
       rw t (over-silent (session (P.Kind kind) o s r n) order store ds ∙ sym (longer-line c d (lines ds) n s r lent store)))
-      (test (eqb d newline))
+      (either (eqb d newline))
 
   mutual
     line-start : (s : Sender) (r : Receiver) (n : ℕ) (store cs : List ℕ) → n + length cs < 2 ^ 64
@@ -193,7 +189,7 @@ module _ (o : LineOne) (s₀ : Sender) (r₀ : Receiver) (order : List ℕ) wher
       ⊎-elim
       (λ (t : readable (o .place) ≡ true).
       rw t (sender-alone (openSender (o .k) speed loop-ms (o .length) (take (o .kept) order))))
-      (λ (t : readable (o .place) ≡ false). rw t) (test (readable (o .place)))
+      (λ (t : readable (o .place) ≡ false). rw t) (either (readable (o .place)))
 
   module _ (cs : List ℕ) (h : length cs < 2 ^ 64) where
     receiver-then : (s : Sender) (a : Answer (Unit {0}))
@@ -219,7 +215,7 @@ module _ (o : LineOne) (s₀ : Sender) (r₀ : Receiver) (order : List ℕ) wher
         ⊎-elim
         (λ (t : readable (o .place) ≡ true).
         rw t (sender-then (openSender (o .k) speed loop-ms (o .length) (take (o .kept) order))))
-        (λ (t : readable (o .place) ≡ false). rw t (over-silent before order zero-store cs)) (test (readable (o .place)))
+        (λ (t : readable (o .place) ≡ false). rw t (over-silent before order zero-store cs)) (either (readable (o .place)))
 
 -- ---- line one is read
 
@@ -233,7 +229,7 @@ first-line o s r order (c ∷ cs) h =
     (λ (t : eqb c newline ≡ false).
     rw t
     (first-line (next o c (length order)) s r (nextOrder o (o .place) c order) cs (omega arith)))
-    (test (eqb c newline))
+    (either (eqb c newline))
 
 -- ---- what is kept of line one gives the same text
 

@@ -10,11 +10,11 @@ use borrow.Author.Tests.{eqb-true, not-true}
 use Rattle.crc.specs.Bits.{Bits, zeros, parity, xorBits}
 use Rattle.crc.specs.Damage.{Damage, odd-number, burst}
 use Rattle.block.specs.Lengths.{blockLength}
+use Rattle.block.proofs.Truth.{and-true}
 use Rattle.line.specs.Sending.{Block, synchronising, item}
 use Rattle.line.specs.Receiving.{meaning}
 use Rattle.line.specs.Course.{Sent, Heard, Entry, send-refused, receive-refused, sent, heard}
 use Rattle.line.specs.Delivery.{Each, eventOf, isCancelled, isItem, OnLine, SameOrder, SameStore, Admitted, NotWhole, SyncAtLast, SyncNotData, Assumptions}
-use Rattle.line.proofs.Delivery.Tests.{and-true}
 use Rattle.line.proofs.Delivery.Spacing.{implies, implies-true, spaced, spaced-between}
 use Rattle.line.specs.declared.receiver.Event.{Event}
 use Rattle.line.specs.declared.receiver.Event.the-variants as E

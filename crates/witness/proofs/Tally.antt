@@ -1,7 +1,7 @@
 -- A course in short: whether it meets what is supposed, and what each call did; computed for parts of a list, and joined.
 -- Assumes nothing.
 use mathlib.Core.Path.{_≡_, refl, ap, ap₂, sym, _∙_}
-use mathlib.Core.Bool.{Bool, true, false, _&&_, _||_, true≢false}
+use mathlib.Core.Bool.{Bool, true, false, _&&_, _||_, true≢false, and-assoc, or-assoc}
 use mathlib.Core.List.{List, [], _∷_, _++_}
 use Prim.Native.Nat.{ℕ}
 use Rattle.crc.specs.Bits.{Bits}
@@ -51,23 +51,15 @@ abbrev pub both : Tally → Tally → Tally
 both t u =
     tallied (t .met && u .met) (t .spaced && (t .alarm || u .spaced)) (t .alarm || u .alarm) (u .pending) (t .told ++ u .told)
 
-and-assoc : (a b c : Bool) → a && (b && c) ≡ (a && b) && c
-and-assoc true b c = refl
-and-assoc false b c = refl
-
-or-assoc : (a b c : Bool) → a || (b || c) ≡ (a || b) || c
-or-assoc true b c = refl
-or-assoc false b c = refl
-
 meets-append : (k : ℕ) (content : Bits) (a b : List Entry) → eachMeets k content (a ++ b) ≡ eachMeets k content a && eachMeets k content b
 meets-append k content [] b = refl
 meets-append k content (e ∷ a) b =
     ap (λ (t : Bool). entryMeets k content e && t) (meets-append k content a b)
-    ∙ and-assoc (entryMeets k content e) (eachMeets k content a) (eachMeets k content b)
+    ∙ sym (and-assoc (entryMeets k content e) (eachMeets k content a) (eachMeets k content b))
 
 some-append : (f : Entry → Bool) (a b : List Entry) → some f (a ++ b) ≡ some f a || some f b
 some-append f [] b = refl
-some-append f (e ∷ a) b = ap (λ (t : Bool). f e || t) (some-append f a b) ∙ or-assoc (f e) (some f a) (some f b)
+some-append f (e ∷ a) b = ap (λ (t : Bool). f e || t) (some-append f a b) ∙ sym (or-assoc (f e) (some f a) (some f b))
 
 tellAll-append : (a b : List Entry) → tellAll (a ++ b) ≡ tellAll a ++ tellAll b
 tellAll-append [] b = refl

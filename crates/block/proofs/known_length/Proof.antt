@@ -1,8 +1,8 @@
 -- `known_length` says whether k is in the table: the keys of its `match` are the table's numbers. Assumes nothing.
-use mathlib.Core.Bool.{Bool, true, false, _||_}
+use mathlib.Core.Bool.{true, false, or-true}
 use mathlib.Core.List.{List, [], _∷_}
 use mathlib.Core.Logic.{inl, inr}
-use mathlib.Core.Path.{_≡_, refl, sym}
+use mathlib.Core.Path.{_≡_, sym}
 use Prim.Native.Nat.{ℕ}
 use borrow.Author.Tests.{eq-eqb, ne-eqb}
 use lib.Dec.{eqb}
@@ -10,10 +10,6 @@ use types.Run.{OneOf}
 use Rattle.block.specs.Lengths.{among, isLength}
 use Rattle.block.proofs.known_length.Statement.{statement}
 use Rattle.block.proofs.known_length.Tie as tie
-
-or-true : (b : Bool) → b || true ≡ true
-or-true true = refl
-or-true false = refl
 
 one-among : (l : ℕ) (ls : List ℕ) (k : ℕ) → OneOf (l ∷ ls) k → among k (l ∷ ls) ≡ true
 one-among l [] k e = rw (eq-eqb k l e)

@@ -11,6 +11,7 @@ use Rattle.crc.specs.Bits.{Bits, bit}
 use Rattle.block.specs.Answer.{done}
 use Rattle.block.specs.Lengths.{blockLength}
 use Rattle.block.specs.Block.{payloadOf, syncBlock}
+use Rattle.block.proofs.Truth.{or-no, and-no}
 use Rattle.line.specs.Order.{itemBits, itemPayload}
 use Rattle.line.specs.Receiving.{arrayBytes, lastBad, Rule, unfinished, standing, meaning, after, Reading, stops, idleRule, heldInRange, storeAt}
 use Rattle.line.specs.Course.{World, receiveEntry, receiveAfter}
@@ -22,7 +23,6 @@ use Rattle.line.specs.declared.receiver.Phase.the-variants as P
 use Rattle.line.specs.declared.receiver.Event.{Event}
 use Rattle.line.specs.declared.receiver.Event.the-variants as E
 use Rattle.line.proofs.Items.{payload-itemBits}
-use Rattle.line.proofs.Delivery.Tests.{or-no, and-no}
 use Rattle.line.proofs.Delivery.Ends.{Ends, LineBlock, Reads, Busy}
 use Rattle.line.proofs.Delivery.Ends as D
 use Rattle.line.proofs.Delivery.Invariant.{read-keeps}

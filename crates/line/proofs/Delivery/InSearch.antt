@@ -3,13 +3,14 @@ use mathlib.Core.Path.{_≡_, refl, ap, ap₂, sym, _∙_, subst}
 use mathlib.Core.Logic.{_⊎_, inl, inr, ⊎-elim}
 use mathlib.Core.Bool.{Bool, true, false, true≢false, false≢true}
 use mathlib.Core.List.{List, [], _++_, append-assoc, append-nil}
-use Prim.Native.Nat.{ℕ, _+_, _≤_}
+use Prim.Native.Nat.{ℕ, _+_}
 use native.Mathlib.Omega.{arith}
 use lib.ListN.{length}
 use borrow.Author.Tests.{le-leb}
 use Rattle.crc.specs.Bits.{Bits, bit}
 use Rattle.block.specs.Lengths.{blockLength}
 use Rattle.block.specs.Block.{syncBlock}
+use Rattle.block.proofs.Truth.{bit-true}
 use Rattle.line.specs.Receiving.{unfinished, found, heldBits, Reading, stops, latest, searching, isSequence, search, heldInRange}
 use Rattle.line.specs.Course.{World}
 use Rattle.line.specs.declared.sender.Sender.{Sender}
@@ -26,10 +27,6 @@ use Rattle.line.proofs.Delivery.Ruling.{found-ruling, sync-line-block}
 use Rattle.line.proofs.Delivery.Hearing.{ReadingKept, whole-copy, search-step, quiet-unfinished, pass, finish}
 use Rattle.line.proofs.Delivery.State.{Session, N, Fit, inSearch, alarmStands, endsOf, Base, BusyLine}
 use Rattle.line.proofs.Delivery.State as S
-
-bit-true : (b : Bool) → 1 ≤ bit b → b ≡ true
-bit-true true h = refl
-bit-true false h = absurd (omega arith)
 
 -- a search leaves the numbers of the ends as they are where the return bit is 1
 search-ends : (s : Sender) (r : Receiver) (window : Bits) (l d : ℕ) → r .back ≡ true

@@ -16,10 +16,10 @@ use Rattle.crc.proofs.Rows.{length-binary, number-binary}
 use Rattle.block.specs.Lengths.{isLength}
 use Rattle.block.specs.Block.{serviceOf, payloadOf, Verdict, passed, failed, verdict, serviceSync, syncSequence, tens, syncBlock}
 use Rattle.block.proofs.Block.{length-syncBlock}
+use Rattle.block.proofs.Truth.{cond-case, either, and-true, and-false}
 use Rattle.line.specs.Order.{longestOrder, mostItems, validLength, itemCount, letter, isLetter, endService, version, endPayload, itemService, itemPayload, itemBits}
 use Rattle.line.specs.Receiving.{Rule, sync-block, check-fails, accepts, previous, out-of-sequence, ends, wrong-length, ends-again, anything-else, meaning, Place, expected, last, next, other, place, letterRule, endRule, serviceRule, verdictRule, looksSync, judge}
 use Rattle.line.proofs.Items.{letter-same, same-letter, letter-isLetter, letter-not-sync, itemService-data, itemService-end, itemPayload-end, service-itemBits, payload-itemBits, passes-itemBits}
-use Rattle.line.proofs.Delivery.Tests.{cond-case, either, and-true, and-false}
 
 -- ---- a data item's letter, with r items taken
 

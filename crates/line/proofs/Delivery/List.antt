@@ -1,14 +1,14 @@
 -- The whole list: what is supposed of a list, call by call, and what its calls then come to. Assumes nothing.
 use mathlib.Core.Path.{_≡_, refl, ap, sym, _∙_, subst}
 use mathlib.Core.Logic.{⊎-elim}
-use mathlib.Core.Bool.{Bool, true, false, cond, not, _&&_, _||_, false≢true}
+use mathlib.Core.Bool.{Bool, true, false, cond, not, _&&_, _||_, false≢true, or-assoc}
 use mathlib.Core.List.{List, [], _∷_, _++_}
 use native.Mathlib.Omega.{arith}
 use Prim.Native.Nat.{ℕ, _+_}
 use Rattle.crc.specs.Bits.{bit}
+use Rattle.block.proofs.Truth.{or-true, or-false, or-no}
 use Rattle.line.specs.Course.{World, Call, Entry, entry, next, course, final}
 use Rattle.line.specs.Delivery.{Each, some, count, eventOf, hears, isNew, isEnd, isAlarm, isLost, isGood, reportsEnd, OnLine, SameOrder, SameStore, Admitted, NotWhole, SyncAtLast, SyncNotData, OnlyRefused, Assumptions}
-use Rattle.line.proofs.Delivery.Tests.{or-true, or-false, or-no}
 use Rattle.line.proofs.Delivery.State.{Session, Fit, alarmStands, lost′, danger′, Inv, Okay, Keeps}
 use Rattle.line.proofs.Delivery.OneCall.{call-keeps}
 use Rattle.line.proofs.Delivery.Spacing.{pends, spaced, spaced-head, spaced-tail, between-spaced}
@@ -91,10 +91,6 @@ pub record Safe (o : Session) (w : World) (l d : ℕ) (es : List Entry) (w′ : 
   pub length : (M : ℕ) → some (hears (λ y. reportsEnd M (eventOf y))) es ≡ true → M ≡ o .L
   pub alarm : (before behind : List Entry) (e : Entry) → es ≡ before ++ (e ∷ behind) → isAlarm e ≡ true → losts l before ≡ 1
   pub refusals : Each OnlyRefused es
-
-or-assoc : (a b c : Bool) → (a || b) || c ≡ a || (b || c)
-or-assoc true b c = refl
-or-assoc false b c = refl
 
 bit-cond : (b : Bool) → bit b ≡ cond b 1 0
 bit-cond true = refl

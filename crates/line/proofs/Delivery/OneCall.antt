@@ -15,6 +15,7 @@ use Rattle.block.specs.Answer as A
 use Rattle.block.specs.Answer.{Answer, refused, done}
 use Rattle.block.specs.Lengths.{isLength, blockLength}
 use Rattle.block.specs.Calls.{tooShort}
+use Rattle.block.proofs.Truth.{cond-case, or-false, or-no}
 use Rattle.line.specs.Order.{longestOrder, mostItems, validLength, itemCount, orderBits}
 use Rattle.line.specs.Sending.{Block, transmit, gaveUp, send, senderInRange, plainBits}
 use Rattle.line.specs.Receiving.{meaning, Reading, reading, idleRule, idle, readings, receive, receiverInRange, lastBad, heldInRange}
@@ -25,7 +26,6 @@ use Rattle.line.specs.declared.sender.Sender.{Sender}
 use Rattle.line.specs.declared.sender.Setup.{Setup}
 use Rattle.line.specs.declared.receiver.Receiver.{Receiver}
 use Rattle.line.proofs.Sending.{range-in}
-use Rattle.line.proofs.Delivery.Tests.{cond-case, or-false, or-no}
 use Rattle.line.proofs.Delivery.Ends.{LineBlock, Basic, Idle, Busy}
 use Rattle.line.proofs.Delivery.Invariant.{send-keeps, read-keeps}
 use Rattle.line.proofs.Delivery.Sending.{sends-block, setup-kept, run-kept}

@@ -11,6 +11,7 @@ use Rattle.crc.specs.Bits.{Bits, bit, bitsOf}
 use Rattle.crc.specs.Check.{passes}
 use Rattle.block.specs.Answer.{Answer, refused, done}
 use Rattle.block.specs.Block.{syncBlock}
+use Rattle.block.proofs.Truth.{either, or-false, bit-false}
 use Rattle.line.specs.Order.{orderBits, itemBits}
 use Rattle.line.specs.Sending.{Block, synchronising, item, transmit, plainBits, sentBits, gaveUp, send}
 use Rattle.line.specs.Receiving.{Reading, receive}
@@ -20,13 +21,12 @@ use Rattle.line.specs.declared.sender.Sender.{Sender}
 use Rattle.line.specs.declared.sender.Next.{Next}
 use Rattle.line.specs.declared.sender.Next.the-variants.{Sync, Older, Newer}
 use Rattle.line.proofs.Items.{passes-itemBits}
-use Rattle.line.proofs.Delivery.Tests.{either, or-false}
 use Rattle.line.proofs.Delivery.Ends.{Ends, LineBlock, Sends}
 use Rattle.line.proofs.Delivery.Progress.{rank-low, rank-high, between-of}
 use Rattle.line.proofs.Delivery.State.{Session, N, Fit, alarmStands, endsOf, lost′, danger′, Base, CopyOf, syncing, whole, damaged, IdleLine, BusyLine, Inv, Okay, Begins}
 use Rattle.line.proofs.Delivery.OneCall.{SendAnswered, refuses, begins, ReceiveAnswered, send-answered, receive-answered, sender-in-range, receiver-in-range, idle-hears, idle-sends, send-call, hear-call}
 use Rattle.line.proofs.Delivery.List.{Okays}
-use Rattle.line.proofs.Delivery.Stretch.{brought, Between, During, Short, Shorts, short-nil, skip, short-hear, okays-next, okays-same, still-open, bit-false, append-nil-left}
+use Rattle.line.proofs.Delivery.Stretch.{brought, Between, During, Short, Shorts, short-nil, skip, short-hear, okays-next, okays-same, still-open, append-nil-left}
 
 -- ---- a block that arrives as sent
 

@@ -10,6 +10,7 @@ use lib.Dec.{eqb, leb}
 use borrow.Author.Tests.{eqb-true, leb-true, leb-false, lt-ltb}
 use Rattle.crc.specs.Bits.{bit, bitsOf}
 use Rattle.block.specs.Lengths.{blockLength}
+use Rattle.block.proofs.Truth.{or-true, or-false, or-no, or-yes}
 use Rattle.line.specs.Order.{mostItems}
 use Rattle.line.specs.Receiving.{arrayBytes, Rule, unfinished, standing, found, sync-block, check-fails, accepts, previous, out-of-sequence, ends, wrong-length, ends-again, anything-else, meaning, lastBad, blank, well, badly, alarmed, after, heldBits, heldInRange}
 use Rattle.line.specs.Delivery.{news}
@@ -18,7 +19,6 @@ use Rattle.line.specs.declared.receiver.Receiver.{Receiver}
 use Rattle.line.specs.declared.receiver.Phase.{Phase}
 use Rattle.line.specs.declared.receiver.Phase.the-variants as P
 use Rattle.line.specs.declared.receiver.Event.the-variants as E
-use Rattle.line.proofs.Delivery.Tests.{or-true, or-false, or-no, or-yes}
 use Rattle.line.proofs.Delivery.Ends.{LineBlock, Reads, SameSender, NotWhole}
 use Rattle.line.proofs.Delivery.Ends as D
 use Rattle.line.proofs.Delivery.Holding.{length-noBytes}

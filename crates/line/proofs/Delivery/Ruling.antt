@@ -9,6 +9,7 @@ use borrow.Author.Tests.{eqb-true, le-leb}
 use lib.ListN.{length}
 use Rattle.crc.specs.Bits.{Bits, bit}
 use Rattle.block.specs.Block.{syncBlock}
+use Rattle.block.proofs.Truth.{and-no}
 use Rattle.line.specs.Order.{longestOrder, mostItems, validLength, itemBits}
 use Rattle.line.specs.Sending.{Block, synchronising, item}
 use Rattle.line.specs.Receiving.{Rule, found, sync-block, check-fails, accepts, ends, anything-else, meaning, after, judge}
@@ -18,7 +19,6 @@ use Rattle.line.specs.declared.receiver.Receiver.{Receiver}
 use Rattle.line.specs.declared.receiver.Phase.the-variants as P
 use Rattle.line.specs.declared.receiver.Event.the-variants as E
 use Rattle.line.proofs.Items.{itemCount-fits}
-use Rattle.line.proofs.Delivery.Tests.{and-no}
 use Rattle.line.proofs.Delivery.Ends.{LineBlock, Reads, During}
 use Rattle.line.proofs.Delivery.Ends as D
 use Rattle.line.proofs.Delivery.Invariant.{accepted-is}

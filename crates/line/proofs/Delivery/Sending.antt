@@ -12,6 +12,7 @@ use Rattle.crc.specs.Check.{passes}
 use Rattle.crc.specs.Damage.{Damage}
 use Rattle.crc.proofs.Detect.{damaged-passes}
 use Rattle.block.specs.Lengths.{blockLength}
+use Rattle.block.proofs.Truth.{cond-case, either, or-false, and-no}
 use Rattle.line.specs.Order.{itemCount, itemBits}
 use Rattle.line.specs.Sending.{Block, item, Transmission, transmit, goesOn, confirmed, repeated, atLast, syncRun, lastRun, gaveUp, plainBits}
 use Rattle.line.specs.Delivery.{isUsed, isCancelled}
@@ -20,7 +21,6 @@ use Rattle.line.specs.declared.sender.Next.{Next}
 use Rattle.line.specs.declared.sender.Next.the-variants.{Sync, Older, Newer}
 use Rattle.line.specs.declared.receiver.Receiver.{Receiver}
 use Rattle.line.proofs.Items.{length-itemBits, passes-itemBits}
-use Rattle.line.proofs.Delivery.Tests.{cond-case, either, or-false, and-no}
 use Rattle.line.proofs.Delivery.Ends.{LineBlock, Sends, SameReceiver, Basic}
 use Rattle.line.proofs.Delivery.Ends as D
 use Rattle.line.proofs.Delivery.State.{Session, N, Fit, alarmStands, ends, CopyOf, syncing, whole, damaged}

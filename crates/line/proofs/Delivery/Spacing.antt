@@ -5,9 +5,9 @@ use mathlib.Core.Logic.{_⊎_, inl, inr, ⊎-elim}
 use mathlib.Core.Bool.{Bool, true, false, not, _&&_, _||_, true≢false, false≢true}
 use mathlib.Core.List.{List, [], _∷_, _++_}
 use borrow.Author.Tests.{not-true}
+use Rattle.block.proofs.Truth.{either, and-true, or-false, or-yes}
 use Rattle.line.specs.Course.{Entry}
 use Rattle.line.specs.Delivery.{some, isAlarm, isGood, isLost}
-use Rattle.line.proofs.Delivery.Tests.{either, and-true, or-false, or-yes}
 
 -- ---- truth values
 

@@ -1,21 +1,21 @@
 -- A stretch of undisturbed periods that brings no new block and no end is shorter than the rank of its first. Assumes nothing.
 use mathlib.Core.Path.{_≡_, refl, ap, ap₂, sym, _∙_, subst}
 use mathlib.Core.Logic.{_⊎_, inl, inr, ⊎-elim}
-use mathlib.Core.Bool.{Bool, true, false, _||_, true≢false}
+use mathlib.Core.Bool.{Bool, false, _||_, true≢false}
 use mathlib.Core.List.{List, [], _∷_, _++_}
 use native.Mathlib.Omega.{arith}
 use Prim.Native.Nat.{ℕ, _+_, _≤_, _<_}
 use lib.ListN.{length, length-drop}
-use Rattle.crc.specs.Bits.{Bits, bit}
+use Rattle.crc.specs.Bits.{Bits}
 use Rattle.block.specs.Answer.{Answer, refused, done}
 use Rattle.block.specs.Block.{syncBlock}
+use Rattle.block.proofs.Truth.{or-false, or-no, bit-false}
 use Rattle.line.specs.Sending.{item}
 use Rattle.line.specs.Receiving.{Reading}
 use Rattle.line.specs.Course.{World, Call, Entry, receive-refused, receiveEntry, receiveAfter, course}
 use Rattle.line.specs.Delivery.{some, isNew, isEnd, isAlarm, isLost, Period, group, usedBits, Undisturbed, EachPeriod, brings}
 use Rattle.line.specs.declared.sender.Next.{Next}
 use Rattle.line.specs.declared.sender.Next.the-variants.{Newer}
-use Rattle.line.proofs.Delivery.Tests.{or-false, or-no}
 use Rattle.line.proofs.Delivery.Ends.{Ends, LineBlock, Sends, Idle}
 use Rattle.line.proofs.Delivery.Progress.{rank, rank-low, rank-falls}
 use Rattle.line.proofs.Delivery.State.{Session, N, Fit, alarmStands, endsOf, danger′, Base, whole, IdleLine, BusyLine, Told, Done}
@@ -57,10 +57,6 @@ pub record Between (o : Session) (w : World) (d limit : ℕ) : Type 0 where
   pub bound : rank (endsOf w 0 d) (w .sender .next) ≤ limit
 
 -- with nothing lost no alarm stands
-pub bit-false : (b : Bool) → bit b ≡ 0 → b ≡ false
-bit-false true h = absurd (omega arith)
-bit-false false h = refl
-
 pub quiet-busy : {o : Session} {w : World} {d : ℕ} {copy : Bits} {f : LineBlock} → BusyLine o w 0 d copy f
     → alarmStands (w .receiver .phase) ≡ false
 quiet-busy {w = w} a =

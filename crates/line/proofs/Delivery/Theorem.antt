@@ -14,6 +14,7 @@ use Rattle.block.specs.Answer as A
 use Rattle.block.specs.Answer.{Answer, refused, done, refuseIf}
 use Rattle.block.specs.Lengths.{isLength}
 use Rattle.block.specs.Calls.{tooShort}
+use Rattle.block.proofs.Truth.{cond-case, or-true, or-yes, bit-true}
 use Rattle.line.specs.LoopTime.{loopTime}
 use Rattle.line.specs.Order.{longestOrder, filled, orderBits}
 use Rattle.line.specs.Sending.{freshSender, unless-refused, openSender}
@@ -28,7 +29,6 @@ use Rattle.line.specs.declared.receiver.Event.the-variants as E
 use Rattle.line.specs.declared.receiver.Opened as ReceiverOpened
 use Rattle.line.specs.declared.receiver.Opening.the-variants as Opening
 use Rattle.line.proofs.Items.{length-orderBits}
-use Rattle.line.proofs.Delivery.Tests.{cond-case, or-true, or-yes}
 use Rattle.line.proofs.Delivery.Ends.{Basic}
 use Rattle.line.proofs.Delivery.Invariant.{opened-idle}
 use Rattle.line.proofs.Delivery.Holding.{length-noBytes}
@@ -161,10 +161,6 @@ some-implies f g h (e ∷ es) q =
     (λ a. ap (λ (b : Bool). g e || b) (some-implies f g h es a) ∙ or-yes (g e)) (or-true (f e) (some f es) q)
 
 -- ---- the demand
-
-bit-true : (b : Bool) → 1 ≤ bit b → b ≡ true
-bit-true true h = refl
-bit-true false h = absurd (omega arith)
 
 basic-of : (o : Session) (w : World) (l d : ℕ) → Inv o w l d → Basic (N o) (endsOf w l d) × (bit (w .receiver .ended) ≡ 1 → w .receiver .taken ≡ N o)
 basic-of o w l d h = ⊎-elim (λ g. (g .idle .basic, g .idle .all)) (λ g. (g .line .busy .basic, g .line .busy .all)) (h .phase)

@@ -18,8 +18,8 @@ use Rattle.line.specs.declared.receiver.Opened as ReceiverOpened
 use Rattle.line.specs.declared.receiver.Event.{Event}
 use Rattle.line.specs.declared.receiver.Event.the-variants as E
 use Rattle.block.proofs.Lengths.{length-facts}
+use Rattle.block.proofs.Truth.{or-true, or-yes}
 use Rattle.line.proofs.Items.{itemCount-holds, length-orderBits}
-use Rattle.line.proofs.Delivery.Tests.{or-true, or-yes}
 use Rattle.line.proofs.Delivery.Theorem.{opened-well, guaranteed}
 
 -- the end reported is reported with some length

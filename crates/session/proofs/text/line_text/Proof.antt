@@ -1,14 +1,12 @@
 -- `line_text` meets its contract: each field behind those before it. Assumes nothing.
 use native.Mathlib.Omega.{arith}
-use mathlib.Core.Path.{_≡_, refl, ap}
-use mathlib.Core.Bool.{Bool, true, false}
+use mathlib.Core.Path.{_≡_, ap}
 use mathlib.Core.List.{_++_}
 use Prim.Native.Nat.{_≤_}
-use lib.ListN.{length}
-use Rattle.session.specs.Text.{Appends, emptyText, ascii, decimal, blockText, bitText, lineText}
+use Rattle.session.specs.Text.{Appends, emptyText, ascii, decimal, blockText, lineText}
 use Rattle.session.specs.declared.text.Text.{Text}
 use Rattle.session.proofs.Appending.{appends-all, appends-next}
-use Rattle.session.proofs.Decimal.{length-decimal}
+use Rattle.session.proofs.Decimal.{length-decimal, length-bit}
 use borrow.Author.Needs.{needs}
 use Rattle.session.proofs.text.line_text.Statement.{statement}
 use Rattle.session.proofs.text.line_text.Tie as tie
@@ -33,10 +31,6 @@ after-reading c = omega (arith, after-block (c .before .before), c .before .byte
 
 after-event : (c : tie.After-event) → c .event .result .len ≤ 59
 after-event c = omega (arith, after-reading (c .before .before), c .before .byte3 .ensures .len)
-
-length-bit : (b : Bool) → length (bitText b) ≡ 1
-length-bit false = refl
-length-bit true = refl
 
 decimal-requires : tie.Need-decimal-requires
 decimal-requires c κs =

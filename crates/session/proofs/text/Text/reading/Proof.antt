@@ -1,16 +1,9 @@
 -- `Text::reading` meets its contract. Assumes nothing.
 use native.Mathlib.Omega.{arith}
-use mathlib.Core.Path.{_≡_, refl}
-use mathlib.Core.Bool.{Bool, true, false}
-use lib.ListN.{length}
-use Rattle.session.specs.Text.{bitText}
 use borrow.Author.Needs.{needs}
+use Rattle.session.proofs.Decimal.{length-bit}
 use Rattle.session.proofs.text.Text.reading.Statement.{statement}
 use Rattle.session.proofs.text.Text.reading.Tie as tie
-
-length-bit : (b : Bool) → length (bitText b) ≡ 1
-length-bit false = refl
-length-bit true = refl
 
 enum-told : tie.Need-enum-told
 enum-told c = search needs
