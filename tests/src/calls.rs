@@ -8,20 +8,15 @@ use crate::interface::{FINISHED, GAVE_UP, GOING_ON, RECEIVER_BYTES, SENDER_BYTES
 use crate::reference::block::{self, Read};
 use crate::reference::loop_time;
 use crate::reference::receiver;
-use crate::reference::refusal::{Refusal, SHORT, SPOILED};
+use crate::reference::refusal::{SHORT, SPOILED};
 use crate::reference::sender;
 use crate::reference::session;
 use crate::table;
 
 /// "The block": building one and reading one.
 pub trait Blocks {
-    fn build_block(
-        &self,
-        k: usize,
-        service: u8,
-        payload: &[u8],
-        block: &mut [u8],
-    ) -> Result<(), Refusal>;
+    /// 0 or the refusal's number.
+    fn build_block(&self, k: usize, service: u8, payload: &[u8], block: &mut [u8]) -> u8;
 
     fn read_block(&self, k: usize, block: &[u8], payload: &mut [u8]) -> Read;
 }
@@ -31,18 +26,19 @@ pub trait LoopTimes {
     fn loop_time(&self, k: usize, speed: u32, loop_ms: u32) -> u8;
 }
 
+/// What opening a sender is given besides the slices.
+#[derive(Clone, Copy, Debug)]
+pub struct Opening {
+    pub k: usize,
+    pub speed: u32,
+    pub loop_ms: u32,
+    pub length: usize,
+}
+
 /// "Sending".
 pub trait SendingEnd {
     /// 0 or the refusal's number.
-    fn open_sender(
-        &self,
-        k: usize,
-        speed: u32,
-        loop_ms: u32,
-        length: usize,
-        order: &[u8],
-        state: &mut [u8],
-    ) -> u8;
+    fn open_sender(&self, opening: Opening, order: &[u8], state: &mut [u8]) -> u8;
 
     /// The word of the block that goes out, or the refusal's number.
     fn send(&self, state: &mut [u8], order: &[u8], reading: bool, block: &mut [u8]) -> u32;
@@ -51,20 +47,20 @@ pub trait SendingEnd {
     fn sender_rest(&self, state: &[u8]) -> u8;
 }
 
+/// What a receiving call is lent of the line.
+#[derive(Clone, Copy)]
+pub struct Line<'a> {
+    pub bytes: &'a [u8],
+    pub bits: usize,
+}
+
 /// "Receiving".
 pub trait ReceivingEnd {
     /// 0 or the refusal's number.
     fn open_receiver(&self, k: usize, state: &mut [u8]) -> u8;
 
     /// The event's number or the refusal's.
-    fn receive(
-        &self,
-        state: &mut [u8],
-        line: &[u8],
-        bits: usize,
-        store: &mut [u8],
-        counts: &mut Counts,
-    ) -> u8;
+    fn receive(&self, state: &mut [u8], line: Line, store: &mut [u8], counts: &mut Counts) -> u8;
 
     /// The return bit, or the refusal's number.
     fn return_bit(&self, state: &[u8]) -> u8;
@@ -79,14 +75,9 @@ pub trait RunProgram {
 pub struct Reference;
 
 impl Blocks for Reference {
-    fn build_block(
-        &self,
-        k: usize,
-        service: u8,
-        payload: &[u8],
-        block: &mut [u8],
-    ) -> Result<(), Refusal> {
-        block::build_block(k, service, payload, block)
+    fn build_block(&self, k: usize, service: u8, payload: &[u8], block: &mut [u8]) -> u8 {
+        let built = block::build_block(k, service, payload, block);
+        built.err().unwrap_or(0)
     }
 
     fn read_block(&self, k: usize, block: &[u8], payload: &mut [u8]) -> Read {
@@ -102,16 +93,9 @@ impl LoopTimes for Reference {
 }
 
 impl SendingEnd for Reference {
-    fn open_sender(
-        &self,
-        k: usize,
-        speed: u32,
-        loop_ms: u32,
-        length: usize,
-        order: &[u8],
-        state: &mut [u8],
-    ) -> u8 {
-        match sender::open(k, speed as usize, loop_ms as usize, length, order) {
+    fn open_sender(&self, opening: Opening, order: &[u8], state: &mut [u8]) -> u8 {
+        let (speed, loop_ms) = (opening.speed as usize, opening.loop_ms as usize);
+        match sender::open(opening.k, speed, loop_ms, opening.length, order) {
             Err(refusal) => refusal,
             Ok(_) if state.len() < SENDER_BYTES => SHORT,
             Ok(sender) => {
@@ -148,16 +132,9 @@ impl ReceivingEnd for Reference {
         }
     }
 
-    fn receive(
-        &self,
-        state: &mut [u8],
-        line: &[u8],
-        bits: usize,
-        store: &mut [u8],
-        counts: &mut Counts,
-    ) -> u8 {
+    fn receive(&self, state: &mut [u8], line: Line, store: &mut [u8], counts: &mut Counts) -> u8 {
         interface::receive(state, counts, |receiver| {
-            receiver.receive(line, bits, store)
+            receiver.receive(line.bytes, line.bits, store)
         })
     }
 
@@ -186,14 +163,9 @@ impl LoopTimes for TableDriven {
 }
 
 impl Blocks for TableDriven {
-    fn build_block(
-        &self,
-        k: usize,
-        service: u8,
-        payload: &[u8],
-        block: &mut [u8],
-    ) -> Result<(), Refusal> {
-        table::build_block(k, service, payload, block)
+    fn build_block(&self, k: usize, service: u8, payload: &[u8], block: &mut [u8]) -> u8 {
+        let built = table::build_block(k, service, payload, block);
+        built.err().unwrap_or(0)
     }
 
     fn read_block(&self, k: usize, block: &[u8], payload: &mut [u8]) -> Read {
@@ -202,16 +174,8 @@ impl Blocks for TableDriven {
 }
 
 impl SendingEnd for TableDriven {
-    fn open_sender(
-        &self,
-        k: usize,
-        speed: u32,
-        loop_ms: u32,
-        length: usize,
-        order: &[u8],
-        state: &mut [u8],
-    ) -> u8 {
-        Reference.open_sender(k, speed, loop_ms, length, order, state)
+    fn open_sender(&self, opening: Opening, order: &[u8], state: &mut [u8]) -> u8 {
+        Reference.open_sender(opening, order, state)
     }
 
     fn send(&self, state: &mut [u8], order: &[u8], reading: bool, block: &mut [u8]) -> u32 {
@@ -230,17 +194,10 @@ impl ReceivingEnd for TableDriven {
         Reference.open_receiver(k, state)
     }
 
-    fn receive(
-        &self,
-        state: &mut [u8],
-        line: &[u8],
-        bits: usize,
-        store: &mut [u8],
-        counts: &mut Counts,
-    ) -> u8 {
+    fn receive(&self, state: &mut [u8], line: Line, store: &mut [u8], counts: &mut Counts) -> u8 {
         interface::receive(state, counts, |receiver| {
             let receiver = table::receiver::Receiver::from(receiver);
-            let (receiver, received) = receiver.receive(line, bits, store);
+            let (receiver, received) = receiver.receive(line.bytes, line.bits, store);
             (receiver.into(), received)
         })
     }

@@ -3,10 +3,9 @@
 //! A slice passes as a pointer and then a length. Nothing checks these declarations against the
 //! library, so they stand here alone, with the safe functions that wrap them.
 
-use crate::calls::{Blocks, LoopTimes, ReceivingEnd, SendingEnd};
+use crate::calls::{Blocks, Line, LoopTimes, Opening, ReceivingEnd, SendingEnd};
 use crate::interface::Counts;
 use crate::reference::block::Read;
-use crate::reference::refusal::Refusal;
 
 extern "C" {
     fn order_line_loop_time(k: usize, speed: u32, loop_ms: u32) -> u8;
@@ -85,14 +84,8 @@ impl LoopTimes for Library {
 }
 
 impl Blocks for Library {
-    fn build_block(
-        &self,
-        k: usize,
-        service: u8,
-        payload: &[u8],
-        block: &mut [u8],
-    ) -> Result<(), Refusal> {
-        let number = unsafe {
+    fn build_block(&self, k: usize, service: u8, payload: &[u8], block: &mut [u8]) -> u8 {
+        unsafe {
             order_line_build_block(
                 k,
                 service,
@@ -101,10 +94,6 @@ impl Blocks for Library {
                 block.as_mut_ptr(),
                 block.len(),
             )
-        };
-        match number {
-            0 => Ok(()),
-            refusal => Err(refusal),
         }
     }
 
@@ -128,21 +117,13 @@ impl Blocks for Library {
 }
 
 impl SendingEnd for Library {
-    fn open_sender(
-        &self,
-        k: usize,
-        speed: u32,
-        loop_ms: u32,
-        length: usize,
-        order: &[u8],
-        state: &mut [u8],
-    ) -> u8 {
+    fn open_sender(&self, opening: Opening, order: &[u8], state: &mut [u8]) -> u8 {
         unsafe {
             order_line_open_sender(
-                k,
-                speed,
-                loop_ms,
-                length,
+                opening.k,
+                opening.speed,
+                opening.loop_ms,
+                opening.length,
                 order.as_ptr(),
                 order.len(),
                 state.as_mut_ptr(),
@@ -175,21 +156,14 @@ impl ReceivingEnd for Library {
         unsafe { order_line_open_receiver(k, state.as_mut_ptr(), state.len()) }
     }
 
-    fn receive(
-        &self,
-        state: &mut [u8],
-        line: &[u8],
-        bits: usize,
-        store: &mut [u8],
-        counts: &mut Counts,
-    ) -> u8 {
+    fn receive(&self, state: &mut [u8], line: Line, store: &mut [u8], counts: &mut Counts) -> u8 {
         unsafe {
             order_line_receive(
                 state.as_mut_ptr(),
                 state.len(),
-                line.as_ptr(),
-                line.len(),
-                bits,
+                line.bytes.as_ptr(),
+                line.bytes.len(),
+                line.bits,
                 store.as_mut_ptr(),
                 store.len(),
                 &mut counts.used,

@@ -9,7 +9,7 @@
 //! CALL is build, read, send or a number of bits received a call, WHO 0, 1 or 2 in that order.
 //! It prints the number of calls of a pass.
 
-use order_line_tests::calls::{Blocks, ReceivingEnd, Reference, SendingEnd, TableDriven};
+use order_line_tests::calls::{Blocks, Line, ReceivingEnd, Reference, SendingEnd, TableDriven};
 use order_line_tests::interface::{received, sent, store_receiver, store_sender, Counts};
 use order_line_tests::interface::{RECEIVER_BYTES, SENDER_BYTES};
 use order_line_tests::link::Library;
@@ -47,7 +47,7 @@ impl Buffers {
         let blocks = items.map(|(item, payload)| {
             let mut block = vec![0; block_bytes(k)];
             let built = Reference.build_block(k, letter(item), payload, &mut block);
-            assert_eq!(built, Ok(()));
+            assert_eq!(built, 0);
             block
         });
         Buffers {
@@ -64,7 +64,7 @@ impl Buffers {
         for (item, payload) in payloads.enumerate() {
             let k = black_box(self.k);
             let built = tested.build_block(k, letter(item), payload, &mut self.place);
-            assert_eq!(black_box(built), Ok(()));
+            assert_eq!(black_box(built), 0);
         }
     }
 
@@ -226,7 +226,8 @@ impl Receives for Library {
         store: &mut [u8],
     ) -> usize {
         let mut counts = Counts { used: 0, length: 0 };
-        let number = ReceivingEnd::receive(self, state, line, bits, store, &mut counts);
+        let line = Line { bytes: line, bits };
+        let number = ReceivingEnd::receive(self, state, line, store, &mut counts);
         used(received(number, counts))
     }
 }

@@ -2,10 +2,10 @@
 //! arguments, and calls on a state go on while bytes are left and the state is no reason to refuse.
 
 use super::both_ends::event_kind;
-use super::lockstep::{Lockstep, Opening, Twin};
+use super::lockstep::{Lockstep, Twin};
 use super::sender::refused_word;
 use super::{block, loop_time, Difference, Lent, Tally};
-use crate::calls::{Blocks, LoopTimes, ReceivingEnd, SendingEnd};
+use crate::calls::{Blocks, LoopTimes, Opening, ReceivingEnd, SendingEnd};
 use crate::damage::invert;
 use crate::interface::{store_receiver, store_sender, RECEIVER_BYTES, SENDER_BYTES};
 use crate::reference::bits::{bits_of, pack, unpack, Bits};

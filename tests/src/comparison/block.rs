@@ -57,7 +57,7 @@ pub fn built_blocks(tested: &impl Blocks, seed: u64, count: usize) -> String {
         let mut block = vec![0; block_bytes(k)];
         let service = rng.below(16) as u8;
         let built = tested.build_block(k, service, &payload, &mut block);
-        assert_eq!(built, Ok(()), "k {k}, service bits {service}");
+        assert_eq!(built, 0, "k {k}, service bits {service}");
         lines += &format!("{k} {}\n", hex(&block));
     }
     lines
@@ -181,7 +181,7 @@ impl<B: Blocks> Group<'_, B> {
         let mut block = vec![0; block_bytes(k)];
         let service = self.rng.below(16) as u8;
         let built = Reference.build_block(k, service, &data, &mut block);
-        assert_eq!(built, Ok(()));
+        assert_eq!(built, 0);
         unpack(&block, 0, block_bits(k))
     }
 
@@ -221,8 +221,8 @@ pub fn compare_build(
     same(&case, &answer, &built)?;
     same(&case, &expected, &got)?;
     tally.count(match answer {
-        Ok(()) => "built",
-        Err(_) => "build refused",
+        0 => "built",
+        _ => "build refused",
     });
     Ok(())
 }
@@ -275,13 +275,7 @@ mod tests {
     fn a_difference_is_reported() {
         struct Spare;
         impl Blocks for Spare {
-            fn build_block(
-                &self,
-                k: usize,
-                service: u8,
-                payload: &[u8],
-                block: &mut [u8],
-            ) -> Result<(), u8> {
+            fn build_block(&self, k: usize, service: u8, payload: &[u8], block: &mut [u8]) -> u8 {
                 TableDriven.build_block(k, service, payload, block)
             }
             fn read_block(&self, k: usize, block: &[u8], payload: &mut [u8]) -> Read {

@@ -1,11 +1,11 @@
 //! Random sessions of both ends over a bad line. Along those that meet the suppositions of
 //! demand 3, its claims are checked as well.
 
-use super::lockstep::{Lockstep, Opening, Twin};
+use super::lockstep::{Lockstep, Twin};
 use super::orders::Order;
 use super::sender::refused_word;
 use super::{spoil, Difference, Lent, Tally};
-use crate::calls::{ReceivingEnd, SendingEnd};
+use crate::calls::{Opening, ReceivingEnd, SendingEnd};
 use crate::damage::{invert, Damage, ADMITTED, FURTHER};
 use crate::delivery::{Delivery, Receiving, Sending};
 use crate::interface::{load_receiver, load_sender, RECEIVER_BYTES, SENDER_BYTES};

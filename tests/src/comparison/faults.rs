@@ -1,10 +1,9 @@
 //! That the groups find faults: the second implementation with one fault at a time.
 
 use super::{any_bytes, receiver, sender, Tally};
-use crate::calls::{Blocks, LoopTimes, ReceivingEnd, Reference, SendingEnd};
+use crate::calls::{Blocks, Line, LoopTimes, Opening, ReceivingEnd, Reference, SendingEnd};
 use crate::interface::{Counts, RECEIVER_BYTES, SENDER_BYTES};
 use crate::reference::block::Read;
-use crate::reference::refusal::Refusal;
 use crate::rng::Rng;
 
 #[derive(Clone, Copy, Debug, PartialEq, Eq)]
@@ -64,13 +63,7 @@ impl LoopTimes for Faulty {
 }
 
 impl Blocks for Faulty {
-    fn build_block(
-        &self,
-        k: usize,
-        service: u8,
-        payload: &[u8],
-        block: &mut [u8],
-    ) -> Result<(), Refusal> {
+    fn build_block(&self, k: usize, service: u8, payload: &[u8], block: &mut [u8]) -> u8 {
         Reference.build_block(k, service, payload, block)
     }
 
@@ -80,16 +73,8 @@ impl Blocks for Faulty {
 }
 
 impl SendingEnd for Faulty {
-    fn open_sender(
-        &self,
-        k: usize,
-        speed: u32,
-        loop_ms: u32,
-        length: usize,
-        order: &[u8],
-        state: &mut [u8],
-    ) -> u8 {
-        Reference.open_sender(k, speed, loop_ms, length, order, state)
+    fn open_sender(&self, opening: Opening, order: &[u8], state: &mut [u8]) -> u8 {
+        Reference.open_sender(opening, order, state)
     }
 
     fn send(&self, state: &mut [u8], order: &[u8], reading: bool, block: &mut [u8]) -> u32 {
@@ -116,21 +101,14 @@ impl ReceivingEnd for Faulty {
         Reference.open_receiver(k, state)
     }
 
-    fn receive(
-        &self,
-        state: &mut [u8],
-        line: &[u8],
-        bits: usize,
-        store: &mut [u8],
-        counts: &mut Counts,
-    ) -> u8 {
+    fn receive(&self, state: &mut [u8], line: Line, store: &mut [u8], counts: &mut Counts) -> u8 {
         if self.0 == Fault::ShortState && state.len() < RECEIVER_BYTES {
             return 6;
         }
         self.narrow(&[13, 14], state);
         let searching = state.get(15) == Some(&0);
         let back = state.get(13).copied();
-        let number = Reference.receive(state, line, bits, store, counts);
+        let number = Reference.receive(state, line, store, counts);
         self.spoil_state(number < 16, RECEIVER_BYTES, state);
         self.spoil_data(number != 19, store);
         match self.0 {

@@ -2,7 +2,7 @@
 //! of one is held against that of the other.
 
 use super::{hex, same, Difference, Lent};
-use crate::calls::{ReceivingEnd, Reference, SendingEnd};
+use crate::calls::{Line, Opening, ReceivingEnd, Reference, SendingEnd};
 use crate::interface::{received, sent, Counts};
 use crate::reference::receiver::Received;
 use crate::reference::sender::Sent;
@@ -49,21 +49,6 @@ impl Twin {
     }
 }
 
-/// What opening a sender is given besides the slices.
-#[derive(Clone, Copy, Debug)]
-pub struct Opening {
-    pub k: usize,
-    pub speed: u32,
-    pub loop_ms: u32,
-    pub length: usize,
-}
-
-impl Opening {
-    fn call(self, end: &impl SendingEnd, order: &[u8], state: &mut [u8]) -> u8 {
-        end.open_sender(self.k, self.speed, self.loop_ms, self.length, order, state)
-    }
-}
-
 /// The tested sending and receiving ends, beside the second implementation's.
 pub struct Lockstep<'a, S, R> {
     pub sending: &'a S,
@@ -83,8 +68,10 @@ impl<S: SendingEnd, R> Lockstep<'_, S, R> {
             let (order, bytes) = (order.len(), before.slice().len());
             format!("open sender: {opening:?}, {order} bytes of order, {bytes} for the state")
         };
-        let expected = opening.call(&Reference, order, state.expected.slice_mut());
-        let got = opening.call(self.sending, order, state.got.slice_mut());
+        let expected = Reference.open_sender(opening, order, state.expected.slice_mut());
+        let got = self
+            .sending
+            .open_sender(opening, order, state.got.slice_mut());
         same(&case, &expected, &got)?;
         state.same(&case)?;
         if got != 0 {
@@ -160,6 +147,7 @@ impl<S, R: ReceivingEnd> Lockstep<'_, S, R> {
             let (state, line) = (hex(before.slice()), hex(line));
             format!("receive: {state}, {bits} bits, line {line}, store of {lent} bytes")
         };
+        let line = Line { bytes: line, bits };
         let unwritten = Counts {
             used: !bits,
             length: !lent,
@@ -167,12 +155,10 @@ impl<S, R: ReceivingEnd> Lockstep<'_, S, R> {
         let (mut expected_counts, mut counts) = (unwritten, unwritten);
         let (bytes, place) = (state.expected.slice_mut(), store.expected.slice_mut());
         let place = &mut place[..lent];
-        let expected = Reference.receive(bytes, line, bits, place, &mut expected_counts);
+        let expected = Reference.receive(bytes, line, place, &mut expected_counts);
         let (bytes, place) = (state.got.slice_mut(), store.got.slice_mut());
         let place = &mut place[..lent];
-        let got = self
-            .receiving
-            .receive(bytes, line, bits, place, &mut counts);
+        let got = self.receiving.receive(bytes, line, place, &mut counts);
         same(&case, &(expected, expected_counts), &(got, counts))?;
         state.same(&case)?;
         store.same(&case)?;

@@ -1,11 +1,11 @@
 //! Opening a sender, and random sessions of sending calls on state bytes of every kind.
 
 use super::block::REFUSED_LENGTHS;
-use super::lockstep::{Lockstep, Opening, Twin};
+use super::lockstep::{Lockstep, Twin};
 use super::loop_time::REFUSED_SPEEDS;
 use super::orders::Order;
 use super::{spoil, Difference, Lent, Tally};
-use crate::calls::SendingEnd;
+use crate::calls::{Opening, SendingEnd};
 use crate::interface::{load_sender, store_word, SENDER_BYTES};
 use crate::reference::bits::bit_at;
 use crate::reference::block::block_bytes;
