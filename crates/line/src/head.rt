@@ -106,6 +106,15 @@ impl Head {
         }
     }
 
+    fn refused(self, number: u8) -> HeadStep
+        ensures { λ r. ⌜ r ≡ turnedAway self number ⌝ }
+    {
+        HeadStep {
+            head: self,
+            answer: Received::Refused(number),
+        }
+    }
+
     // This head after an event, with nothing held, and the event.
     fn after(self, array: &mut [u8], event: Event, used: usize) -> HeadStep
         requires { ⌜ length (now array) ≡ arrayBytes ⌝ }
@@ -210,10 +219,7 @@ impl Head {
         let m = self.setup.k / 8;
         let from = self.taken * m;
         if store.len() < from + m {
-            return HeadStep {
-                head: self,
-                answer: Received::Refused(block::SHORT),
-            };
+            return self.refused(block::SHORT);
         }
         keep(payload, m, from, store);
         self.stop(array, Rule::Accepts, used)
@@ -362,15 +368,6 @@ impl Head {
             Phase::InStep => self.in_step(array, line, bits, store),
             Phase::SequenceAlarm => self.stand(Event::SequenceAlarm, bits),
             Phase::LengthAlarm => self.stand(Event::LengthAlarm, bits),
-        }
-    }
-
-    fn refused(self, number: u8) -> HeadStep
-        ensures { λ r. ⌜ r ≡ turnedAway self number ⌝ }
-    {
-        HeadStep {
-            head: self,
-            answer: Received::Refused(number),
         }
     }
 

@@ -19,7 +19,7 @@ use Rattle.line.specs.Receiving.{arrayBytes, meaning, Reading, readings,
 use Rattle.line.specs.Pieces.{usesAll, reads, later, laterAnswer, Piece, lent, Outcome, outcome, call, counted, goOn, calls, total, joined}
 use Rattle.line.specs.declared.receiver.Receiver.{Receiver}
 use Rattle.line.proofs.Calling.{in-range}
-use Rattle.line.proofs.Delivery.Tests.{cond-case, either}
+use Rattle.block.proofs.Truth.{cond-case, either}
 use Rattle.line.proofs.Pieces.Step.{quiet-rule}
 use Rattle.line.proofs.Pieces.Reading.{Onward, Within, splits, onward-of}
 

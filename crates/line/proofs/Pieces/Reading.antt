@@ -20,7 +20,7 @@ use Rattle.line.specs.declared.receiver.Event.{Event}
 use Rattle.line.specs.declared.receiver.Event.the-variants as E
 use Rattle.line.proofs.Stepping.{held-on, step-on, step-done}
 use Rattle.line.proofs.Calling.{InRange, held-search, readings-some}
-use Rattle.line.proofs.Delivery.Tests.{either}
+use Rattle.block.proofs.Truth.{either}
 use Rattle.line.proofs.Delivery.Judging.{judged}
 use Rattle.line.proofs.Delivery.Holding.{length-heldBits, length-holding, length-searching, heldBits-searching}
 use Rattle.line.proofs.Pieces.Search.{Passed, Found, unfound, search-splits, search-later}

@@ -17,7 +17,7 @@ use Rattle.line.specs.Receiving.{arrayBytes, Rule, unfinished, standing,
 use Rattle.line.specs.Pieces.{usesAll, later}
 use Rattle.line.specs.declared.receiver.Receiver.{Receiver}
 use Rattle.line.proofs.Stepping.{step-on, step-done}
-use Rattle.line.proofs.Delivery.Tests.{either}
+use Rattle.block.proofs.Truth.{either}
 use Rattle.line.proofs.Delivery.Judging.{Judged, as-sync, fails, as-data, as-other, judged}
 use Rattle.line.proofs.Delivery.Holding.{length-overwrite, take-overwrite, drop-overwrite, bitsOf-exact, heldBits-holding}
 use Rattle.line.proofs.Delivery.BitByBit.{after-holding}

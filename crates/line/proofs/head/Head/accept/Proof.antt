@@ -1,8 +1,10 @@
 -- `Head::accept` judges the store in whole bytes and copies the data to it. Assumes nothing.
-use mathlib.Core.Path.{sym, _∙_}
+use mathlib.Core.Path.{sym, ap, _∙_}
 use native.Mathlib.Omega.{arith}
 use Rattle.block.proofs.Lengths.{length-facts}
 use Rattle.line.proofs.Accepting.{start-lt, no-room, room, kept-store}
+use Rattle.line.specs.Code.ReceiveSteps.{stepWith}
+use Rattle.line.specs.declared.head.HeadStep.{HeadStep}
 use borrow.Author.Needs.{needs}
 use Rattle.line.proofs.head.Head.accept.Statement.{statement}
 use Rattle.line.proofs.head.Head.accept.Tie as tie
@@ -20,11 +22,14 @@ add-if1 c =
     let f = length-facts (a .args .self .setup .k) (a .pre .1) in
     omega arith
 
+refused-requires : tie.Need-refused-requires
+refused-requires c κs = search needs
+
 returns : tie.Need-returns
 returns c =
-    let a = c .before .before .before .before .before .before in
-    let e = no-room (a .args .self .setup .k) (a .args .self .taken) (a .pre .1) (a .args .store .now) (c .if1 .taken) in
-    (sym (simp e), sym (simp e))
+    let a = c .before .before .before .before .before .before .before in
+    let e = no-room (a .args .self .setup .k) (a .args .self .taken) (a .pre .1) (a .args .store .now) (c .before .if1 .taken) in
+    (ap (λ (r : HeadStep). stepWith r (a .args .array .now)) (c .refused .ensures) ∙ sym (simp e), sym (simp e))
 
 keep-requires : tie.Need-keep-requires
 keep-requires c κs = search needs
@@ -53,4 +58,4 @@ returns-2 c =
 pub accept-spec : {M : Type 1} → statement M
 accept-spec =
     tie.close
-    (tie.spec mul-from add-if1 returns keep-requires stop-requires same-length same-length-2 returns-2)
+    (tie.spec mul-from add-if1 refused-requires returns keep-requires stop-requires same-length same-length-2 returns-2)
