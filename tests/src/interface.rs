@@ -15,6 +15,9 @@ pub const GOING_ON: u8 = 0;
 pub const FINISHED: u8 = 1;
 pub const GAVE_UP: u8 = 2;
 
+/// The least of the events' numbers; below it stand the refusals.
+pub const EVENT_NONE: u8 = 16;
+
 /// The marks of a sending call's answer; an item's number stands above them.
 const SENT: u32 = 0x100;
 const ITEM: u32 = 0x200;
@@ -151,7 +154,7 @@ pub fn sent(word: u32) -> Sent {
 /// An event's number; *ended* is told with its L besides.
 fn event_number(event: Event) -> u8 {
     match event {
-        Event::None => 16,
+        Event::None => EVENT_NONE,
         Event::Sync => 17,
         Event::Bad => 18,
         Event::Accepted => 19,
@@ -173,7 +176,7 @@ pub struct Counts {
 /// What a receiving call's answer and counts say.
 pub fn received(number: u8, counts: Counts) -> Received {
     let event = match number {
-        16 => Event::None,
+        EVENT_NONE => Event::None,
         17 => Event::Sync,
         18 => Event::Bad,
         19 => Event::Accepted,

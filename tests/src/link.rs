@@ -71,7 +71,7 @@ extern "C" {
 const PASSED: u16 = 0x100;
 const FAILED: u16 = 0x200;
 
-/// The linked library.
+/// The linked library. What the benchmark measures is inlined there, so that it is the call alone.
 pub struct Library;
 
 // SAFETY, of every call below: each pointer comes with the length of the slice it was taken from,
@@ -84,6 +84,7 @@ impl LoopTimes for Library {
 }
 
 impl Blocks for Library {
+    #[inline]
     fn build_block(&self, k: usize, service: u8, payload: &[u8], block: &mut [u8]) -> u8 {
         unsafe {
             order_line_build_block(
@@ -97,6 +98,7 @@ impl Blocks for Library {
         }
     }
 
+    #[inline]
     fn read_block(&self, k: usize, block: &[u8], payload: &mut [u8]) -> Read {
         let number = unsafe {
             order_line_read_block(
@@ -132,6 +134,7 @@ impl SendingEnd for Library {
         }
     }
 
+    #[inline]
     fn send(&self, state: &mut [u8], order: &[u8], reading: bool, block: &mut [u8]) -> u32 {
         unsafe {
             order_line_send(
@@ -156,6 +159,7 @@ impl ReceivingEnd for Library {
         unsafe { order_line_open_receiver(k, state.as_mut_ptr(), state.len()) }
     }
 
+    #[inline]
     fn receive(&self, state: &mut [u8], line: Line, store: &mut [u8], counts: &mut Counts) -> u8 {
         unsafe {
             order_line_receive(

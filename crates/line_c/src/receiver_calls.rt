@@ -48,9 +48,8 @@ pub extern "C" fn order_line_open_receiver(k: usize, state: &mut [u8]) -> u8
     }
 }
 
-// An event's number; the length that comes with the end is written.
-fn report(event: Event, length: &mut usize) -> u8
-    ensures { λ r. ⌜ (r ≡ eventNumber event) × (now (length .exit) ≡ eventLength (now (length .entry)) event) ⌝ }
+fn number_of(event: Event) -> u8
+    ensures { λ r. ⌜ r ≡ eventNumber event ⌝ }
 {
     match event {
         Event::None => NONE,
@@ -60,11 +59,19 @@ fn report(event: Event, length: &mut usize) -> u8
         Event::Previous => PREVIOUS,
         Event::SequenceAlarm => SEQUENCE_ALARM,
         Event::LengthAlarm => LENGTH_ALARM,
-        Event::Ended(bits) => {
-            *length = bits;
-            ENDED
-        }
+        Event::Ended(_) => ENDED,
     }
+}
+
+// An event's number; the length that comes with the end is written.
+fn report(event: Event, length: &mut usize) -> u8
+    ensures { λ r. ⌜ (r ≡ eventNumber event) × (now (length .exit) ≡ eventLength (now (length .entry)) event) ⌝ }
+{
+    if let Event::Ended(bits) = event {
+        *length = bits;
+        return ENDED;
+    }
+    number_of(event)
 }
 
 #[no_mangle]

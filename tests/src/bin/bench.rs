@@ -3,14 +3,14 @@
 //! Those that are compared run in turn in the same rounds, on the same buffers, which nobody
 //! clears between calls. The ratios of the medians are what the figures are for; nanoseconds of
 //! one call stand beside them. The library's states stand in lent bytes, and the other two take
-//! a state by value and hand it back.
+//! a state by value and hand it back; last, the sibling's receiving end in place.
 //!
 //! `bench count CALL K WHO PASSES` makes the calls of one alone, so often, for callgrind to count:
-//! CALL is build, read, send or a number of bits received a call, WHO 0, 1 or 2 in that order.
-//! It prints the number of calls of a pass.
+//! CALL is build, read, send or a number of bits received a call, WHO 0, 1 or 2 in that order, or
+//! 3 for receiving by the table-driven sibling in place. It prints the number of calls of a pass.
 
 use order_line_tests::calls::{Blocks, Line, ReceivingEnd, Reference, SendingEnd, TableDriven};
-use order_line_tests::interface::{received, sent, store_receiver, store_sender, Counts};
+use order_line_tests::interface::{sent, store_receiver, store_sender, Counts, EVENT_NONE};
 use order_line_tests::interface::{RECEIVER_BYTES, SENDER_BYTES};
 use order_line_tests::link::Library;
 use order_line_tests::reference::bits::{pack, unpack};
@@ -27,6 +27,12 @@ use std::time::{Duration, Instant};
 const ROUNDS: usize = 101;
 /// Different blocks in turn, so that no call sees the data of the call before it.
 const BUFFERS: usize = 16;
+/// Receiving calls, and the most bits that they are lent.
+const RECEIVING: [(&str, usize); 3] = [
+    ("receive block", usize::MAX),
+    ("receive 64 bits", 64),
+    ("receive 1 bit", 1),
+];
 /// Least time of one round of one implementation.
 const ROUND: Duration = Duration::from_micros(400);
 
@@ -228,7 +234,8 @@ impl Receives for Library {
         let mut counts = Counts { used: 0, length: 0 };
         let line = Line { bytes: line, bits };
         let number = ReceivingEnd::receive(self, state, line, store, &mut counts);
-        used(received(number, counts))
+        assert!(number >= EVENT_NONE, "refused {number}");
+        counts.used
     }
 }
 
@@ -252,6 +259,24 @@ impl Receives for TableDriven {
     }
 }
 
+impl Receives for InPlace {
+    type State = table::receiver::Receiver;
+
+    fn state(&self, receiver: Receiver) -> Self::State {
+        table::receiver::Receiver::from(receiver)
+    }
+
+    fn receive(
+        &self,
+        state: &mut Self::State,
+        line: &[u8],
+        bits: usize,
+        store: &mut [u8],
+    ) -> usize {
+        used(state.receive_in_place(line, bits, store))
+    }
+}
+
 impl Receives for Reference {
     type State = Receiver;
 
@@ -265,6 +290,9 @@ impl Receives for Reference {
         used(received)
     }
 }
+
+/// The table-driven sibling with its state where it stands, as the library has it.
+struct InPlace;
 
 /// One implementation's calls on the buffers.
 type Pass<'a> = &'a dyn Fn(&mut Buffers);
@@ -298,6 +326,7 @@ fn count(call: &str, k: usize, who: usize, passes: usize) {
     let mut buffers = Buffers::new(&mut Rng::new(41), k);
     let most = call.parse().unwrap_or(usize::MAX);
     let lines = Lines::new(&buffers, most.min(block_bits(k)));
+    let in_place: Pass = &|b| b.receive(&InPlace, &lines);
     let implementations: [Pass; 3] = match call {
         "build" => three!(build),
         "read" => three!(read),
@@ -305,7 +334,7 @@ fn count(call: &str, k: usize, who: usize, passes: usize) {
         _ => three!(receive, &lines),
     };
     for _ in 0..passes {
-        implementations[who](&mut buffers);
+        implementations.get(who).unwrap_or(&in_place)(&mut buffers);
     }
     println!(
         "{}",
@@ -332,11 +361,7 @@ fn measure_all() {
     for buffers in &mut lengths {
         measure(buffers, "send", BUFFERS, three!(send));
     }
-    for (call, most) in [
-        ("receive block", usize::MAX),
-        ("receive 64 bits", 64),
-        ("receive 1 bit", 1),
-    ] {
+    for (call, most) in RECEIVING {
         for buffers in &mut lengths {
             let lines = Lines::new(buffers, most.min(block_bits(buffers.k)));
             measure(buffers, call, lines.calls(), three!(receive, &lines));
@@ -344,17 +369,28 @@ fn measure_all() {
             assert_eq!(buffers.store, payloads, "what was received");
         }
     }
+    println!("in place           k  library ns    table ns  table/library");
+    for (call, most) in RECEIVING {
+        for buffers in &mut lengths {
+            let lines = Lines::new(buffers, most.min(block_bits(buffers.k)));
+            let passes: [Pass; 2] = [&|b| b.receive(&Library, &lines), &|b| {
+                b.receive(&InPlace, &lines)
+            }];
+            let [library, table] = medians(buffers, lines.calls(), passes);
+            print_pair(call, buffers.k, library, table, table / library);
+        }
+    }
     println!("the library alone  k   receive ns     read ns   receive/read");
     for buffers in &mut lengths {
         let lines = Lines::new(buffers, block_bits(buffers.k));
         let passes: [Pass; 2] = [&|b| b.receive(&Library, &lines), &|b| b.read(&Library)];
         let [receive, read] = medians(buffers, BUFFERS, passes);
-        let (k, ratio) = (buffers.k, receive / read);
-        println!(
-            "{:15} {k:4} {receive:11.1} {read:11.1} {ratio:14.2}",
-            "a whole block"
-        );
+        print_pair("a whole block", buffers.k, receive, read, receive / read);
     }
+}
+
+fn print_pair(call: &str, k: usize, first: f64, second: f64, ratio: f64) {
+    println!("{call:15} {k:4} {first:11.1} {second:11.1} {ratio:14.2}");
 }
 
 fn measure(buffers: &mut Buffers, call: &str, calls: usize, passes: [Pass; 3]) {

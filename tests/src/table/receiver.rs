@@ -57,14 +57,22 @@ impl From<Receiver> for receiver::Receiver {
 }
 
 impl Receiver {
-    /// Takes in line bits up to the next event or to the last; refusals in the order 7, 6.
+    /// Takes in line bits up to the next event or to the last; the state is taken by value and
+    /// handed back, as document 01 has each step.
     #[inline(never)]
     pub fn receive(mut self, line: &[u8], bits: usize, store: &mut [u8]) -> (Receiver, Received) {
+        let received = self.receive_in_place(line, bits, store);
+        (self, received)
+    }
+
+    /// The same on a state that stays where it is. Refusals in the order 7, 6.
+    #[inline(never)]
+    pub fn receive_in_place(&mut self, line: &[u8], bits: usize, store: &mut [u8]) -> Received {
         if self.is_spoiled() {
-            return (self, Received::Refused(SPOILED));
+            return Received::Refused(SPOILED);
         }
         if line.len() < bits.div_ceil(8) {
-            return (self, Received::Refused(SHORT));
+            return Received::Refused(SHORT);
         }
         if bits == 0 || self.alarm.is_some() {
             return self.stand(bits);
@@ -76,14 +84,24 @@ impl Receiver {
         if bits < missing {
             copy_bits(&mut self.array, self.held, line, bits);
             self.held += bits;
-            return (self, heard(Event::None, bits));
+            return heard(Event::None, bits);
+        }
+        match self.finish(line, missing, store) {
+            Ok(event) => heard(event, missing),
+            Err(refusal) => Received::Refused(refusal),
+        }
+    }
+
+    /// The missing bits have come. A block that stands whole in the line is judged there; another
+    /// is finished in a copy, since a refusal leaves the array as it was.
+    fn finish(&mut self, line: &[u8], missing: usize, store: &mut [u8]) -> Result<Event, u8> {
+        let bytes = self.k / 8 + 3;
+        if self.held == 0 {
+            return self.judge(&line[..bytes], store);
         }
         let mut block = self.array;
         copy_bits(&mut block, self.held, line, missing);
-        match self.judge(&block[..self.k / 8 + 3], store) {
-            Ok(event) => (self, heard(event, missing)),
-            Err(refusal) => (self, Received::Refused(refusal)),
-        }
+        self.judge(&block[..bytes], store)
     }
 
     fn is_spoiled(&self) -> bool {
@@ -92,7 +110,7 @@ impl Receiver {
     }
 
     /// No bits, or an alarm that stands.
-    fn stand(mut self, bits: usize) -> (Receiver, Received) {
+    fn stand(&mut self, bits: usize) -> Received {
         let event = match self.alarm {
             None => Event::None,
             Some(Alarm::Sequence) => Event::SequenceAlarm,
@@ -102,11 +120,11 @@ impl Receiver {
             self.return_bit = true;
             self.row = 0;
         }
-        (self, heard(event, bits))
+        heard(event, bits)
     }
 
     /// Search over a 16-bit window.
-    fn look_for_sequence(mut self, line: &[u8], bits: usize) -> (Receiver, Received) {
+    fn look_for_sequence(&mut self, line: &[u8], bits: usize) -> Received {
         let start = u32::from(self.array[0]) << 8 | u32::from(self.array[1]);
         let mut window = (start >> (16 - self.held)) as u16;
         let mut count = self.held;
@@ -116,14 +134,14 @@ impl Receiver {
             if count >= 16 && window == SEQUENCE {
                 self.search = false;
                 let event = self.settle(Event::Sync);
-                return (self, heard(event, i + 1));
+                return heard(event, i + 1);
             }
         }
         self.held = count.min(15);
         let latest = window << (16 - self.held);
         self.array[..2].copy_from_slice(&latest.to_be_bytes());
         self.return_bit = true;
-        (self, heard(Event::None, bits))
+        heard(Event::None, bits)
     }
 
     /// Rules 1 to 7 on a whole packed block. A refusal leaves the state as it was.
