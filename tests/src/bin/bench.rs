@@ -104,9 +104,10 @@ impl Buffers {
             ..receiver::open(self.k).expect("one of the four")
         });
         for block in &lines.blocks {
-            for (call, line) in block.chunks(lines.stride).enumerate() {
+            for (call, bytes) in block.chunks(lines.stride).enumerate() {
                 let bits = lines.most.min(n - call * lines.most);
-                let used = tested.receive(&mut state, line, bits, &mut self.store);
+                let line = Line { bytes, bits };
+                let used = tested.receive(&mut state, line, &mut self.store);
                 assert_eq!(black_box(used), bits);
             }
         }
@@ -204,8 +205,7 @@ trait Receives {
     type State;
     fn state(&self, receiver: Receiver) -> Self::State;
     /// The number of bits used.
-    fn receive(&self, state: &mut Self::State, line: &[u8], bits: usize, store: &mut [u8])
-        -> usize;
+    fn receive(&self, state: &mut Self::State, line: Line, store: &mut [u8]) -> usize;
 }
 
 fn used(received: Received) -> usize {
@@ -224,15 +224,8 @@ impl Receives for Library {
         bytes
     }
 
-    fn receive(
-        &self,
-        state: &mut Self::State,
-        line: &[u8],
-        bits: usize,
-        store: &mut [u8],
-    ) -> usize {
+    fn receive(&self, state: &mut Self::State, line: Line, store: &mut [u8]) -> usize {
         let mut counts = Counts { used: 0, length: 0 };
-        let line = Line { bytes: line, bits };
         let number = ReceivingEnd::receive(self, state, line, store, &mut counts);
         assert!(number >= EVENT_NONE, "refused {number}");
         counts.used
@@ -246,14 +239,8 @@ impl Receives for TableDriven {
         table::receiver::Receiver::from(receiver)
     }
 
-    fn receive(
-        &self,
-        state: &mut Self::State,
-        line: &[u8],
-        bits: usize,
-        store: &mut [u8],
-    ) -> usize {
-        let (next, received) = state.receive(line, bits, store);
+    fn receive(&self, state: &mut Self::State, line: Line, store: &mut [u8]) -> usize {
+        let (next, received) = state.receive(line.bytes, line.bits, store);
         *state = next;
         used(received)
     }
@@ -266,14 +253,8 @@ impl Receives for InPlace {
         table::receiver::Receiver::from(receiver)
     }
 
-    fn receive(
-        &self,
-        state: &mut Self::State,
-        line: &[u8],
-        bits: usize,
-        store: &mut [u8],
-    ) -> usize {
-        used(state.receive_in_place(line, bits, store))
+    fn receive(&self, state: &mut Self::State, line: Line, store: &mut [u8]) -> usize {
+        used(state.receive_in_place(line.bytes, line.bits, store))
     }
 }
 
@@ -284,8 +265,8 @@ impl Receives for Reference {
         receiver
     }
 
-    fn receive(&self, state: &mut Receiver, line: &[u8], bits: usize, store: &mut [u8]) -> usize {
-        let (next, received) = state.clone().receive(line, bits, store);
+    fn receive(&self, state: &mut Receiver, line: Line, store: &mut [u8]) -> usize {
+        let (next, received) = state.clone().receive(line.bytes, line.bits, store);
         *state = next;
         used(received)
     }
