@@ -90,7 +90,7 @@ module _ (k : ℕ) (known : isLength k ≡ true) (s : List ℕ) (h : blockLength
   abbrev row : Bits
   row = take (blockLength k) (bitsOf s)
 
-  service-number : getD s 0 0 < 256 → number (serviceOf row) ≡ getD s 0 0 / 16
+  pub service-number : getD s 0 0 < 256 → number (serviceOf row) ≡ getD s 0 0 / 16
   service-number b =
       let f = length-facts k known in
       ap number (take-take 4 (blockLength k) (bitsOf s) (omega arith) ∙ service-first s (omega arith))

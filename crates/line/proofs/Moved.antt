@@ -1,20 +1,20 @@
--- Bits moved by bytes: parts of a byte, bytes joined of two, a row written into an array byte by byte, and bytes copied
+-- Bits moved by bytes: parts of a byte, bytes joined of two, a row written into an array byte by byte, and bytes written
 -- over a part of the store. Assumes nothing.
 use mathlib.Core.Path.{_≡_, sym, ap, ap₂, _∙_}
-use mathlib.Core.List.{List, [], _∷_, _++_, append-assoc}
+use mathlib.Core.List.{List, [], _∷_, _++_, append-assoc, append-nil}
 use mathlib.Core.Logic.{⊎-elim}
 use Prim.Native.Nat.{ℕ, zero, suc, _+_, _-_, _*_, _/_, _%_, _^_, _≤_, _<_}
 use native.Mathlib.Nat.{mod-lt, le-of-lt, eq-or-lt-of-le}
 use native.Mathlib.Numerals.{add-one}
 use native.Mathlib.Omega.{arith}
 use lib.Bits.{bitOr, bitAnd, or-shifted, and-mask, and-high}
-use lib.ListN.{length, take, drop, getD, set, take-append-drop}
+use lib.ListN.{length, take, drop, getD, set, length-append, length-drop, take-append-drop}
 use lib.Dec.{lit<}
 use lib.Pow.{pow-pos, shl-exact, ones-split, ones-lt, high}
-use lib.Seq.{take-at, drop-at, take-append-le, take-append-add, take-add, drop-append-add, drop-append-le, take-suc, take-suc-set, take-take, take-all, drop-drop, drop-cons, set-split, length-take-le, paste, length-paste}
-use Rattle.crc.specs.Bits.{Bits, binary, bitsOf, bytesOf}
+use lib.Seq.{take-at, drop-at, take-append-le, take-append-add, take-add, drop-append-add, drop-append-le, take-suc, take-suc-set, take-take, take-all, drop-drop, drop-cons, set-split, length-take-le}
+use Rattle.crc.specs.Bits.{Bits, binary, bitsOf, bytesOf, zeros}
 use Rattle.crc.proofs.Rows.{length-binary, binary-mod, binary-join}
-use Rattle.crc.proofs.Bytes.{length-bitsOf, take-bitsOf, drop-bitsOf, bitsOf-append, bitsOf-last, bytesOf-bitsOf}
+use Rattle.crc.proofs.Bytes.{length-bitsOf, take-bitsOf, drop-bitsOf, bitsOf-append, bitsOf-last, bitsOf-bytesOf, bytesOf-bitsOf}
 use Rattle.block.proofs.Packing.{binary-split}
 use Rattle.line.specs.Receiving.{overwrite, storeAt}
 use Rattle.line.proofs.Filling.{take-bytes, drop-bytes}
@@ -212,31 +212,36 @@ module _ (array array₀ line : List ℕ) (held count at i s n c v w : ℕ) (ha 
 pub packed : (l : List ℕ) (m : ℕ) (row : Bits) → length l ≡ m → ((j : ℕ) → getD l j 0 < 256) → bitsOf l ≡ row → l ≡ bytesOf m row
 packed l m row n h e = sym (bytesOf-bitsOf l h) ∙ ap₂ bytesOf n e
 
--- ---- bytes copied over a part of the store
+-- ---- bytes over a part of the store
+
+-- bits that fill whole bytes
+pub whole-bytes : (m : ℕ) (d : Bits) → length d ≡ 8 * m → bitsOf (bytesOf m d) ≡ d
+whole-bytes m d e =
+    let n : 8 * m - length d ≡ 0 = omega arith in
+    bitsOf-bytesOf m d (omega arith) ∙ ap (λ (j : ℕ). d ++ zeros j) n ∙ append-nil d
 
 append-bytes : (x y : List ℕ) → ((i : ℕ) → getD x i 0 < 256) → ((i : ℕ) → getD y i 0 < 256) → (i : ℕ) → getD (x ++ y) i 0 < 256
 append-bytes [] y h k i = k i
 append-bytes (a ∷ x) y h k zero = h 0
 append-bytes (a ∷ x) y h k (suc i) = append-bytes x y (λ j. h (suc j)) k i
 
-module _ (store payload : List ℕ) (from m : ℕ) (hm : m ≤ length payload) (hs : from + m ≤ length store)
-    (bs : (i : ℕ) → getD store i 0 < 256) (bp : (i : ℕ) → getD payload i 0 < 256) where
-  copied-bits : bitsOf (paste store from payload m) ≡ overwrite (8 * from) (take (8 * m) (bitsOf payload)) (bitsOf store)
-  copied-bits =
-      let new : Bits = take (8 * m) (bitsOf payload) in
-      let n : 8 * (from + m) ≡ 8 * from + length new =
-      omega (arith, length-take-le (8 * m) (bitsOf payload) (omega (arith, length-bitsOf payload))) in
-      bitsOf-append (take from store ++ take m payload) (drop (from + m) store)
-      ∙ ap (λ (l : Bits). l ++ bitsOf (drop (from + m) store)) (bitsOf-append (take from store) (take m payload))
-      ∙ append-assoc (bitsOf (take from store)) (bitsOf (take m payload)) (bitsOf (drop (from + m) store))
-      ∙ ap₂ (λ (k l : Bits). k ++ l) (sym (take-bitsOf from store))
-      (ap₂ (λ (k l : Bits). k ++ l) (sym (take-bitsOf m payload)) (sym (drop-bitsOf (from + m) store) ∙ ap (λ (k : ℕ). drop k (bitsOf store)) n))
-
-  pub copied-store : paste store from payload m ≡ storeAt (8 * from) (take (8 * m) (bitsOf payload)) store
-  unfolding storeAt
-  copied-store =
-      packed (paste store from payload m) (length store) (overwrite (8 * from) (take (8 * m) (bitsOf payload)) (bitsOf store))
-      (length-paste store from payload m hs hm)
-      (append-bytes (take from store ++ take m payload) (drop (from + m) store)
-      (append-bytes (take from store) (take m payload) (take-bytes from store bs) (take-bytes m payload bp)) (drop-bytes (from + m) store bs))
-      copied-bits
+pub placed-store : (store new : List ℕ) (from : ℕ) → from + length new ≤ length store → ((i : ℕ) → getD store i 0 < 256)
+    → ((i : ℕ) → getD new i 0 < 256) → take from store ++ (new ++ drop (length new) (drop from store)) ≡ storeAt (8 * from) (bitsOf new) store
+unfolding storeAt
+placed-store store new from h bs bn =
+    let front : List ℕ = take from store in
+    let back : List ℕ = drop (length new) (drop from store) in
+    let d : back ≡ drop (from + length new) store = drop-drop (length new) from store in
+    let n : length (front ++ (new ++ back)) ≡ length store =
+    length-append front (new ++ back)
+    ∙ ap₂ (λ (x y : ℕ). x + y) (length-take-le from store (omega arith))
+    (length-append new back ∙ ap (λ (x : ℕ). length new + x) (length-drop (length new) (drop from store) ∙ ap (λ (x : ℕ). x - length new) (length-drop from store)))
+    ∙ omega arith in
+    let e : 8 * (from + length new) ≡ 8 * from + length (bitsOf new) = omega (arith, length-bitsOf new) in
+    packed (front ++ (new ++ back)) (length store) (overwrite (8 * from) (bitsOf new) (bitsOf store)) n
+    (append-bytes front (new ++ back) (take-bytes from store bs)
+    (append-bytes new back bn (drop-bytes (length new) (drop from store) (drop-bytes from store bs))))
+    (bitsOf-append front (new ++ back)
+    ∙ ap₂ (λ (x y : Bits). x ++ y) (sym (take-bitsOf from store))
+    (bitsOf-append new back
+    ∙ ap (λ (l : Bits). bitsOf new ++ l) (ap bitsOf d ∙ sym (drop-bitsOf (from + length new) store) ∙ ap (λ (k : ℕ). drop k (bitsOf store)) e)))

@@ -2,17 +2,16 @@
 ghost use mathlib.Core.Path.{_≡_};
 ghost use mathlib.Core.Bool.{true, _||_};
 ghost use mathlib.Core.List.{List, [], _++_};
-ghost use Prim.Native.Nat.{ℕ, _+_, _*_, _^_, _≤_, _<_};
+ghost use Prim.Native.Nat.{ℕ, _+_, _*_, _/_, _^_, _≤_, _<_};
 ghost use lib.Dec.{leb};
-ghost use lib.ListN.{length, take};
-ghost use lib.Seq.{paste};
+ghost use lib.ListN.{length, take, getD};
 ghost use Rattle.crc.specs.Bits.{bitsOf};
 ghost use Rattle.block.specs.Lengths.{isLength, blockLength};
 ghost use Rattle.line.specs.Order.{mostItems};
 ghost use Rattle.line.specs.Receiving as S;
 ghost use Rattle.line.specs.Receiving.{arrayBytes, noBytes, receiverInRange};
 ghost use Rattle.line.specs.ReceivingInPlace.{whole, ReceiveInPlace};
-ghost use Rattle.line.specs.Code.ReceiveSteps.{windowBits, ruleOf, stepWith, stepped, handedBack, acceptance, acceptedStore, judged, turnedAway, Handed};
+ghost use Rattle.line.specs.Code.ReceiveSteps.{windowBits, ruleOf, stepWith, stepped, handedBack, unstored, storable, judged, turnedAway, Handed};
 use crate::hold::put_bits;
 use crate::order::MOST_ITEMS;
 use crate::order::OVERHEAD;
@@ -23,6 +22,7 @@ use crate::receiver::Phase;
 use crate::receiver::Received;
 use crate::receiver::Setup;
 use crate::rules::Rule;
+use crate::rules::is_awaited;
 use crate::rules::looks_sync;
 use crate::rules::service_rule;
 use crate::window::Window;
@@ -70,18 +70,6 @@ fn copied(array: &[u8]) -> [u8; 483]
         i += 1;
     }
     copy
-}
-
-// The first m bytes of the data become the store's from byte from on.
-fn keep(payload: &[u8], m: usize, from: usize, store: &mut [u8])
-    requires { ⌜ (m ≤ length (now payload)) × (from + m ≤ length (now store)) ⌝ }
-    ensures { λ _. ⌜ now (store .exit) ≡ paste (now (store .entry)) from (now (payload .entry)) m ⌝ }
-{
-    let mut i = 0;
-    while i < m {
-        store[from + i] = payload[i];
-        i += 1;
-    }
 }
 
 impl Head {
@@ -210,25 +198,38 @@ impl Head {
         }
     }
 
-    // Rule 3: the data go to the store, which is judged first.
-    fn accept(self, array: &mut [u8], payload: &[u8], used: usize, store: &mut [u8]) -> HeadStep
-        requires { ⌜ (length (now array) ≡ arrayBytes) × (isLength (self .setup .k) ≡ true) × (self .row < S.lastBad) × (self .taken ≤ mostItems) × (self .setup .k ≤ 8 * length (now payload)) ⌝ }
-        ensures { λ r. ⌜ stepWith r (now (array .exit)) ≡ acceptance (whole self (now (array .entry))) (now (store .entry)) used ⌝ }
-        ensures { λ _. ⌜ now (store .exit) ≡ acceptedStore (whole self (now (array .entry))) (now (payload .entry)) (now (store .entry)) ⌝ }
+    // Whether a block with these service bits, if its check passes, goes to the store.
+    fn stores(self, service: u8, store: &[u8]) -> bool
+        requires { ⌜ (isLength (self .setup .k) ≡ true) × (self .taken ≤ mostItems) ⌝ }
+        ensures { λ r. ⌜ r ≡ storable self service (now (store .entry)) ⌝ }
     {
-        let m = self.setup.k / 8;
-        let from = self.taken * m;
-        if store.len() < from + m {
-            return self.refused(block::SHORT);
+        if !is_awaited(self.taken, self.ended, service) {
+            return false;
         }
-        keep(payload, m, from, store);
+        let m = self.setup.k / 8;
+        self.taken * m + m <= store.len()
+    }
+
+    // Rules 2 and 3 where the store has room: the data of a block that passes go straight to their place.
+    fn accept(self, array: &mut [u8], row: &[u8], used: usize, store: &mut [u8]) -> HeadStep
+        requires { ⌜ (length (now array) ≡ arrayBytes) × (isLength (self .setup .k) ≡ true) × (self .row < S.lastBad) × (self .taken ≤ mostItems) × (blockLength (self .setup .k) ≤ 8 * length (now row)) × (storable self (getD (now row) 0 0 / 2 ^ 4) (now store) ≡ true) ⌝ }
+        ensures { λ r. ⌜ Handed (whole self (now (array .entry))) (now (store .entry)) (judged (whole self (now (array .entry))) (take (blockLength (self .setup .k)) (bitsOf (now (row .entry)))) used) (stepWith r (now (array .exit))) (now (store .exit)) ⌝ }
+    {
+        let k = self.setup.k;
+        let m = k / 8;
+        let from = self.taken * m;
+        let answer = block::read_block(k, row, &mut store[from..from + m]);
+        let Read::Passed(_) = answer else {
+            return self.bad(array, false, used);
+        };
         self.stop(array, Rule::Accepts, used)
     }
 
-    // A finished block: rule 1, then the check, then the rules of what passes.
-    fn judge(self, array: &mut [u8], row: &[u8], used: usize, store: &mut [u8]) -> HeadStep
+    // A finished block that does not go to the store: rule 1, then the check, then the rules of what passes. One that would
+    // be accepted finds no room.
+    fn judge_unstored(self, array: &mut [u8], row: &[u8], used: usize) -> HeadStep
         requires { ⌜ (length (now array) ≡ arrayBytes) × (isLength (self .setup .k) ≡ true) × (self .row < S.lastBad) × (self .taken ≤ mostItems) × (blockLength (self .setup .k) ≤ 8 * length (now row)) ⌝ }
-        ensures { λ r. ⌜ Handed (whole self (now (array .entry))) (now (store .entry)) (judged (whole self (now (array .entry))) (take (blockLength (self .setup .k)) (bitsOf (now (row .entry)))) used) (stepWith r (now (array .exit))) (now (store .exit)) ⌝ }
+        ensures { λ r. ⌜ stepWith r (now (array .exit)) ≡ unstored (whole self (now (array .entry))) (judged (whole self (now (array .entry))) (take (blockLength (self .setup .k)) (bitsOf (now (row .entry)))) used) ⌝ }
     {
         let k = self.setup.k;
         let taken = self.taken;
@@ -243,9 +244,20 @@ impl Head {
         };
         let rule = service_rule(k, taken, ended, service, &payload);
         if let Rule::Accepts = rule {
-            return self.accept(array, &payload, used, store);
+            return self.refused(block::SHORT);
         }
         self.stop(array, rule, used)
+    }
+
+    // A finished block; a letter's service bits are not rule 1's.
+    fn judge(self, array: &mut [u8], row: &[u8], used: usize, store: &mut [u8]) -> HeadStep
+        requires { ⌜ (length (now array) ≡ arrayBytes) × (isLength (self .setup .k) ≡ true) × (self .row < S.lastBad) × (self .taken ≤ mostItems) × (blockLength (self .setup .k) ≤ 8 * length (now row)) ⌝ }
+        ensures { λ r. ⌜ Handed (whole self (now (array .entry))) (now (store .entry)) (judged (whole self (now (array .entry))) (take (blockLength (self .setup .k)) (bitsOf (now (row .entry)))) used) (stepWith r (now (array .exit))) (now (store .exit)) ⌝ }
+    {
+        if self.stores(row[0] >> 4, store) {
+            return self.accept(array, row, used, store);
+        }
+        self.judge_unstored(array, row, used)
     }
 
     // The block's last bits have come. A block that stands whole in the line is judged there; and the array stays as it

@@ -8,7 +8,7 @@ ghost use Rattle.crc.specs.Bits.{number, bitsOf};
 ghost use Rattle.block.specs.Lengths.{isLength, blockLength};
 ghost use Rattle.line.specs.Order.{mostItems, letter, isLetter};
 ghost use Rattle.line.specs.Receiving.{looksSync, place, letterRule, endRule, serviceRule};
-ghost use Rattle.line.specs.Code.ReceiveSteps.{ruleOf};
+ghost use Rattle.line.specs.Code.ReceiveSteps.{ruleOf, awaited};
 use crate::order::END;
 use crate::order::LETTER_A;
 use crate::order::LETTER_B;
@@ -84,6 +84,24 @@ fn letter_rule(taken: usize, service: u8) -> Rule
         return Rule::OutOfSequence;
     }
     Rule::AnythingElse
+}
+
+// Whether a block with these service bits is accepted if its check passes.
+pub fn is_awaited(taken: usize, ended: bool, service: u8) -> bool
+    requires { ⌜ taken ≤ mostItems ⌝ }
+    ensures { λ r. ⌜ r ≡ awaited taken ended service ⌝ }
+{
+    if !is_letter(service) {
+        return false;
+    }
+    if ended {
+        return false;
+    }
+    let rule = letter_rule(taken, service);
+    match rule {
+        Rule::Accepts => true,
+        _ => false,
+    }
 }
 
 // The length that an end block's data give.

@@ -1,10 +1,9 @@
 -- What the receiver's private functions promise: the code's rules, and what is handed back for a reading. Assumes nothing.
 use mathlib.Core.Path.{_≡_}
-use mathlib.Core.Bool.{Bool, cond}
-use mathlib.Core.List.{List, []}
+use mathlib.Core.Bool.{Bool, cond, not, _&&_}
+use mathlib.Core.List.{List}
 use Prim.Native.Nat.{ℕ, _+_, _*_}
-use lib.ListN.{take}
-use Rattle.crc.specs.Bits.{Bits, binary, bitsOf}
+use Rattle.crc.specs.Bits.{Bits, binary}
 use Rattle.block.specs.Answer as A
 use Rattle.block.specs.Calls.{tooShort}
 use Rattle.line.specs.declared.receiver.Receiver.{Receiver}
@@ -16,7 +15,8 @@ use Rattle.line.specs.declared.head.HeadStep.{HeadStep}
 use Rattle.line.specs.declared.window.Window.{Window}
 use Rattle.line.specs.declared.rules.Rule as D
 use Rattle.line.specs.declared.rules.Rule.the-variants as C
-use Rattle.line.specs.Receiving.{Rule, accepts, previous, out-of-sequence, ends, wrong-length, ends-again, anything-else, meaning, judge, stops, storeAt, Reading, judgeStore, receivedAnswer, reported, receiveState, receiveStore}
+use Rattle.line.specs.Order.{isLetter}
+use Rattle.line.specs.Receiving.{Rule, accepts, previous, out-of-sequence, ends, wrong-length, ends-again, anything-else, meaning, place, letterRule, judge, stops, Reading, judgeStore, receivedAnswer, reported, receiveState, receiveStore}
 use Rattle.line.specs.ReceivingInPlace.{whole}
 
 -- the rule that each case of the code's enum stands for
@@ -48,17 +48,18 @@ stepped s event used = record { state = s; answer = R.Used event used }
 abbrev pub handedBack : Reading → Step
 handedBack x = stepped (x .state) (meaning (x .rule) .event) (x .used)
 
--- a block to be accepted: refused where the store is too short, and otherwise its k bits go to the store
-abbrev pub noRoom : Receiver → List ℕ → Bool
-noRoom s store = tooShort store (s .taken * s .setup .k + s .setup .k)
+-- a block with these service bits is accepted if its check passes: the items taken, and whether the end is
+unfoldable pub awaited : ℕ → Bool → ℕ → Bool
+awaited r ended service = isLetter service && not ended && meaning (letterRule r (place r service)) .stores
 
-abbrev pub acceptance : Receiver → List ℕ → ℕ → Step
-acceptance s store used =
-    cond (noRoom s store) (record { state = s; answer = R.Refused A.short }) (handedBack (stops s accepts [] used))
+-- and the store has room for its k data bits
+abbrev pub storable : Head → ℕ → List ℕ → Bool
+storable h service store =
+    awaited (h .taken) (h .ended) service && not (tooShort store (h .taken * h .setup .k + h .setup .k))
 
-abbrev pub acceptedStore : Receiver → List ℕ → List ℕ → List ℕ
-acceptedStore s payload store =
-    cond (noRoom s store) store (storeAt (s .taken * s .setup .k) (take (s .setup .k) (bitsOf payload)) store)
+-- what a call hands back for what it read where the store has no room
+abbrev pub unstored : Receiver → Reading → Step
+unstored s x = cond (meaning (x .rule) .stores) (record { state = s; answer = R.Refused A.short }) (handedBack x)
 
 -- what is read where these n bits complete a block
 abbrev pub judged : Receiver → Bits → ℕ → Reading
