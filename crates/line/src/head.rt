@@ -139,7 +139,8 @@ impl Head {
         next.after(array, event, used)
     }
 
-    fn alarm(self, array: &mut [u8], phase: Phase, event: Event, used: usize) -> HeadStep
+    // With return 1, the row cleared: an alarm, or a search's start.
+    fn return_one(self, array: &mut [u8], phase: Phase, event: Event, used: usize) -> HeadStep
         requires { ⌜ length (now array) ≡ arrayBytes ⌝ }
         ensures { λ r. ⌜ stepWith r (now (array .exit)) ≡ stepped (S.alarmed (whole self (now (array .entry))) phase) event used ⌝ }
     {
@@ -160,10 +161,10 @@ impl Head {
     {
         let row = self.row + 1;
         if LAST_BAD <= row {
-            return self.alarm(array, Phase::Search, Event::Bad, used);
+            return self.return_one(array, Phase::Search, Event::Bad, used);
         }
         if lost {
-            return self.alarm(array, Phase::Search, Event::Bad, used);
+            return self.return_one(array, Phase::Search, Event::Bad, used);
         }
         let next = Head {
             held: 0,
@@ -185,14 +186,19 @@ impl Head {
         match rule {
             Rule::Accepts => self.well(array, taken + 1, ended, Event::Accepted, used),
             Rule::Previous => self.well(array, taken, ended, Event::Previous, used),
-            Rule::OutOfSequence => self.alarm(
+            Rule::OutOfSequence => self.return_one(
                 array,
                 Phase::SequenceAlarm,
                 Event::SequenceAlarm,
                 used,
             ),
             Rule::Ends(bits) => self.well(array, taken, true, Event::Ended(bits), used),
-            Rule::WrongLength => self.alarm(array, Phase::LengthAlarm, Event::LengthAlarm, used),
+            Rule::WrongLength => self.return_one(
+                array,
+                Phase::LengthAlarm,
+                Event::LengthAlarm,
+                used,
+            ),
             Rule::EndsAgain => self.well(array, taken, ended, Event::Previous, used),
             Rule::AnythingElse => self.bad(array, taken == 0, used),
         }

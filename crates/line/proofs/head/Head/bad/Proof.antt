@@ -8,17 +8,17 @@ use Rattle.line.proofs.head.Head.bad.Tie as tie
 add-row : tie.Need-add-row
 add-row c = search needs
 
-alarm-requires : tie.Need-alarm-requires
-alarm-requires c κs = search needs
+return-one-requires : tie.Need-return-one-requires
+return-one-requires c κs = search needs
 
 same-length : tie.Need-same-length
 same-length c = search needs
 
 returns : tie.Need-returns
-returns c = c .before .before .alarm .ensures ∙ sym (simp (le-leb _ _ (c .before .before .before .before .if1 .taken)))
+returns c = c .before .before .return-one .ensures ∙ sym (simp (le-leb _ _ (c .before .before .before .before .if1 .taken)))
 
-alarm-requires-2 : tie.Need-alarm-requires-2
-alarm-requires-2 c κs = search needs
+return-one-requires-2 : tie.Need-return-one-requires-2
+return-one-requires-2 c κs = search needs
 
 same-length-2 : tie.Need-same-length-2
 same-length-2 c = search needs
@@ -26,7 +26,7 @@ same-length-2 c = search needs
 returns-2 : tie.Need-returns-2
 returns-2 c =
     let lost = c .before .before .before .before in
-    c .before .before .alarm2 .ensures ∙ sym (simp (lt-leb _ _ (lost .before .if1 .left), lost .if2 .taken))
+    c .before .before .return-one2 .ensures ∙ sym (simp (lt-leb _ _ (lost .before .if1 .left), lost .if2 .taken))
 
 after-requires : tie.Need-after-requires
 after-requires c κs = search needs
@@ -44,10 +44,10 @@ bad-spec =
     tie.close
     (tie.spec
     add-row
-    alarm-requires
+    return-one-requires
     same-length
     returns
-    alarm-requires-2
+    return-one-requires-2
     same-length-2
     returns-2
     after-requires

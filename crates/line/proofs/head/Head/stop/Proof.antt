@@ -34,8 +34,8 @@ well-requires-2 c κs = search needs
 enum-told-3 : tie.Need-enum-told-3
 enum-told-3 c = search needs
 
-alarm-requires : tie.Need-alarm-requires
-alarm-requires c κs = search needs
+return-one-requires : tie.Need-return-one-requires
+return-one-requires c κs = search needs
 
 enum-known-rule : tie.Need-enum-known-rule
 enum-known-rule c = search needs
@@ -46,8 +46,8 @@ well-requires-3 c κs = search needs
 enum-told-4 : tie.Need-enum-told-4
 enum-told-4 c = search needs
 
-alarm-requires-2 : tie.Need-alarm-requires-2
-alarm-requires-2 c κs = search needs
+return-one-requires-2 : tie.Need-return-one-requires-2
+return-one-requires-2 c κs = search needs
 
 enum-told-5 : tie.Need-enum-told-5
 enum-told-5 c = search needs
@@ -77,7 +77,7 @@ same-length-3 : tie.Need-same-length-3
 same-length-3 c = search needs
 
 returns-3 : tie.Need-returns-3
-returns-3 c = by-rule _ _ _ _ _ _ (c .before .before .alarm .ensures) (c .before .before .before .before .enum-told3 .given .1)
+returns-3 c = by-rule _ _ _ _ _ _ (c .before .before .return-one .ensures) (c .before .before .before .before .enum-told3 .given .1)
 
 same-length-4 : tie.Need-same-length-4
 same-length-4 c = search needs
@@ -89,7 +89,7 @@ same-length-5 : tie.Need-same-length-5
 same-length-5 c = search needs
 
 returns-5 : tie.Need-returns-5
-returns-5 c = by-rule _ _ _ _ _ _ (c .before .before .alarm2 .ensures) (c .before .before .before .before .enum-told4 .given .1)
+returns-5 c = by-rule _ _ _ _ _ _ (c .before .before .return-one2 .ensures) (c .before .before .before .before .enum-told4 .given .1)
 
 same-length-6 : tie.Need-same-length-6
 same-length-6 c = search needs
@@ -113,11 +113,11 @@ stop-spec =
     enum-told-2
     well-requires-2
     enum-told-3
-    alarm-requires
+    return-one-requires
     enum-known-rule
     well-requires-3
     enum-told-4
-    alarm-requires-2
+    return-one-requires-2
     enum-told-5
     well-requires-4
     enum-told-6
