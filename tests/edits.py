@@ -3,7 +3,8 @@
 
 For an edit in must-fail/ itself, rt ci checks the whole crate from nothing. Here a crate is checked as it is, over the
 record that rt dev keeps; then with each edit over that record, so that only what the edit reaches is checked again; and at
-the end as it is once more. It works on copies. Without arguments every crate is tried, else those named.
+the end as it is once more. It works on copies, in target/edits/NAME; what the prover said is in LABEL.log there. Without
+arguments every crate is tried, else those named.
 """
 
 import concurrent.futures
@@ -12,10 +13,10 @@ import re
 import shutil
 import subprocess
 import sys
-import tempfile
 import time
 
 ROOT = pathlib.Path(__file__).resolve().parent.parent
+AS_IT_IS = "as it is"
 
 
 def replacements(edit):
@@ -42,24 +43,26 @@ def edited(crate, edit):
     return texts
 
 
-def check(tree, name):
-    """The verdict on a crate, and where the first error is."""
+def verdict(status, said):
+    """What a check came to."""
+    if status == 0:
+        return "proved"
+    if status == 1 and re.search(r"^logic=not-proved", said, re.MULTILINE):
+        return "refused"
+    return f"no verdict (exit {status})"
+
+
+def comes_to(wanted, tree, name, label):
+    """Whether a check of the crate comes to the verdict that is wanted; prints a line about it."""
+    began = time.monotonic()
     run = subprocess.run(["rt", "dev", name], cwd=tree, stdout=subprocess.PIPE, stderr=subprocess.STDOUT, text=True)
+    took = time.monotonic() - began
+    (tree / f"{label}.log").write_text(run.stdout)
+    found = verdict(run.returncode, run.stdout)
     error = re.search(r"^(\S+): error", run.stdout, re.MULTILINE)
     place = f", first at {error[1].removeprefix(f'{tree}/crates/{name}/')}" if error else ""
-    if run.returncode == 0:
-        return "proved", place
-    if run.returncode == 1 and re.search(r"^logic=not-proved", run.stdout, re.MULTILINE):
-        return "refused", place
-    return f"no verdict (exit {run.returncode})", place
-
-
-def held_to(tree, name, what, wanted):
-    """Whether a check comes to the verdict that is wanted; a line about it."""
-    began = time.monotonic()
-    verdict, place = check(tree, name)
-    print(f"{name}/{what}: {verdict}{place} ({time.monotonic() - began:.1f} s)", flush=True)
-    return verdict == wanted
+    print(f"{name}/{label}: {found}{place} ({took:.1f} s)", flush=True)
+    return found == wanted
 
 
 def try_edit(tree, name, edit):
@@ -71,7 +74,7 @@ def try_edit(tree, name, edit):
     before = {path: path.read_text() for path in texts}
     for path, text in texts.items():
         path.write_text(text)
-    refused = held_to(tree, name, edit.stem, "refused")
+    refused = comes_to("refused", tree, name, edit.stem)
     for path, text in before.items():
         path.write_text(text)
     return refused
@@ -79,16 +82,15 @@ def try_edit(tree, name, edit):
 
 def try_edits(name, edits):
     """How many of a crate's checks came to another verdict than they should."""
-    with tempfile.TemporaryDirectory() as room:
-        tree = pathlib.Path(room).resolve()
-        shutil.copy(ROOT / "crates.txt", tree)
-        shutil.copytree(ROOT / "crates", tree / "crates")
-        for part in ("rlib", "stamp"):
-            if (ROOT / "target" / part).is_dir():
-                shutil.copytree(ROOT / "target" / part, tree / "target" / part)
-        results = [held_to(tree, name, "as it is", "proved")]
-        results += [try_edit(tree, name, edit) for edit in edits]
-        results += [held_to(tree, name, "as it is", "proved")]
+    tree = ROOT / "target" / "edits" / name
+    shutil.rmtree(tree, ignore_errors=True)
+    shutil.copytree(ROOT / "crates", tree / "crates")
+    shutil.copy(ROOT / "crates.txt", tree)
+    shutil.copytree(ROOT / "target" / "stamp", tree / "target" / "stamp")
+    (tree / "target" / "rlib").symlink_to(ROOT / "target" / "rlib")
+    results = [comes_to("proved", tree, name, AS_IT_IS)]
+    results += [try_edit(tree, name, edit) for edit in edits]
+    results += [comes_to("proved", tree, name, AS_IT_IS)]
     return results.count(False)
 
 
@@ -97,10 +99,10 @@ def main():
     for edit in sorted(ROOT.glob("crates/*/must-fail/further/*.edit")):
         found.setdefault(edit.parts[-4], []).append(edit)
     names = sys.argv[1:] or list(found)
+    subprocess.run(["rt", "check", *names], cwd=ROOT, stdout=subprocess.DEVNULL, check=True)
     with concurrent.futures.ThreadPoolExecutor() as pool:
         failed = sum(pool.map(lambda name: try_edits(name, found[name]), names))
-    count = sum(len(found[name]) for name in names)
-    print(f"{count} further edits, {failed} checks failed")
+    print(f"{sum(len(found[name]) for name in names)} further edits, {failed} checks failed")
     return 1 if failed else 0
 
 
