@@ -1,7 +1,6 @@
 //! Cases out of arbitrary bytes, for a fuzzer: the first byte picks the call, the others give its
 //! arguments, and calls on a state go on while bytes are left and the state is no reason to refuse.
 
-use super::both_ends::event_kind;
 use super::lockstep::{Lockstep, Twin};
 use super::sender::refused_word;
 use super::{block, loop_time, Difference, Lent, Tally};
@@ -138,7 +137,7 @@ fn receive<S, R: ReceivingEnd>(
         tally.count(match received {
             Received::Heard { event, used } => {
                 coming.drain(..used.min(coming.len()));
-                event_kind(event)
+                event.word()
             }
             Received::Refused(number) => refused_word(number),
         });
@@ -366,6 +365,7 @@ impl Input<'_> {
 
 #[cfg(test)]
 mod tests {
+    use super::super::EVENTS;
     use super::*;
     use crate::calls::TableDriven;
 
@@ -379,7 +379,8 @@ mod tests {
             let compared = compare(&TableDriven, &rng.bytes(count), &mut tally);
             compared.unwrap_or_else(|difference| panic!("{difference}"));
         }
-        for kind in [
+        tally.above(20, &EVENTS);
+        let kinds = [
             "allowed",
             "built",
             "build refused",
@@ -392,19 +393,10 @@ mod tests {
             "sent end",
             "sent cancelled",
             "receiver opened",
-            "none",
-            "sync",
-            "bad",
-            "accepted",
-            "previous",
-            "ended",
-            "sequence alarm",
-            "length alarm",
             "refused 6",
             "refused 7",
             "refused 8",
-        ] {
-            assert!(tally.of(kind) > 20, "{kind}: {tally}");
-        }
+        ];
+        tally.above(20, &kinds);
     }
 }

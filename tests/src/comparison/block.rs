@@ -259,15 +259,14 @@ mod tests {
     fn the_table_driven_sibling_agrees() {
         let tally =
             compare(&TableDriven, 11, 20_000).unwrap_or_else(|difference| panic!("{difference}"));
-        for kind in [
+        let kinds = [
             "built",
             "build refused",
             "read passed",
             "read failed",
             "read refused",
-        ] {
-            assert!(tally.of(kind) > 500, "{kind}: {tally}");
-        }
+        ];
+        tally.above(500, &kinds);
     }
 
     /// A reader that takes a spare bit for a check bit is found out.

@@ -12,7 +12,7 @@ use crate::interface::{load_receiver, load_sender, RECEIVER_BYTES, SENDER_BYTES}
 use crate::reference::bits::{bits_of, pack, unpack, Bits};
 use crate::reference::block::{assemble, block_bits, block_bytes, cancel, synchronising_block};
 use crate::reference::order::{letter, LONGEST};
-use crate::reference::receiver::{Event, Received, Receiver};
+use crate::reference::receiver::{Received, Receiver};
 use crate::reference::sender::{Sender, Sent};
 use crate::rng::Rng;
 
@@ -295,11 +295,7 @@ impl<'a, S: SendingEnd, R: ReceivingEnd> Session<'a, S, R> {
         })?;
         match received {
             Received::Heard { event, used } => {
-                let kind = if stood {
-                    "alarm again"
-                } else {
-                    event_kind(event)
-                };
+                let kind = if stood { "alarm again" } else { event.word() };
                 self.tally.count(kind);
                 Ok(used)
             }
@@ -419,21 +415,9 @@ impl<'a, S: SendingEnd, R: ReceivingEnd> Session<'a, S, R> {
     }
 }
 
-pub fn event_kind(event: Event) -> &'static str {
-    match event {
-        Event::None => "none",
-        Event::Sync => "sync",
-        Event::Bad => "bad",
-        Event::Accepted => "accepted",
-        Event::Previous => "previous",
-        Event::Ended(_) => "ended",
-        Event::SequenceAlarm => "sequence alarm",
-        Event::LengthAlarm => "length alarm",
-    }
-}
-
 #[cfg(test)]
 mod tests {
+    use super::super::EVENTS;
     use super::*;
     use crate::calls::{Reference, TableDriven};
 
@@ -441,14 +425,8 @@ mod tests {
     fn demand_3_holds_along_random_sessions_of_the_reference() {
         let tally = compare(&Reference, &Reference, 6, 3_000)
             .unwrap_or_else(|difference| panic!("{difference}"));
+        tally.above(20, &EVENTS);
         let kinds = [
-            "sync",
-            "bad",
-            "accepted",
-            "previous",
-            "ended",
-            "sequence alarm",
-            "length alarm",
             "finished",
             "gave up",
             "within demand 3",
@@ -457,9 +435,7 @@ mod tests {
             "refused 6",
             "refused 7",
         ];
-        for kind in kinds {
-            assert!(tally.of(kind) > 20, "{kind}: {tally}");
-        }
+        tally.above(20, &kinds);
     }
 
     #[test]

@@ -21,6 +21,19 @@ use crate::rng::Rng;
 use std::collections::BTreeMap;
 use std::fmt;
 
+/// The words of the events.
+#[cfg(test)]
+const EVENTS: [&str; 8] = [
+    "none",
+    "sync",
+    "bad",
+    "accepted",
+    "previous",
+    "ended",
+    "sequence alarm",
+    "length alarm",
+];
+
 /// A description of the case on which the two differ.
 pub type Difference = String;
 
@@ -35,6 +48,14 @@ impl Tally {
 
     pub fn of(&self, kind: &str) -> usize {
         self.0.get(kind).copied().unwrap_or(0)
+    }
+
+    /// Each of these kinds came more often than this.
+    #[cfg(test)]
+    fn above(&self, least: usize, kinds: &[&str]) {
+        for kind in kinds {
+            assert!(self.of(kind) > least, "{kind}: {self}");
+        }
     }
 
     pub fn add(&mut self, other: &Tally) {

@@ -2,7 +2,6 @@
 //! of the sequence, and states out of range.
 
 use super::block::REFUSED_LENGTHS;
-use super::both_ends::event_kind;
 use super::lockstep::{Lockstep, Twin};
 use super::sender::refused_word;
 use super::{spoil, Difference, Lent, Tally};
@@ -30,7 +29,7 @@ pub fn compare(tested: &impl ReceivingEnd, seed: u64, cases: usize) -> Result<Ta
         let received = case.call(&ends);
         let received = received.map_err(|difference| format!("case {number}: {difference}"))?;
         tally.count(match received {
-            Received::Heard { event, .. } => event_kind(event),
+            Received::Heard { event, .. } => event.word(),
             Received::Refused(number) => refused_word(number),
         });
     }
@@ -235,6 +234,7 @@ fn end_data(rng: &mut Rng, k: usize, taken: usize) -> Bits {
 
 #[cfg(test)]
 mod tests {
+    use super::super::EVENTS;
     use super::*;
     use crate::calls::TableDriven;
 
@@ -243,22 +243,13 @@ mod tests {
         let tally =
             compare(&TableDriven, 8, 20_000).unwrap_or_else(|difference| panic!("{difference}"));
         let kinds = [
-            "none",
-            "sync",
-            "bad",
-            "accepted",
-            "previous",
-            "ended",
-            "sequence alarm",
-            "length alarm",
             "refused 6",
             "refused 7",
             "states too short",
             "flags and enums out of range",
             "fields out of range",
         ];
-        for kind in kinds {
-            assert!(tally.of(kind) > 100, "{kind}: {tally}");
-        }
+        tally.above(100, &EVENTS);
+        tally.above(100, &kinds);
     }
 }

@@ -278,8 +278,6 @@ mod tests {
             "orders of 262144 bits",
             "orders with ones behind L",
         ];
-        for kind in kinds {
-            assert!(tally.of(kind) > 10, "{kind}: {tally}");
-        }
+        tally.above(10, &kinds);
     }
 }

@@ -195,8 +195,6 @@ mod tests {
     #[test]
     fn scripts_bring_every_kind_of_line() {
         let tally = compare(&Reference, 9, 1_000).unwrap();
-        for kind in KINDS {
-            assert!(tally.of(kind) > 2, "{kind}: {tally}");
-        }
+        tally.above(2, &KINDS);
     }
 }

@@ -47,6 +47,22 @@ pub enum Event {
     LengthAlarm,
 }
 
+impl Event {
+    /// Document 01's word.
+    pub fn word(self) -> &'static str {
+        match self {
+            Event::None => "none",
+            Event::Sync => "sync",
+            Event::Bad => "bad",
+            Event::Accepted => "accepted",
+            Event::Previous => "previous",
+            Event::Ended(_) => "ended",
+            Event::SequenceAlarm => "sequence alarm",
+            Event::LengthAlarm => "length alarm",
+        }
+    }
+}
+
 /// What a receiving call answers.
 #[derive(Clone, Copy, Debug, PartialEq, Eq)]
 pub enum Received {

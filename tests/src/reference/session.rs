@@ -189,20 +189,7 @@ fn written(number: usize, period: &Period) -> String {
         }
         _ => ("S".into(), "-".into()),
     };
-    let event = event_word(period.event);
+    let event = period.event.word();
     let back = u8::from(period.back);
     format!("{number} {sent} {read} {event} {back}\n")
-}
-
-fn event_word(event: Event) -> &'static str {
-    match event {
-        Event::None => "none",
-        Event::Sync => "sync",
-        Event::Bad => "bad",
-        Event::Accepted => "accepted",
-        Event::Previous => "previous",
-        Event::Ended(_) => "ended",
-        Event::SequenceAlarm => "sequence alarm",
-        Event::LengthAlarm => "length alarm",
-    }
 }
