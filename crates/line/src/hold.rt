@@ -38,7 +38,7 @@ fn byte_at(s: &[u8], i: usize) -> u8
 }
 
 // The first count bits of the line become the array's from place held on; no other bit of the array changes.
-pub fn put_bits(array: &mut [u8], held: usize, line: &[u8], count: usize)
+pub(crate) fn put_bits(array: &mut [u8], held: usize, line: &[u8], count: usize)
     requires { ⌜ (length (now array) ≡ arrayBytes) × (held + count < 8 * arrayBytes) × (count ≤ 8 * length (now line)) ⌝ }
     ensures { λ _. ⌜ now (array .exit) ≡ bytesOf arrayBytes (overwrite held (take count (bitsOf (now (line .entry)))) (bitsOf (now (array .entry)))) ⌝ }
 {

@@ -11,26 +11,26 @@ ghost use Rattle.block.specs.Calls.{tooShort, overwritten};
 ghost use Rattle.line.specs.Order.{longestOrder, validLength, itemCount, letter, endService, orderBits, endPayload, itemBits};
 
 // The longest order in bits, and the most data items that an order makes.
-pub const LONGEST_ORDER: usize = 262144;
+pub(crate) const LONGEST_ORDER: usize = 262144;
 
-pub const MOST_ITEMS: usize = 1093;
+pub(crate) const MOST_ITEMS: usize = 1093;
 
 // A block's service and check bits.
-pub const OVERHEAD: usize = 20;
+pub(crate) const OVERHEAD: usize = 20;
 
-pub const LETTER_A: u8 = 0b0011;
+pub(crate) const LETTER_A: u8 = 0b0011;
 
-pub const LETTER_B: u8 = 0b1001;
+pub(crate) const LETTER_B: u8 = 0b1001;
 
-pub const LETTER_C: u8 = 0b1100;
+pub(crate) const LETTER_C: u8 = 0b1100;
 
-pub const END: u8 = 0b1000;
+pub(crate) const END: u8 = 0b1000;
 
 // The version that an end block carries.
-pub const VERSION: u8 = 1;
+pub(crate) const VERSION: u8 = 1;
 
 // Whether a slice holds fewer bits than these.
-pub fn too_short(s: &[u8], bits: usize) -> bool
+pub(crate) fn too_short(s: &[u8], bits: usize) -> bool
     ensures { λ r. ⌜ r ≡ tooShort (now (s .entry)) bits ⌝ }
 {
     if bits == 0 {
@@ -40,7 +40,7 @@ pub fn too_short(s: &[u8], bits: usize) -> bool
 }
 
 // The number of data items that an order of these bits makes.
-pub fn item_count(k: usize, bits: usize) -> usize
+pub(crate) fn item_count(k: usize, bits: usize) -> usize
     requires { ⌜ (isLength k ≡ true) × (bits ≤ longestOrder) ⌝ }
     ensures { λ r. ⌜ r ≡ itemCount k bits ⌝ }
 {
@@ -48,7 +48,7 @@ pub fn item_count(k: usize, bits: usize) -> usize
 }
 
 // The service bits of data item i.
-pub fn letter(i: usize) -> u8
+pub(crate) fn letter(i: usize) -> u8
     ensures { λ r. ⌜ r ≡ letter i ⌝ }
 {
     match i % 3 {
@@ -128,7 +128,7 @@ fn write_last(k: usize, bits: usize, i: usize, order: &[u8], block: &mut [u8])
 }
 
 // Item i over the first bytes of block.
-pub fn write_item(k: usize, bits: usize, i: usize, order: &[u8], block: &mut [u8])
+pub(crate) fn write_item(k: usize, bits: usize, i: usize, order: &[u8], block: &mut [u8])
     requires { ⌜ (isLength k ≡ true) × (validLength bits ≡ true) × (bits ≤ 8 * length (now order)) × (blockLength k ≤ 8 * length (now block)) ⌝ }
     ensures { λ _. ⌜ now (block .exit) ≡ overwritten (blockBytes k) (itemBits k bits (orderBits bits (now (order .entry))) i) (now (block .entry)) ⌝ }
 {

@@ -22,9 +22,9 @@ use crate::order::letter;
 // The synchronising block's service bits, and its last sixteen bits.
 const SYNC: u8 = 0b0101;
 
-pub const SEQUENCE: u16 = 0b0101000010100101;
+pub(crate) const SEQUENCE: u16 = 0b0101000010100101;
 
-pub enum Rule {
+pub(crate) enum Rule {
     Accepts,
     Previous,
     OutOfSequence,
@@ -36,7 +36,7 @@ pub enum Rule {
 }
 
 // Rule 1: first four bits 0101, last sixteen the sequence.
-pub fn looks_sync(k: usize, row: &[u8]) -> bool
+pub(crate) fn looks_sync(k: usize, row: &[u8]) -> bool
     requires { ⌜ (isLength k ≡ true) × (blockLength k ≤ 8 * length (now row)) ⌝ }
     ensures { λ r. ⌜ r ≡ looksSync k (take (blockLength k) (bitsOf (now (row .entry)))) ⌝ }
 {
@@ -87,7 +87,7 @@ fn letter_rule(taken: usize, service: u8) -> Rule
 }
 
 // Whether a block with these service bits is accepted if its check passes.
-pub fn is_awaited(taken: usize, ended: bool, service: u8) -> bool
+pub(crate) fn is_awaited(taken: usize, ended: bool, service: u8) -> bool
     requires { ⌜ taken ≤ mostItems ⌝ }
     ensures { λ r. ⌜ r ≡ awaited taken ended service ⌝ }
 {
@@ -138,7 +138,7 @@ fn end_rule(k: usize, taken: usize, ended: bool, payload: &[u8]) -> Rule
 }
 
 // By the service bits.
-pub fn service_rule(k: usize, taken: usize, ended: bool, service: u8, payload: &[u8]) -> Rule
+pub(crate) fn service_rule(k: usize, taken: usize, ended: bool, service: u8, payload: &[u8]) -> Rule
     requires { ⌜ (isLength k ≡ true) × (taken ≤ mostItems) × (5 ≤ length (now payload)) ⌝ }
     ensures { λ r. ⌜ ruleOf r ≡ serviceRule k taken ended service (bitsOf (now (payload .entry))) ⌝ }
 {

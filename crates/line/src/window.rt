@@ -9,16 +9,16 @@ ghost use Rattle.line.specs.Receiving.{latest, isSequence};
 ghost use Rattle.line.specs.Code.ReceiveSteps.{windowBits};
 use crate::rules::SEQUENCE;
 
-pub struct Window {
+pub(crate) struct Window {
     pub held: usize,
     // The bits held, as a number.
     pub number: u16,
 }
 
 // The first two bytes of an array.
-pub struct Pair(pub u8, pub u8);
+pub(crate) struct Pair(pub u8, pub u8);
 
-pub fn bit_at(s: &[u8], i: usize) -> bool
+pub(crate) fn bit_at(s: &[u8], i: usize) -> bool
     requires { ⌜ i < 8 * length (now s) ⌝ }
     ensures { λ r. ⌜ r ≡ getD (bitsOf (now (s .entry))) i false ⌝ }
 {
@@ -28,7 +28,7 @@ pub fn bit_at(s: &[u8], i: usize) -> bool
 
 impl Window {
     // From the array's first two bytes.
-    pub fn load(held: usize, first: u8, second: u8) -> Window
+    pub(crate) fn load(held: usize, first: u8, second: u8) -> Window
         requires { ⌜ held ≤ 15 ⌝ }
         ensures { λ r. ⌜ (r .held ≡ held) × (r .number < 2 ^ held) × (windowBits r ≡ take held (binary 8 first ++ binary 8 second)) ⌝ }
     {
@@ -40,7 +40,7 @@ impl Window {
     }
 
     // Into two bytes, zero bits behind it.
-    pub fn store(self) -> Pair
+    pub(crate) fn store(self) -> Pair
         requires { ⌜ (self .held ≤ 15) × (self .number < 2 ^ self .held) ⌝ }
         ensures { λ r. ⌜ r .0 ∷ r .1 ∷ [] ≡ bytesOf 2 (windowBits self) ⌝ }
     {
@@ -57,7 +57,7 @@ impl Window {
     }
 
     // Whether the next bit ends the sequence.
-    pub fn ends_sequence(self, next: bool) -> bool
+    pub(crate) fn ends_sequence(self, next: bool) -> bool
         requires { ⌜ (self .held ≤ 15) × (self .number < 2 ^ self .held) ⌝ }
         ensures { λ r. ⌜ r ≡ isSequence (windowBits self ++ (next ∷ [])) ⌝ }
     {
@@ -68,7 +68,7 @@ impl Window {
     }
 
     // The next bit in, and the earliest of sixteen out.
-    pub fn slide(self, next: bool) -> Window
+    pub(crate) fn slide(self, next: bool) -> Window
         requires { ⌜ (self .held ≤ 15) × (self .number < 2 ^ self .held) ⌝ }
         ensures { λ r. ⌜ (r .held ≤ 15) × (r .number < 2 ^ r .held) × (windowBits r ≡ latest (windowBits self ++ (next ∷ []))) ⌝ }
     {

@@ -6,16 +6,16 @@ ghost use lib.ListN.{length, drop};
 ghost use lib.Seq.{sets};
 ghost use Rattle.line_c.specs.State.{wordAt, wordBytes, headSize, holds, headBytes};
 
-pub const HEAD_SIZE: usize = 16;
+pub(crate) const HEAD_SIZE: usize = 16;
 
-pub fn wide(x: u8) -> usize
+pub(crate) fn wide(x: u8) -> usize
     ensures { λ r. ⌜ (r ≡ x) × (r < 256) ⌝ }
 {
     x as usize
 }
 
 // The number in the four bytes from place at on.
-pub fn load_word(s: &[u8], at: usize) -> usize
+pub(crate) fn load_word(s: &[u8], at: usize) -> usize
     requires { ⌜ at + 4 ≤ length (now s) ⌝ }
     ensures { λ r. ⌜ r ≡ wordAt (now (s .entry)) at ⌝ }
 {
@@ -34,7 +34,7 @@ fn store_word(s: &mut [u8], at: usize, n: usize)
 }
 
 // Whether there are size bytes, and those at 13, 14 and 15 are at most a, b and c.
-pub fn holds_state(size: usize, a: u8, b: u8, c: u8, s: &[u8]) -> bool
+pub(crate) fn holds_state(size: usize, a: u8, b: u8, c: u8, s: &[u8]) -> bool
     requires { ⌜ headSize ≤ size ⌝ }
     ensures { λ r. ⌜ r ≡ holds size a b c (now (s .entry)) ⌝ }
 {
@@ -54,7 +54,7 @@ pub fn holds_state(size: usize, a: u8, b: u8, c: u8, s: &[u8]) -> bool
 }
 
 // Three numbers of four bytes and four bytes, over the first bytes of s.
-pub fn store_head(x: usize, y: usize, z: usize, d: u8, a: u8, b: u8, c: u8, s: &mut [u8])
+pub(crate) fn store_head(x: usize, y: usize, z: usize, d: u8, a: u8, b: u8, c: u8, s: &mut [u8])
     requires { ⌜ headSize ≤ length (now s) ⌝ }
     ensures { λ _. ⌜ now (s .exit) ≡ headBytes x y z d a b c ++ drop headSize (now (s .entry)) ⌝ }
 {

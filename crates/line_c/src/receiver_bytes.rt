@@ -17,7 +17,7 @@ use line::receiver::Phase;
 use line::receiver::Receiver;
 use line::receiver::Setup;
 
-pub const RECEIVER_SIZE: usize = HEAD_SIZE + ARRAY_SIZE;
+pub(crate) const RECEIVER_SIZE: usize = HEAD_SIZE + ARRAY_SIZE;
 
 fn phase_of(n: u8) -> Phase
     ensures { λ r. ⌜ r ≡ phaseOf n ⌝ }
@@ -42,7 +42,7 @@ fn phase_byte(phase: Phase) -> u8
 }
 
 // Whether the bytes hold a receiver.
-pub fn holds_receiver(s: &[u8]) -> bool
+pub(crate) fn holds_receiver(s: &[u8]) -> bool
     ensures { λ r. ⌜ r ≡ holdsReceiver (now (s .entry)) ⌝ }
 {
     holds_state(RECEIVER_SIZE, 1, 1, 3, s)
@@ -60,7 +60,7 @@ fn store_bits(bits: [u8; 483], s: &mut [u8])
     }
 }
 
-pub fn load_head(s: &[u8]) -> Head
+pub(crate) fn load_head(s: &[u8]) -> Head
     requires { ⌜ receiverSize ≤ length (now s) ⌝ }
     ensures { λ r. ⌜ whole r (take arrayBytes (drop headSize (now (s .entry)))) ≡ receiverIn (now (s .entry)) ⌝ }
 {
@@ -76,7 +76,7 @@ pub fn load_head(s: &[u8]) -> Head
 }
 
 // The array stays as it is.
-pub fn put_head(head: Head, s: &mut [u8])
+pub(crate) fn put_head(head: Head, s: &mut [u8])
     requires { ⌜ headSize ≤ length (now s) ⌝ }
     ensures { λ _. ⌜ now (s .exit) ≡ receiverHead (whole head []) ++ drop headSize (now (s .entry)) ⌝ }
 {
@@ -94,7 +94,7 @@ pub fn put_head(head: Head, s: &mut [u8])
     );
 }
 
-pub fn store_receiver(receiver: Receiver, s: &mut [u8])
+pub(crate) fn store_receiver(receiver: Receiver, s: &mut [u8])
     requires { ⌜ receiverSize ≤ length (now s) ⌝ }
     ensures { λ _. ⌜ now (s .exit) ≡ receiverBytes receiver ++ drop receiverSize (now (s .entry)) ⌝ }
 {

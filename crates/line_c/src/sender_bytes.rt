@@ -13,7 +13,7 @@ use line::sender::Next;
 use line::sender::Sender;
 use line::sender::Setup;
 
-pub const SENDER_SIZE: usize = HEAD_SIZE;
+pub(crate) const SENDER_SIZE: usize = HEAD_SIZE;
 
 fn next_of(n: u8) -> Next
     ensures { λ r. ⌜ r ≡ nextOf n ⌝ }
@@ -36,13 +36,13 @@ fn next_byte(next: Next) -> u8
 }
 
 // Whether the bytes hold a sender.
-pub fn holds_sender(s: &[u8]) -> bool
+pub(crate) fn holds_sender(s: &[u8]) -> bool
     ensures { λ r. ⌜ r ≡ holdsSender (now (s .entry)) ⌝ }
 {
     holds_state(SENDER_SIZE, 1, 2, 1, s)
 }
 
-pub fn load_sender(s: &[u8]) -> Sender
+pub(crate) fn load_sender(s: &[u8]) -> Sender
     requires { ⌜ senderSize ≤ length (now s) ⌝ }
     ensures { λ r. ⌜ r ≡ senderIn (now (s .entry)) ⌝ }
 {
@@ -59,7 +59,7 @@ pub fn load_sender(s: &[u8]) -> Sender
     }
 }
 
-pub fn store_sender(sender: Sender, s: &mut [u8])
+pub(crate) fn store_sender(sender: Sender, s: &mut [u8])
     requires { ⌜ senderSize ≤ length (now s) ⌝ }
     ensures { λ _. ⌜ now (s .exit) ≡ senderBytes sender ++ drop senderSize (now (s .entry)) ⌝ }
 {
