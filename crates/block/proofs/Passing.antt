@@ -18,7 +18,7 @@ use Rattle.block.specs.Block.{serviceOf, Verdict, passed, failed, verdic
 use Rattle.block.specs.Calls.{tooShort, readBlock, ReadBlock}
 use Rattle.block.specs.declared.Read.{Read}
 use Rattle.block.specs.declared.Read.the-variants as R
-use Rattle.block.proofs.RoundTrip.{passed-test}
+use Rattle.block.proofs.Refusals.{passed-test}
 
 -- what the verdict says of the check
 verdict-passed : (t : Bool) (n s : ℕ) → cond t (passed n) failed ≡ passed s → t ≡ true

@@ -21,7 +21,7 @@ use Rattle.block.specs.declared.Read.{Read}
 use Rattle.block.specs.declared.Read.the-variants as R
 use Rattle.block.proofs.Lengths.{length-facts, length-bytes}
 use Rattle.block.proofs.Block.{length-blockBits, passes-blockBits, service-blockBits, payload-blockBits}
-use Rattle.block.proofs.Refusals.{read-done}
+use Rattle.block.proofs.Refusals.{passed-test, check-done, read-check}
 use Rattle.block.proofs.Truth.{or-false}
 
 -- a part of bytes is bytes
@@ -81,7 +81,7 @@ module _ (k service : ℕ) (payload slice room : List ℕ) (known : isLength k �
   pub read-built : readBlock k (builtBytes k service payload slice (done tt)) room ≡ done (passed service)
   read-built =
       let f = length-facts k known in
-      read-done k written room known (omega (arith, length-written)) (omega arith)
+      read-check k written room known (omega arith) ∙ check-done k written known (omega (arith, length-written))
       ∙ ap (λ (l : Bits). done (verdict l)) row-written ∙ ap done verdict-row
 
   payload-written : payloadOf k (bitsOf written) ≡ take k (bitsOf payload)
@@ -113,11 +113,6 @@ module _ (k service : ℕ) (payload slice room : List ℕ) (known : isLength k �
       data-built ∙ ap (λ (l : List ℕ). l ++ drop m room) e
 
 -- ---- the same on the promises of the two calls
-
--- a call that is done passed its test
-pub passed-test : {X : Type 0} (t : Bool) (n : ℕ) (next : Answer X) (x : X) → refuseIf t n next ≡ done x → (t ≡ false) × (next ≡ done x)
-passed-test true n next x h = absurd (let z : _≡_ {A = ℕ} 0 1 = cc in omega arith)
-passed-test false n next x h = (refl, h)
 
 passed-answer : (answer : Read) (s : ℕ) → readAnswer answer ≡ done (passed s) → answer ≡ R.Passed s
 passed-answer (R.Passed x) s h = cc

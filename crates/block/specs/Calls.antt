@@ -51,6 +51,31 @@ pub record BuildBlock (k service : ℕ) (payload slice : List ℕ) (answer : Bui
   pub answers : builtAnswer answer ≡ buildBlock k service payload slice
   pub writes : slice′ ≡ builtBytes k service payload slice (buildBlock k service payload slice)
 
+-- ---- checking a packed block: 1, 6; nothing is written
+
+unfoldable pub checkBlock : ℕ → List ℕ → Answer Verdict
+checkBlock k slice =
+    refuseIf (not (isLength k)) A.block
+    (refuseIf (tooShort slice (blockLength k)) A.short (done (verdict (take (blockLength k) (bitsOf slice)))))
+
+pub record CheckBlock (k : ℕ) (slice : List ℕ) (answer : Read) : Type 0 where
+  pub answers : readAnswer answer ≡ checkBlock k slice
+
+-- ---- moving a packed block's data, whatever its check: 1, 6
+
+unfoldable pub moveData : ℕ → List ℕ → List ℕ → Answer (Unit {0})
+moveData k slice payload =
+    refuseIf (not (isLength k)) A.block
+    (refuseIf (tooShort slice (blockLength k) || tooShort payload k) A.short (done tt))
+
+abbrev pub movedBytes : ℕ → List ℕ → List ℕ → Answer (Unit {0}) → List ℕ
+movedBytes k slice payload (refused n) = payload
+movedBytes k slice payload (done u) = overwritten (payloadBytes k) (payloadOf k (bitsOf slice)) payload
+
+pub record MoveData (k : ℕ) (slice payload : List ℕ) (answer : Built) (payload′ : List ℕ) : Type 0 where
+  pub answers : builtAnswer answer ≡ moveData k slice payload
+  pub writes : payload′ ≡ movedBytes k slice payload (moveData k slice payload)
+
 -- ---- reading one: 1, 6, both slices judged first
 
 unfoldable pub readBlock : ℕ → List ℕ → List ℕ → Answer Verdict

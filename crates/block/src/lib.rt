@@ -7,7 +7,7 @@ ghost use Rattle.crc.specs.Bits.{binary, bitsOf, bytesOf};
 ghost use Rattle.crc.specs.Check.{remainder};
 ghost use Rattle.block.specs.Lengths.{isLength};
 ghost use Rattle.block.specs.Block.{blockBits, syncBlock};
-ghost use Rattle.block.specs.Calls.{overwritten, BuildBlock, ReadBlock, BuildSync, CancelBlock};
+ghost use Rattle.block.specs.Calls.{tooShort, overwritten, BuildBlock, CheckBlock, MoveData, ReadBlock, BuildSync, CancelBlock};
 
 // Document 01, "What the ends turn away".
 pub const BLOCK: u8 = 1;
@@ -15,6 +15,14 @@ pub const BLOCK: u8 = 1;
 pub const SHORT: u8 = 6;
 
 pub const SPOILED: u8 = 7;
+
+// A block's service and check bits.
+pub const OVERHEAD: usize = 20;
+
+// The synchronising block's service bits, and its last sixteen bits.
+pub const SYNC: u8 = 0b0101;
+
+pub const SEQUENCE: u16 = 0b0101000010100101;
 
 pub enum Built {
     Done,
@@ -36,6 +44,16 @@ pub fn known_length(k: usize) -> bool
         240 | 480 | 960 | 3840 => true,
         _ => false,
     }
+}
+
+// Whether a slice holds fewer bits than these.
+pub fn too_short(s: &[u8], bits: usize) -> bool
+    ensures { λ r. ⌜ r ≡ tooShort (now (s .entry)) bits ⌝ }
+{
+    if bits == 0 {
+        return false;
+    }
+    s.len() <= (bits - 1) / 8
 }
 
 // The first m bytes of to become those of from without its first four bits.
@@ -116,9 +134,9 @@ fn remainder_of(m: usize, block: &[u8]) -> u16
     check ^ received_check(block[m], block[m + 1], block[m + 2])
 }
 
-// One block read: both slices judged, then the check; the data are moved if it passes. Refused in the order 1, 6.
-pub fn read_block(k: usize, block: &[u8], payload: &mut [u8]) -> Read
-    ensures { λ r. ⌜ ReadBlock k (now (block .entry)) (now (payload .entry)) r (now (payload .exit)) ⌝ }
+// A packed block checked; nothing is written. Refused in the order 1, 6.
+pub fn check_block(k: usize, block: &[u8]) -> Read
+    ensures { λ r. ⌜ CheckBlock k (now (block .entry)) r ⌝ }
 {
     if !known_length(k) {
         return Read::Refused(BLOCK);
@@ -127,14 +145,46 @@ pub fn read_block(k: usize, block: &[u8], payload: &mut [u8]) -> Read
     if block.len() < m + 3 {
         return Read::Refused(SHORT);
     }
-    if payload.len() < m {
-        return Read::Refused(SHORT);
-    }
     if remainder_of(m, block) != 0 {
         return Read::Failed;
     }
-    shift_half(m, block, payload);
     let service = block[0] >> 4;
+    Read::Passed(service)
+}
+
+// The data of a packed block moved, whatever its check. Refused in the order 1, 6.
+pub fn move_data(k: usize, block: &[u8], payload: &mut [u8]) -> Built
+    ensures { λ r. ⌜ MoveData k (now (block .entry)) (now (payload .entry)) r (now (payload .exit)) ⌝ }
+{
+    if !known_length(k) {
+        return Built::Refused(BLOCK);
+    }
+    let m = k / 8;
+    if block.len() < m + 3 {
+        return Built::Refused(SHORT);
+    }
+    if payload.len() < m {
+        return Built::Refused(SHORT);
+    }
+    shift_half(m, block, payload);
+    Built::Done
+}
+
+// One block read: both slices judged, then the check; the data are moved if it passes. Refused in the order 1, 6.
+pub fn read_block(k: usize, block: &[u8], payload: &mut [u8]) -> Read
+    ensures { λ r. ⌜ ReadBlock k (now (block .entry)) (now (payload .entry)) r (now (payload .exit)) ⌝ }
+{
+    if !known_length(k) {
+        return Read::Refused(BLOCK);
+    }
+    if payload.len() < k / 8 {
+        return Read::Refused(SHORT);
+    }
+    let answer = check_block(k, block);
+    let Read::Passed(service) = answer else {
+        return answer;
+    };
+    move_data(k, block, payload);
     Read::Passed(service)
 }
 

@@ -1,17 +1,11 @@
--- `read_block` keeps its promise: each refusal by its tests, both slices first, then the check, then the data moved.
--- Assumes nothing.
-use borrow.Author.Needs.{needs}
-use borrow.Author.Tests.{not-true, not-false}
+-- `read_block` keeps its promise: where the data have room it answers as the check does, and what passes is moved. Assumes nothing.
+use mathlib.Core.Path.{_≡_, sym, _∙_}
 use mathlib.Core.Bool.{true}
-use mathlib.Core.Path.{_≡_, sym, ap, _∙_}
 use native.Mathlib.Omega.{arith}
-use Prim.Native.Nat.{ℕ, _+_}
-use lib.ListN.{take}
-use Rattle.crc.specs.Bits.{bitsOf}
-use Rattle.crc.specs.Check.{remainder}
-use Rattle.block.specs.Lengths.{isLength, blockLength}
-use Rattle.block.proofs.Lengths.{length-bytes}
-use Rattle.block.proofs.Refusals.{read-length, read-slice, read-payload, read-failed, read-passed}
+use borrow.Author.Tests.{not-true, not-false}
+use borrow.Author.Needs.{needs}
+use Rattle.block.specs.Lengths.{isLength}
+use Rattle.block.proofs.Refusals.{read-length, read-payload, read-kept, read-moved}
 use Rattle.block.proofs.read_block.Statement.{statement}
 use Rattle.block.proofs.read_block.Tie as tie
 
@@ -23,49 +17,40 @@ returns c =
     let a = c .before .before .before .before .args in
     read-length (a .k) (a .block .now) (a .payload .now) (sym (c .before .known-length .ensures) ∙ not-true _ (c .if1 .taken))
 
-add-if2 : tie.Need-add-if2
-add-if2 c = search needs
-
 returns-2 : tie.Need-returns-2
 returns-2 c =
     let a = c .before .before .before .before .before .args in
     let known : isLength (a .k) ≡ true = sym (c .before .before .known-length .ensures) ∙ not-false _ (c .before .if1 .left) in
-    read-slice (a .k) (a .block .now) (a .payload .now) known (c .if2 .taken)
+    read-payload (a .k) (a .block .now) (a .payload .now) known (c .if2 .taken)
+
+check-block-requires : tie.Need-check-block-requires
+check-block-requires c κs = search needs
+
+enum-known-answer : tie.Need-enum-known-answer
+enum-known-answer c = search needs
 
 returns-3 : tie.Need-returns-3
 returns-3 c =
-    let a = c .before .before .before .before .before .before .args in
-    let known : isLength (a .k) ≡ true = sym (c .before .before .before .known-length .ensures) ∙ not-false _ (c .before .before .if1 .left) in
-    read-payload (a .k) (a .block .now) (a .payload .now) known (omega arith) (c .if3 .taken)
+    let e = c .before .before .before in
+    let a = e .before .before .before .before .args in
+    let known : isLength (a .k) ≡ true = sym (e .before .known-length .ensures) ∙ not-false _ (e .if1 .left) in
+    read-kept (a .k) (a .block .now) (a .payload .now) known (omega arith) _ (c .before .check-block .ensures) (c .match .keys2)
 
-remainder-of-requires : tie.Need-remainder-of-requires
-remainder-of-requires c κs = search needs
-
-returns-4 : tie.Need-returns-4
-returns-4 c =
-    let a = c .before .before .before .before .before .before .before .before .args in
-    let known : isLength (a .k) ≡ true = sym (c .before .before .before .before .before .known-length .ensures) ∙ not-false _ (c .before .before .before .before .if1 .left) in
-    let e : c .before .remainder-of .result ≡ remainder (take (blockLength (a .k)) (bitsOf (a .block .now))) =
-    c .before .remainder-of .ensures ∙ ap (λ (x : ℕ). remainder (take (x + 20) (bitsOf (a .block .now)))) (length-bytes (a .k) known) in
-    read-failed (a .k) (a .block .now) (a .payload .now) known (omega arith) (omega arith) (λ z. c .if4 .taken (e ∙ z))
-
-shift-half-requires : tie.Need-shift-half-requires
-shift-half-requires c κs = search needs
-
-shared-slice-read-service : tie.Need-shared-slice-read-service
-shared-slice-read-service c = search needs
+move-data-requires : tie.Need-move-data-requires
+move-data-requires c κs = search needs
 
 same-length : tie.Need-same-length
 same-length c = search needs
 
-returns-5 : tie.Need-returns-5
-returns-5 c =
-    let a = c .before .before .before .before .before .before .before .before .before .before .before .before .before .args in
-    let known : isLength (a .k) ≡ true = sym (c .before .before .before .before .before .before .before .before .before .before .known-length .ensures) ∙ not-false _ (c .before .before .before .before .before .before .before .before .before .if1 .left) in
-    let e : c .before .before .before .before .before .before .remainder-of .result ≡ remainder (take (blockLength (a .k)) (bitsOf (a .block .now))) =
-    c .before .before .before .before .before .before .remainder-of .ensures ∙ ap (λ (x : ℕ). remainder (take (x + 20) (bitsOf (a .block .now)))) (length-bytes (a .k) known) in
-    read-passed (a .k) (a .block .now) (a .payload .now) known (omega arith) (omega arith) _ (sym e ∙ c .before .before .before .before .before .if4 .left)
-    (c .shared-slice-known2 .given 0 .fits) (c .before .before .before .shift-half .ensures)
+returns-4 : tie.Need-returns-4
+returns-4 c =
+    let m = c .before .before in
+    let t = m .before .before in
+    let k = t .before .before .before in
+    let e = k .before .before in
+    let a = e .before .before .before .before .args in
+    let known : isLength (a .k) ≡ true = sym (e .before .known-length .ensures) ∙ not-false _ (e .if1 .left) in
+    read-moved (a .k) (a .block .now) (a .payload .now) known (omega arith) _ (k .check-block .ensures) _ (t .before .answer .given .1) _ _ (m .move-data .ensures)
 
 pub read-block-spec : {M : Type 1} → statement M
 read-block-spec =
@@ -73,12 +58,10 @@ read-block-spec =
     (tie.spec
     known-length-requires
     returns
-    add-if2
     returns-2
+    check-block-requires
+    enum-known-answer
     returns-3
-    remainder-of-requires
-    returns-4
-    shift-half-requires
-    shared-slice-read-service
+    move-data-requires
     same-length
-    returns-5)
+    returns-4)
