@@ -8,14 +8,15 @@ use native.Mathlib.Omega.{arith}
 use borrow.Author.Tests.{eq-eqb, ne-eqb, le-leb, lt-leb}
 use lib.Dec.{eqb, leb}
 use lib.ListN.{length, take, drop, getD, length-append}
-use lib.Seq.{take-at, drop-at, take-take, length-take-le}
+use lib.Seq.{take-at, drop-at, length-take-le}
 use Rattle.crc.specs.Bits.{Bits, binary, number, numberFrom, bitsOf}
 use Rattle.crc.proofs.Rows.{length-binary, number-binary, numberFrom-append, numberFrom-binary}
 use Rattle.crc.proofs.Bytes.{length-bitsOf, take-bitsOf, drop-bitsOf}
 use Rattle.block.specs.Lengths.{isLength, blockLength}
 use Rattle.block.specs.Block.{serviceOf, serviceSync, syncSequence}
 use Rattle.block.proofs.Lengths.{length-facts}
-use Rattle.block.proofs.Packing.{service-first, block-parts}
+use Rattle.block.proofs.Packing.{block-parts}
+use Rattle.block.proofs.Refusals.{service-number}
 use Rattle.line.specs.Order.{longestOrder, validLength, itemCount, version}
 use Rattle.line.specs.Receiving.{Rule, ends, wrong-length, lengthRule, endRule, looksSync}
 
@@ -90,15 +91,12 @@ module _ (k : ℕ) (known : isLength k ≡ true) (s : List ℕ) (h : blockLength
   abbrev row : Bits
   row = take (blockLength k) (bitsOf s)
 
-  pub service-number : getD s 0 0 < 256 → number (serviceOf row) ≡ getD s 0 0 / 16
-  service-number b =
-      let f = length-facts k known in
-      ap number (take-take 4 (blockLength k) (bitsOf s) (omega arith) ∙ service-first s (omega arith))
-      ∙ number-binary 4 (getD s 0 0 / 16) (omega arith)
+  service-of : getD s 0 0 < 256 → number (serviceOf row) ≡ getD s 0 0 / 16
+  service-of b = let f = length-facts k known in service-number k s known (omega arith) b
 
   pub other-service : getD s 0 0 < 256 → (getD s 0 0 / 16 ≡ number serviceSync → ⊥) → false ≡ looksSync k row
   unfolding looksSync
-  other-service b n = sym (rw (ne-eqb (number (serviceOf row)) (number serviceSync) (λ e. n (sym (service-number b) ∙ e))))
+  other-service b n = sym (rw (ne-eqb (number (serviceOf row)) (number serviceSync) (λ e. n (sym (service-of b) ∙ e))))
 
   -- the last sixteen bits, as the reader has its check bits
   module _ (m c : ℕ) (em : k / 8 ≡ m) (hc : c < 2 ^ 16)
@@ -121,5 +119,5 @@ module _ (k : ℕ) (known : isLength k ≡ true) (s : List ℕ) (h : blockLength
     unfolding looksSync
     same-service b q =
         sym
-        (ap₂ (λ (x y : ℕ). eqb x (number serviceSync) && eqb y (number syncSequence)) (service-number b ∙ q) last-number
+        (ap₂ (λ (x y : ℕ). eqb x (number serviceSync) && eqb y (number syncSequence)) (service-of b ∙ q) last-number
         ∙ rw (eq-eqb (number serviceSync) (number serviceSync) refl))

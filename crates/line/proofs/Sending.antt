@@ -26,7 +26,7 @@ use Rattle.line.specs.declared.sender.Sent.the-variants as W
 use Rattle.line.specs.declared.sender.Step.{Step}
 use Rattle.block.proofs.Lengths.{length-facts}
 use Rattle.block.proofs.Truth.{and-left, and-right, or-false}
-use Rattle.block.proofs.RoundTrip.{passed-test}
+use Rattle.block.proofs.Refusals.{passed-test}
 use Rattle.line.proofs.Items.{valid-length, itemCount-pos}
 
 -- ---- what the range says

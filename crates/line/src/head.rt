@@ -2,32 +2,30 @@
 ghost use mathlib.Core.Path.{_≡_};
 ghost use mathlib.Core.Bool.{true, _||_};
 ghost use mathlib.Core.List.{List, [], _++_};
-ghost use Prim.Native.Nat.{ℕ, _+_, _*_, _/_, _^_, _≤_, _<_};
+ghost use Prim.Native.Nat.{ℕ, _+_, _*_, _≤_, _<_};
 ghost use lib.Dec.{leb};
-ghost use lib.ListN.{length, take, getD};
+ghost use lib.ListN.{length, take};
 ghost use Rattle.crc.specs.Bits.{bitsOf};
-ghost use Rattle.block.specs.Lengths.{isLength, blockLength};
-ghost use Rattle.line.specs.Order.{mostItems};
+ghost use Rattle.block.specs.Lengths.{blockLength};
 ghost use Rattle.line.specs.Receiving as S;
 ghost use Rattle.line.specs.Receiving.{arrayBytes, noBytes, receiverInRange};
 ghost use Rattle.line.specs.ReceivingInPlace.{whole, ReceiveInPlace};
-ghost use Rattle.line.specs.Code.ReceiveSteps.{windowBits, ruleOf, stepWith, stepped, handedBack, unstored, storable, judged, turnedAway, Handed};
+ghost use Rattle.line.specs.Code.ReceiveSteps.{WindowInRange, ReadyHead, FinishedBlock, windowBits, ruleOf, stepWith, stepped, handedBack, judged, turnedAway, Handed};
 use crate::hold::put_bits;
 use crate::order::MOST_ITEMS;
-use crate::order::OVERHEAD;
-use crate::order::too_short;
 use crate::receiver::ARRAY_SIZE;
 use crate::receiver::Event;
 use crate::receiver::Phase;
 use crate::receiver::Received;
 use crate::receiver::Setup;
 use crate::rules::Rule;
-use crate::rules::is_awaited;
 use crate::rules::looks_sync;
 use crate::rules::service_rule;
 use crate::window::Window;
 use crate::window::bit_at;
+use block::OVERHEAD;
 use block::Read;
+use block::too_short;
 
 // The eighth bad block in a row starts a search.
 const LAST_BAD: usize = 8;
@@ -156,7 +154,7 @@ impl Head {
 
     // A bad block; lost where rule 7 goes back to search.
     fn bad(self, array: &mut [u8], lost: bool, used: usize) -> HeadStep
-        requires { ⌜ (length (now array) ≡ arrayBytes) × (self .row < S.lastBad) ⌝ }
+        requires { ⌜ ReadyHead self (now array) ⌝ }
         ensures { λ r. ⌜ stepWith r (now (array .exit)) ≡ stepped (S.badly (whole self (now (array .entry))) (leb S.lastBad (self .row + 1) || lost)) Event.Bad used ⌝ }
     {
         let row = self.row + 1;
@@ -178,7 +176,7 @@ impl Head {
 
     // What a rule comes to, the store apart.
     fn stop(self, array: &mut [u8], rule: Rule, used: usize) -> HeadStep
-        requires { ⌜ (length (now array) ≡ arrayBytes) × (self .row < S.lastBad) × (self .taken ≤ mostItems) ⌝ }
+        requires { ⌜ ReadyHead self (now array) ⌝ }
         ensures { λ r. ⌜ stepWith r (now (array .exit)) ≡ handedBack (S.stops (whole self (now (array .entry))) (ruleOf rule) [] used) ⌝ }
     {
         let taken = self.taken;
@@ -204,38 +202,25 @@ impl Head {
         }
     }
 
-    // Whether a block with these service bits, if its check passes, goes to the store.
-    fn stores(self, service: u8, store: &[u8]) -> bool
-        requires { ⌜ (isLength (self .setup .k) ≡ true) × (self .taken ≤ mostItems) ⌝ }
-        ensures { λ r. ⌜ r ≡ storable self service (now (store .entry)) ⌝ }
-    {
-        if !is_awaited(self.taken, self.ended, service) {
-            return false;
-        }
-        let m = self.setup.k / 8;
-        self.taken * m + m <= store.len()
-    }
-
-    // Rules 2 and 3 where the store has room: the data of a block that passes go straight to their place.
-    fn accept(self, array: &mut [u8], row: &[u8], used: usize, store: &mut [u8]) -> HeadStep
-        requires { ⌜ (length (now array) ≡ arrayBytes) × (isLength (self .setup .k) ≡ true) × (self .row < S.lastBad) × (self .taken ≤ mostItems) × (blockLength (self .setup .k) ≤ 8 * length (now row)) × (storable self (getD (now row) 0 0 / 2 ^ 4) (now store) ≡ true) ⌝ }
-        ensures { λ r. ⌜ Handed (whole self (now (array .entry))) (now (store .entry)) (judged (whole self (now (array .entry))) (take (blockLength (self .setup .k)) (bitsOf (now (row .entry)))) used) (stepWith r (now (array .exit))) (now (store .exit)) ⌝ }
+    // Rule 3: room in the store, the data straight to their place, the state after.
+    fn store_item(self, array: &mut [u8], row: &[u8], used: usize, store: &mut [u8]) -> HeadStep
+        requires { ⌜ FinishedBlock self (now array) (now row) ⌝ }
+        ensures { λ r. ⌜ Handed (whole self (now (array .entry))) (now (store .entry)) (S.stops (whole self (now (array .entry))) S.accepts (take (blockLength (self .setup .k)) (bitsOf (now (row .entry)))) used) (stepWith r (now (array .exit))) (now (store .exit)) ⌝ }
     {
         let k = self.setup.k;
-        let m = k / 8;
-        let from = self.taken * m;
-        let answer = block::read_block(k, row, &mut store[from..from + m]);
-        let Read::Passed(_) = answer else {
-            return self.bad(array, false, used);
-        };
+        let start = self.taken * (k / 8);
+        let end = start + k / 8;
+        if store.len() < end {
+            return self.refused(block::SHORT);
+        }
+        block::move_data(k, row, &mut store[start..end]);
         self.stop(array, Rule::Accepts, used)
     }
 
-    // A finished block that does not go to the store: rule 1, then the check, then the rules of what passes. One that would
-    // be accepted finds no room.
-    fn judge_unstored(self, array: &mut [u8], row: &[u8], used: usize) -> HeadStep
-        requires { ⌜ (length (now array) ≡ arrayBytes) × (isLength (self .setup .k) ≡ true) × (self .row < S.lastBad) × (self .taken ≤ mostItems) × (blockLength (self .setup .k) ≤ 8 * length (now row)) ⌝ }
-        ensures { λ r. ⌜ stepWith r (now (array .exit)) ≡ unstored (whole self (now (array .entry))) (judged (whole self (now (array .entry))) (take (blockLength (self .setup .k)) (bitsOf (now (row .entry)))) used) ⌝ }
+    // A finished block by the rules in their order: rule 1, the check, then the rules of a block that passes.
+    fn judge(self, array: &mut [u8], row: &[u8], used: usize, store: &mut [u8]) -> HeadStep
+        requires { ⌜ FinishedBlock self (now array) (now row) ⌝ }
+        ensures { λ r. ⌜ Handed (whole self (now (array .entry))) (now (store .entry)) (judged (whole self (now (array .entry))) (take (blockLength (self .setup .k)) (bitsOf (now (row .entry)))) used) (stepWith r (now (array .exit))) (now (store .exit)) ⌝ }
     {
         let k = self.setup.k;
         let taken = self.taken;
@@ -243,33 +228,21 @@ impl Head {
         if looks_sync(k, row) {
             return self.well(array, taken, ended, Event::Sync, used);
         }
-        let mut payload = [0u8; 480];
-        let answer = block::read_block(k, row, &mut payload);
+        let answer = block::check_block(k, row);
         let Read::Passed(service) = answer else {
             return self.bad(array, false, used);
         };
-        let rule = service_rule(k, taken, ended, service, &payload);
-        if let Rule::Accepts = rule {
-            return self.refused(block::SHORT);
+        let rule = service_rule(k, taken, ended, service, row);
+        match rule {
+            Rule::Accepts => self.store_item(array, row, used, store),
+            _ => self.stop(array, rule, used),
         }
-        self.stop(array, rule, used)
-    }
-
-    // A finished block; a letter's service bits are not rule 1's.
-    fn judge(self, array: &mut [u8], row: &[u8], used: usize, store: &mut [u8]) -> HeadStep
-        requires { ⌜ (length (now array) ≡ arrayBytes) × (isLength (self .setup .k) ≡ true) × (self .row < S.lastBad) × (self .taken ≤ mostItems) × (blockLength (self .setup .k) ≤ 8 * length (now row)) ⌝ }
-        ensures { λ r. ⌜ Handed (whole self (now (array .entry))) (now (store .entry)) (judged (whole self (now (array .entry))) (take (blockLength (self .setup .k)) (bitsOf (now (row .entry)))) used) (stepWith r (now (array .exit))) (now (store .exit)) ⌝ }
-    {
-        if self.stores(row[0] >> 4, store) {
-            return self.accept(array, row, used, store);
-        }
-        self.judge_unstored(array, row, used)
     }
 
     // The block's last bits have come. A block that stands whole in the line is judged there; and the array stays as it
     // is where the store is refused, so the others are finished in a copy.
     fn finish(self, array: &mut [u8], line: &[u8], missing: usize, store: &mut [u8]) -> HeadStep
-        requires { ⌜ (length (now array) ≡ arrayBytes) × (isLength (self .setup .k) ≡ true) × (self .row < S.lastBad) × (self .taken ≤ mostItems) × (self .held + missing ≡ blockLength (self .setup .k)) × (missing ≤ 8 * length (now line)) ⌝ }
+        requires { ⌜ (ReadyHead self (now array)) × (self .held + missing ≡ blockLength (self .setup .k)) × (missing ≤ 8 * length (now line)) ⌝ }
         ensures { λ r. ⌜ Handed (whole self (now (array .entry))) (now (store .entry)) (judged (whole self (now (array .entry))) (S.heldBits (whole self (now (array .entry))) ++ take missing (bitsOf (now (line .entry)))) missing) (stepWith r (now (array .exit))) (now (store .exit)) ⌝ }
     {
         if self.held == 0 {
@@ -282,7 +255,7 @@ impl Head {
 
     // In step: the bits up to the block's end, or to the last.
     fn in_step(self, array: &mut [u8], line: &[u8], bits: usize, store: &mut [u8]) -> HeadStep
-        requires { ⌜ (length (now array) ≡ arrayBytes) × (isLength (self .setup .k) ≡ true) × (self .row < S.lastBad) × (self .taken ≤ mostItems) × (self .held < blockLength (self .setup .k)) × (bits ≤ 8 * length (now line)) ⌝ }
+        requires { ⌜ (ReadyHead self (now array)) × (self .held < blockLength (self .setup .k)) × (bits ≤ 8 * length (now line)) ⌝ }
         ensures { λ r. ⌜ Handed (whole self (now (array .entry))) (now (store .entry)) (S.inStep (whole self (now (array .entry))) (take bits (bitsOf (now (line .entry))))) (stepWith r (now (array .exit))) (now (store .exit)) ⌝ }
     {
         let held = self.held;
@@ -305,7 +278,7 @@ impl Head {
 
     // The search's window back in the array's first two bytes.
     fn hold_window(self, array: &mut [u8], window: Window, used: usize) -> HeadStep
-        requires { ⌜ (length (now array) ≡ arrayBytes) × (window .held ≤ 15) × (window .number < 2 ^ window .held) ⌝ }
+        requires { ⌜ (length (now array) ≡ arrayBytes) × (WindowInRange window) ⌝ }
         ensures { λ r. ⌜ stepWith r (now (array .exit)) ≡ stepped (S.searching (whole self (now (array .entry))) (windowBits window)) Event.None used ⌝ }
     {
         let pair = window.store();

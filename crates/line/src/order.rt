@@ -7,16 +7,13 @@ ghost use lib.ListN.{length, take, drop};
 ghost use Rattle.crc.specs.Bits.{binary, bitsOf, bytesOf, number, zeros};
 ghost use Rattle.block.specs.Lengths.{isLength, blockLength, blockBytes};
 ghost use Rattle.block.specs.Block.{blockBits};
-ghost use Rattle.block.specs.Calls.{tooShort, overwritten};
+ghost use Rattle.block.specs.Calls.{overwritten};
 ghost use Rattle.line.specs.Order.{longestOrder, validLength, itemCount, letter, endService, orderBits, endPayload, itemBits};
 
 // The longest order in bits, and the most data items that an order makes.
 pub(crate) const LONGEST_ORDER: usize = 262144;
 
 pub(crate) const MOST_ITEMS: usize = 1093;
-
-// A block's service and check bits.
-pub(crate) const OVERHEAD: usize = 20;
 
 pub(crate) const LETTER_A: u8 = 0b0011;
 
@@ -28,16 +25,6 @@ pub(crate) const END: u8 = 0b1000;
 
 // The version that an end block carries.
 pub(crate) const VERSION: u8 = 1;
-
-// Whether a slice holds fewer bits than these.
-pub(crate) fn too_short(s: &[u8], bits: usize) -> bool
-    ensures { λ r. ⌜ r ≡ tooShort (now (s .entry)) bits ⌝ }
-{
-    if bits == 0 {
-        return false;
-    }
-    s.len() <= (bits - 1) / 8
-}
 
 // The number of data items that an order of these bits makes.
 pub(crate) fn item_count(k: usize, bits: usize) -> usize

@@ -6,9 +6,10 @@ ghost use lib.Dec.{eqb, leb};
 ghost use lib.ListN.{length, take, drop};
 ghost use Rattle.crc.specs.Bits.{number, bitsOf};
 ghost use Rattle.block.specs.Lengths.{isLength, blockLength};
+ghost use Rattle.block.specs.Block.{payloadOf};
 ghost use Rattle.line.specs.Order.{mostItems, letter, isLetter};
 ghost use Rattle.line.specs.Receiving.{looksSync, place, letterRule, endRule, serviceRule};
-ghost use Rattle.line.specs.Code.ReceiveSteps.{ruleOf, awaited};
+ghost use Rattle.line.specs.Code.ReceiveSteps.{ruleOf};
 use crate::order::END;
 use crate::order::LETTER_A;
 use crate::order::LETTER_B;
@@ -18,11 +19,8 @@ use crate::order::MOST_ITEMS;
 use crate::order::VERSION;
 use crate::order::item_count;
 use crate::order::letter;
-
-// The synchronising block's service bits, and its last sixteen bits.
-const SYNC: u8 = 0b0101;
-
-pub(crate) const SEQUENCE: u16 = 0b0101000010100101;
+use block::SEQUENCE;
+use block::SYNC;
 
 pub(crate) enum Rule {
     Accepts,
@@ -86,24 +84,6 @@ fn letter_rule(taken: usize, service: u8) -> Rule
     Rule::AnythingElse
 }
 
-// Whether a block with these service bits is accepted if its check passes.
-pub(crate) fn is_awaited(taken: usize, ended: bool, service: u8) -> bool
-    requires { ⌜ taken ≤ mostItems ⌝ }
-    ensures { λ r. ⌜ r ≡ awaited taken ended service ⌝ }
-{
-    if !is_letter(service) {
-        return false;
-    }
-    if ended {
-        return false;
-    }
-    let rule = letter_rule(taken, service);
-    match rule {
-        Rule::Accepts => true,
-        _ => false,
-    }
-}
-
 // The length that an end block's data give.
 fn end_length(payload: &[u8]) -> usize
     requires { ⌜ 5 ≤ length (now payload) ⌝ }
@@ -137,10 +117,10 @@ fn end_rule(k: usize, taken: usize, ended: bool, payload: &[u8]) -> Rule
     Rule::Ends(bits)
 }
 
-// By the service bits.
-pub(crate) fn service_rule(k: usize, taken: usize, ended: bool, service: u8, payload: &[u8]) -> Rule
-    requires { ⌜ (isLength k ≡ true) × (taken ≤ mostItems) × (5 ≤ length (now payload)) ⌝ }
-    ensures { λ r. ⌜ ruleOf r ≡ serviceRule k taken ended service (bitsOf (now (payload .entry))) ⌝ }
+// By the service bits; an end block's data are read from a copy.
+pub(crate) fn service_rule(k: usize, taken: usize, ended: bool, service: u8, row: &[u8]) -> Rule
+    requires { ⌜ (isLength k ≡ true) × (taken ≤ mostItems) × (blockLength k ≤ 8 * length (now row)) ⌝ }
+    ensures { λ r. ⌜ ruleOf r ≡ serviceRule k taken ended service (payloadOf k (take (blockLength k) (bitsOf (now (row .entry))))) ⌝ }
 {
     if is_letter(service) {
         if ended {
@@ -149,7 +129,9 @@ pub(crate) fn service_rule(k: usize, taken: usize, ended: bool, service: u8, pay
         return letter_rule(taken, service);
     }
     if service == END {
-        return end_rule(k, taken, ended, payload);
+        let mut payload = [0u8; 480];
+        block::move_data(k, row, &mut payload);
+        return end_rule(k, taken, ended, &payload);
     }
     Rule::AnythingElse
 }

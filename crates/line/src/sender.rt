@@ -14,10 +14,10 @@ use crate::REST;
 use crate::loop_time::LoopTime;
 use crate::loop_time::loop_time;
 use crate::order::LONGEST_ORDER;
-use crate::order::OVERHEAD;
 use crate::order::item_count;
-use crate::order::too_short;
 use crate::order::write_item;
+use block::OVERHEAD;
+use block::too_short;
 
 // The run of cancels at which a synchronising block comes before the repeat, and at which the sender gives up.
 const SYNC_RUN: usize = 4;

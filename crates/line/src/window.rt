@@ -6,8 +6,8 @@ ghost use Prim.Native.Nat.{_+_, _*_, _^_, _≤_, _<_};
 ghost use lib.ListN.{length, take, getD};
 ghost use Rattle.crc.specs.Bits.{bit, binary, bitsOf, bytesOf};
 ghost use Rattle.line.specs.Receiving.{latest, isSequence};
-ghost use Rattle.line.specs.Code.ReceiveSteps.{windowBits};
-use crate::rules::SEQUENCE;
+ghost use Rattle.line.specs.Code.ReceiveSteps.{WindowInRange, windowBits};
+use block::SEQUENCE;
 
 pub(crate) struct Window {
     pub held: usize,
@@ -41,7 +41,7 @@ impl Window {
 
     // Into two bytes, zero bits behind it.
     pub(crate) fn store(self) -> Pair
-        requires { ⌜ (self .held ≤ 15) × (self .number < 2 ^ self .held) ⌝ }
+        requires { ⌜ WindowInRange self ⌝ }
         ensures { λ r. ⌜ r .0 ∷ r .1 ∷ [] ≡ bytesOf 2 (windowBits self) ⌝ }
     {
         let both = (self.number as u32) << (16 - self.held);
@@ -50,7 +50,7 @@ impl Window {
 
     // One bit more.
     fn shifted(self, next: bool) -> u16
-        requires { ⌜ (self .held ≤ 15) × (self .number < 2 ^ self .held) ⌝ }
+        requires { ⌜ WindowInRange self ⌝ }
         ensures { λ r. ⌜ r ≡ self .number * 2 + bit next ⌝ }
     {
         self.number << 1 | next as u16
@@ -58,7 +58,7 @@ impl Window {
 
     // Whether the next bit ends the sequence.
     pub(crate) fn ends_sequence(self, next: bool) -> bool
-        requires { ⌜ (self .held ≤ 15) × (self .number < 2 ^ self .held) ⌝ }
+        requires { ⌜ WindowInRange self ⌝ }
         ensures { λ r. ⌜ r ≡ isSequence (windowBits self ++ (next ∷ [])) ⌝ }
     {
         if self.held < 15 {
@@ -69,8 +69,8 @@ impl Window {
 
     // The next bit in, and the earliest of sixteen out.
     pub(crate) fn slide(self, next: bool) -> Window
-        requires { ⌜ (self .held ≤ 15) × (self .number < 2 ^ self .held) ⌝ }
-        ensures { λ r. ⌜ (r .held ≤ 15) × (r .number < 2 ^ r .held) × (windowBits r ≡ latest (windowBits self ++ (next ∷ []))) ⌝ }
+        requires { ⌜ WindowInRange self ⌝ }
+        ensures { λ r. ⌜ (WindowInRange r) × (windowBits r ≡ latest (windowBits self ++ (next ∷ []))) ⌝ }
     {
         let number = self.shifted(next);
         if self.held < 15 {

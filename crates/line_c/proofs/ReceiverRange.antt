@@ -16,7 +16,7 @@ use Rattle.block.specs.Lengths.{blockLength}
 use Rattle.block.specs.Calls.{tooShort}
 use Rattle.block.proofs.Lengths.{length-facts}
 use Rattle.block.proofs.Truth.{cond-case}
-use Rattle.block.proofs.RoundTrip.{passed-test}
+use Rattle.block.proofs.Refusals.{passed-test}
 use Rattle.line.specs.Receiving.{arrayBytes, noBytes, freshReceiver, openReceiver, Rule, unfinished, standing, found, sync-block, check-fails, accepts, previous, out-of-sequence, ends, wrong-length, ends-again, anything-else, meaning, judge, blank, lastBad, badly, after, heldBits, Reading, latest, isSequence, search, stands, holding, missing, finishedRow, inStep, reading, readings, heldInRange, receiverInRange, receive}
 use Rattle.line.specs.declared.receiver.Receiver.{Receiver}
 use Rattle.line.specs.declared.receiver.Phase.{Phase}

@@ -13,7 +13,7 @@ use lib.Seq.{length-take-le, drop-drop, take-at}
 use Rattle.block.specs.Answer as A
 use Rattle.block.specs.Answer.{Answer, refused, done}
 use Rattle.block.proofs.Truth.{and-left, and-right}
-use Rattle.block.proofs.RoundTrip.{passed-test}
+use Rattle.block.proofs.Refusals.{passed-test}
 use Rattle.line.specs.declared.sender.Sender.{Sender}
 use Rattle.line.specs.declared.sender.Next.{Next}
 use Rattle.line.specs.declared.sender.Next.the-variants as N

@@ -16,7 +16,7 @@ use Rattle.block.specs.Answer as A
 use Rattle.block.specs.Answer.{Answer, refused, done, refuseIf}
 use Rattle.block.specs.Lengths.{isLength, blockLength}
 use Rattle.block.specs.Calls.{tooShort}
-use Rattle.block.proofs.RoundTrip.{passed-test}
+use Rattle.block.proofs.Refusals.{passed-test}
 use Rattle.block.proofs.Truth.{either, cond-case, and-right}
 use Rattle.line.specs.Order.{mostItems}
 use Rattle.line.specs.Receiving.{Reading, latest, isSequence, search, missing, inStep, reading, readings, heldBits, heldInRange, receiverInRange, lastBad, meaning, receive}

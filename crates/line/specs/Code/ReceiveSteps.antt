@@ -1,11 +1,12 @@
--- What the receiver's private functions promise: the code's rules, and what is handed back for a reading. Assumes nothing.
+-- What the receiver's private functions ask and promise: the code's rules, and what is handed back for a reading.
+-- Assumes nothing.
 use mathlib.Core.Path.{_≡_}
-use mathlib.Core.Bool.{Bool, cond, not, _&&_}
+use mathlib.Core.Bool.{true}
 use mathlib.Core.List.{List}
-use Prim.Native.Nat.{ℕ, _+_, _*_}
+use Prim.Native.Nat.{ℕ, _*_, _^_, _≤_, _<_}
+use lib.ListN.{length}
 use Rattle.crc.specs.Bits.{Bits, binary}
-use Rattle.block.specs.Answer as A
-use Rattle.block.specs.Calls.{tooShort}
+use Rattle.block.specs.Lengths.{isLength, blockLength}
 use Rattle.line.specs.declared.receiver.Receiver.{Receiver}
 use Rattle.line.specs.declared.receiver.Event.{Event}
 use Rattle.line.specs.declared.receiver.Step.{Step}
@@ -15,9 +16,30 @@ use Rattle.line.specs.declared.head.HeadStep.{HeadStep}
 use Rattle.line.specs.declared.window.Window.{Window}
 use Rattle.line.specs.declared.rules.Rule as D
 use Rattle.line.specs.declared.rules.Rule.the-variants as C
-use Rattle.line.specs.Order.{isLetter}
-use Rattle.line.specs.Receiving.{Rule, accepts, previous, out-of-sequence, ends, wrong-length, ends-again, anything-else, meaning, place, letterRule, judge, stops, Reading, judgeStore, receivedAnswer, reported, receiveState, receiveStore}
+use Rattle.line.specs.Order.{mostItems}
+use Rattle.line.specs.Receiving.{arrayBytes, lastBad, Rule, accepts, previous, out-of-sequence, ends, wrong-length, ends-again, anything-else, meaning, judge, stops, Reading, judgeStore, receivedAnswer, reported, receiveState, receiveStore}
 use Rattle.line.specs.ReceivingInPlace.{whole}
+
+-- ---- what the private functions ask of their arguments
+
+-- an array of a receiver's length, and a head whose fields that a block's judging uses are in range
+pub record ReadyHead (h : Head) (array : List ℕ) : Type 0 where
+  pub array-length : length array ≡ arrayBytes
+  pub known : isLength (h .setup .k) ≡ true
+  pub bad-row : h .row < lastBad
+  pub items : h .taken ≤ mostItems
+
+-- and a slice that holds the n bits of a block
+pub record FinishedBlock (h : Head) (array slice : List ℕ) : Type 0 where
+  pub ready : ReadyHead h array
+  pub held : blockLength (h .setup .k) ≤ 8 * length slice
+
+-- a window of at most 15 bits
+pub record WindowInRange (w : Window) : Type 0 where
+  pub held : w .held ≤ 15
+  pub number : w .number < 2 ^ w .held
+
+-- ---- what they promise
 
 -- the rule that each case of the code's enum stands for
 abbrev pub ruleOf : D.Rule → Rule
@@ -47,19 +69,6 @@ stepped s event used = record { state = s; answer = R.Used event used }
 -- what a call hands back for what it read where nothing is stored
 abbrev pub handedBack : Reading → Step
 handedBack x = stepped (x .state) (meaning (x .rule) .event) (x .used)
-
--- a block with these service bits is accepted if its check passes: the items taken, and whether the end is
-unfoldable pub awaited : ℕ → Bool → ℕ → Bool
-awaited r ended service = isLetter service && not ended && meaning (letterRule r (place r service)) .stores
-
--- and the store has room for its k data bits
-abbrev pub storable : Head → ℕ → List ℕ → Bool
-storable h service store =
-    awaited (h .taken) (h .ended) service && not (tooShort store (h .taken * h .setup .k + h .setup .k))
-
--- what a call hands back for what it read where the store has no room
-abbrev pub unstored : Receiver → Reading → Step
-unstored s x = cond (meaning (x .rule) .stores) (record { state = s; answer = R.Refused A.short }) (handedBack x)
 
 -- what is read where these n bits complete a block
 abbrev pub judged : Receiver → Bits → ℕ → Reading

@@ -1,7 +1,15 @@
 -- `service_rule` answers the rule by the service bits. Assumes nothing.
-use mathlib.Core.Path.{sym, _∙_}
+use mathlib.Core.Path.{_≡_, sym, ap, _∙_}
+use mathlib.Core.List.{List}
+use Prim.Native.Nat.{ℕ, _≤_}
+use native.Mathlib.Omega.{arith}
 use borrow.Author.Tests.{eq-eqb, ne-eqb}
-use Rattle.line.specs.Receiving.{serviceRule}
+use lib.ListN.{length}
+use Rattle.crc.specs.Bits.{bitsOf}
+use Rattle.crc.proofs.Bytes.{length-bitsOf}
+use Rattle.block.proofs.Lengths.{length-facts}
+use Rattle.line.specs.Receiving.{endRule, serviceRule}
+use Rattle.line.proofs.Handing.{bits-moved, end-first-bits}
 use borrow.Author.Needs.{needs}
 use Rattle.line.proofs.rules.service_rule.Statement.{statement}
 use Rattle.line.proofs.rules.service_rule.Tie as tie
@@ -21,14 +29,32 @@ unfolding serviceRule
 returns-2 c =
     c .letter-rule .ensures ∙ sym (simp (sym (c .before .before .before .is-letter .ensures) ∙ c .before .before .if1 .taken, c .before .if2 .left))
 
+slice-aggregate-move-data : tie.Need-slice-aggregate-move-data
+slice-aggregate-move-data c = search needs
+
+move-data-requires : tie.Need-move-data-requires
+move-data-requires c κs = search needs
+
+slice-aggregate-end-rule : tie.Need-slice-aggregate-end-rule
+slice-aggregate-end-rule c = search needs
+
 end-rule-requires : tie.Need-end-rule-requires
 end-rule-requires c κs = search needs
 
 returns-3 : tie.Need-returns-3
 unfolding serviceRule
 returns-3 c =
+    let m = c .before .before .before in
+    let e = m .before .before in
+    let a = e .before .before .before .before in
+    let k : ℕ = a .args .k in
+    let f = length-facts k (a .pre .0) in
+    let payload : List ℕ = m .move-data .last .1 .1 .0 in
+    let n : length payload ≡ 480 = search needs in
     c .end-rule .ensures
-    ∙ sym (simp (sym (c .before .before .before .is-letter .ensures) ∙ c .before .before .if1 .left, eq-eqb _ _ (c .before .if3 .taken)))
+    ∙ end-first-bits k (a .args .taken) (a .args .ended) (bitsOf payload) (omega arith) (omega (arith, length-bitsOf payload))
+    ∙ ap (endRule k (a .args .taken) (a .args .ended)) (bits-moved k (a .pre .0) (a .args .row .now) (a .pre .2) _ (omega arith) _ payload (m .move-data .ensures))
+    ∙ sym (simp (sym (e .before .before .is-letter .ensures) ∙ e .before .if1 .left, eq-eqb _ _ (e .if3 .taken)))
 
 returns-4 : tie.Need-returns-4
 unfolding serviceRule
@@ -42,6 +68,9 @@ service-rule-spec =
     returns
     letter-rule-requires
     returns-2
+    slice-aggregate-move-data
+    move-data-requires
+    slice-aggregate-end-rule
     end-rule-requires
     returns-3
     returns-4)

@@ -27,7 +27,7 @@ by-row h array store used row row′ r array′ store′ e =
 judge-requires : tie.Need-judge-requires
 judge-requires c κs =
     let a = c .before .before .before .before .before .before .before in
-    (a .pre .0, a .pre .1, a .pre .2, a .pre .3, omega arith)
+    record { ready = a .pre .0; held = omega arith }
 
 same-length : tie.Need-same-length
 same-length c = search needs
@@ -38,7 +38,7 @@ same-length-2 c = search needs
 returns : tie.Need-returns
 returns c =
     let a = c .before .before .before .before .before .before .before .before .before .before .before .before in
-    by-row _ _ _ _ _ _ _ _ _ (finished-in-line (whole (a .args .self) (a .args .array .now)) (a .args .line .now) (a .args .missing) (a .pre .4) (c .before .before .before .before .before .before .before .if1 .taken))
+    by-row _ _ _ _ _ _ _ _ _ (finished-in-line (whole (a .args .self) (a .args .array .now)) (a .args .line .now) (a .args .missing) (a .pre .1) (c .before .before .before .before .before .before .before .if1 .taken))
     (c .before .before .before .before .judge .ensures)
 
 copied-requires : tie.Need-copied-requires
@@ -50,7 +50,7 @@ slice-aggregate-put-bits c = search needs
 put-bits-requires : tie.Need-put-bits-requires
 put-bits-requires c κs =
     let a = c .before .before .before .before .before .before .before .before in
-    let f = length-facts (a .args .self .setup .k) (a .pre .1) in
+    let f = length-facts (a .args .self .setup .k) (a .pre .0 .known) in
     let n : length (c .before .copied .result) ≡ 483 = search needs in
     (n, omega arith, omega arith)
 
@@ -60,9 +60,9 @@ slice-aggregate-judge c = search needs
 judge-requires-2 : tie.Need-judge-requires-2
 judge-requires-2 c κs =
     let a = c .before .before .before .before .before .before .before .before .before .before .before .before .before in
-    let f = length-facts (a .args .self .setup .k) (a .pre .1) in
+    let f = length-facts (a .args .self .setup .k) (a .pre .0 .known) in
     let n : length (c .before .before .before .before .put-bits .last .0) ≡ 483 = search needs in
-    (a .pre .0, a .pre .1, a .pre .2, a .pre .3, omega arith)
+    record { ready = a .pre .0; held = omega arith }
 
 same-length-3 : tie.Need-same-length-3
 same-length-3 c = search needs
@@ -73,7 +73,7 @@ same-length-4 c = search needs
 returns-2 : tie.Need-returns-2
 returns-2 c =
     let a = c .before .before .before .before .before .before .before .before .before .before .before .before .before .before .before .before .before .before in
-    let f = length-facts (a .args .self .setup .k) (a .pre .1) in
+    let f = length-facts (a .args .self .setup .k) (a .pre .0 .known) in
     let n : ℕ = blockLength (a .args .self .setup .k) in
     let new : Bits = take (a .args .missing) (bitsOf (a .args .line .now)) in
     let put : c .before .before .before .before .before .before .before .before .before .put-bits .last .0 ≡ bytesOf arrayBytes (overwrite (a .args .self .held) new (bitsOf (a .args .array .now))) =
@@ -81,7 +81,7 @@ returns-2 c =
     ∙ ap (λ (x : List ℕ). bytesOf arrayBytes (overwrite (a .args .self .held) new (bitsOf x))) (c .before .before .before .before .before .before .before .before .before .before .before .copied .ensures) in
     by-row _ _ _ _ _ _ _ _ _
     (ap (λ (x : List ℕ). take n (bitsOf x)) put
-    ∙ finished-in-array (whole (a .args .self) (a .args .array .now)) (a .args .line .now) (a .args .missing) (a .pre .4) (a .pre .5) (a .pre .0) (omega arith))
+    ∙ finished-in-array (whole (a .args .self) (a .args .array .now)) (a .args .line .now) (a .args .missing) (a .pre .1) (a .pre .2) (a .pre .0 .array-length) (omega arith))
     (c .before .before .before .before .judge2 .ensures)
 
 pub finish-spec : {M : Type 1} → statement M

@@ -17,7 +17,7 @@ use Rattle.line.proofs.head.Head.in_step.Tie as tie
 add-missing : tie.Need-add-missing
 add-missing c =
     let a = c .before .before .before .before in
-    let f = length-facts (a .args .self .setup .k) (a .pre .1) in
+    let f = length-facts (a .args .self .setup .k) (a .pre .0 .known) in
     omega arith
 
 sub-missing : tie.Need-sub-missing
@@ -26,7 +26,7 @@ sub-missing c = search needs
 finish-requires : tie.Need-finish-requires
 finish-requires c κs =
     let a = c .before .before .before .before .before .before .before in
-    (a .pre .0, a .pre .1, a .pre .2, a .pre .3, omega arith, omega arith)
+    (a .pre .0, omega arith, omega arith)
 
 same-length : tie.Need-same-length
 same-length c = search needs
@@ -39,19 +39,19 @@ returns c =
     let a = c .before .before .before .before .before .before .before .before .before .before .before .before in
     let call = c .before .before .before .before .finish in
     subst (λ (x : Reading). Handed (whole (a .args .self) (a .args .array .now)) (a .args .store .now) x (stepWith (call .result) (call .last .1 .0)) (call .last .1 .1 .1 .1 .0))
-    (in-step-done (whole (a .args .self) (a .args .array .now)) (a .args .line .now) (a .args .bits) (a .pre .5) (omega arith))
+    (in-step-done (whole (a .args .self) (a .args .array .now)) (a .args .line .now) (a .args .bits) (a .pre .2) (omega arith))
     (call .ensures)
 
 put-bits-requires : tie.Need-put-bits-requires
 put-bits-requires c κs =
     let a = c .before .before .before .before .before .before in
-    let f = length-facts (a .args .self .setup .k) (a .pre .1) in
-    (a .pre .0, omega arith, omega arith)
+    let f = length-facts (a .args .self .setup .k) (a .pre .0 .known) in
+    (a .pre .0 .array-length, omega arith, omega arith)
 
 add-t8 : tie.Need-add-t8
 add-t8 c =
     let a = c .before .before .before .before .before .before .before .before .before in
-    let f = length-facts (a .args .self .setup .k) (a .pre .1) in
+    let f = length-facts (a .args .self .setup .k) (a .pre .0 .known) in
     omega arith
 
 same-length-3 : tie.Need-same-length-3

@@ -1,69 +1,82 @@
--- `Head::judge`: a block that goes to the store is read there, and of the others none is stored. Assumes nothing.
-use mathlib.Core.Path.{_≡_, sym, ap, _∙_, subst}
-use mathlib.Core.Bool.{true, false}
-use mathlib.Core.List.{List}
-use Prim.Native.Nat.{ℕ, _+_, _*_, _/_, _^_, _≤_, _<_}
-use borrow.Author.Tests.{not-false}
-use lib.ListN.{length, take, getD}
+-- `Head::judge` meets its contract: rule 1, the check, which refuses nothing here, and the rules of what passes.
+-- Assumes nothing.
+use mathlib.Core.Path.{_≡_, refl, sym, ap, _∙_}
+use lib.ListN.{take}
 use Rattle.crc.specs.Bits.{Bits, bitsOf}
-use Rattle.block.specs.Lengths.{isLength, blockLength}
-use Rattle.block.specs.Calls.{tooShort}
-use Rattle.line.specs.Receiving.{meaning, judge}
+use Rattle.block.specs.Lengths.{blockLength}
+use Rattle.line.specs.Receiving.{sync-block, check-fails, judge}
 use Rattle.line.specs.ReceivingInPlace.{whole}
-use Rattle.line.specs.Code.ReceiveSteps.{awaited, storable, unstored, judged, Handed}
-use Rattle.line.specs.declared.head.Head.{Head}
-use Rattle.line.specs.declared.receiver.Receiver.{Receiver}
-use Rattle.line.specs.declared.receiver.Step.{Step}
-use Rattle.line.proofs.Handing.{handed-unstored, stores-awaited}
-use Rattle.line.proofs.Judging.{service-number}
+use Rattle.line.specs.Code.ReceiveSteps.{ruleOf}
+use Rattle.line.proofs.Handing.{handed-bad, stores-nothing, handed-rule, handed-accepts, rule-sync, rule-failed, rule-passed, check-passes, check-not-passed}
 use borrow.Author.Needs.{needs}
 use Rattle.line.proofs.head.Head.judge.Statement.{statement}
 use Rattle.line.proofs.head.Head.judge.Tie as tie
 
-module _ (head : Head) (array : List ℕ) (known : isLength (head .setup .k) ≡ true) (slice store : List ℕ) (used : ℕ)
-    (h : blockLength (head .setup .k) ≤ 8 * length slice) (first : getD slice 0 0 < 256)
-    (w : storable head (getD slice 0 0 / 2 ^ 4) store ≡ false) where
-  abbrev s : Receiver
-  s = whole head array
+-- the rule of a block that passes
+abbrev start : tie.After-service-rule → tie.Start
+start c = c .before .before .before .before .before .before .before .before .before .before
 
-  abbrev row : Bits
-  row = take (blockLength (s .setup .k)) (bitsOf slice)
+abbrev row : tie.After-service-rule → Bits
+row c = take (blockLength (start c .args .self .setup .k)) (bitsOf (start c .args .row .now))
 
-  -- a block that is to be stored has no room
-  no-room : meaning (judge (s .setup .k) (s .taken) (s .ended) row) .stores ≡ true → tooShort store (s .taken * s .setup .k + s .setup .k) ≡ true
-  no-room t =
-      let e : awaited (s .taken) (s .ended) (getD slice 0 0 / 2 ^ 4) ≡ true =
-      sym (ap (awaited (s .taken) (s .ended)) (service-number (s .setup .k) known slice h first))
-      ∙ stores-awaited (s .setup .k) (s .taken) (s .ended) row t in
-      not-false (tooShort store (s .taken * s .setup .k + s .setup .k)) (rw e at w)
+passed-rule : (c : tie.After-service-rule)
+    → ruleOf (c .service-rule .result) ≡ judge (start c .args .self .setup .k) (start c .args .self .taken) (start c .args .self .ended) (row c)
+passed-rule c =
+    let a = start c in
+    let k = c .before .before .before .before in
+    let e = sym (k .before .before .looks-sync .ensures) ∙ k .before .if1 .left in
+    let v = check-passes (a .args .self .setup .k) (a .pre .ready .known) (a .args .row .now) (a .pre .held) _ (k .check-block .ensures) _ (c .before .before .answer .given .1) in
+    c .service-rule .ensures ∙ rule-passed (a .args .self .setup .k) (a .args .self .taken) (a .args .self .ended) _ _ e v
 
-  none-stored : (r : Step) → r ≡ unstored s (judged s row used) → Handed s store (judged s row used) r store
-  none-stored r e =
-      subst (λ (y : Step). Handed s store (judged s row used) y store) (sym e) (handed-unstored s store (judged s row used) no-room)
+looks-sync-requires : tie.Need-looks-sync-requires
+looks-sync-requires c κs = search needs
 
-shared-slice-read-stores : tie.Need-shared-slice-read-stores
-shared-slice-read-stores c = search needs
-
-stores-requires : tie.Need-stores-requires
-stores-requires c κs = search needs
-
-accept-requires : tie.Need-accept-requires
-accept-requires c κs =
-    let b = c .before .before in
-    let a = b .before .before .before .before .before .before .before in
-    (a .pre .0, a .pre .1, a .pre .2, a .pre .3, a .pre .4, sym (b .before .stores .ensures) ∙ b .if1 .taken)
+well-requires : tie.Need-well-requires
+well-requires c κs = search needs
 
 same-length : tie.Need-same-length
 same-length c = search needs
 
+returns : tie.Need-returns
+returns c =
+    let t = c .before .before .before .before in
+    let a = t .before .before .before .before .before .args in
+    let e = sym (t .before .looks-sync .ensures) ∙ t .if1 .taken in
+    handed-rule _ _ _ _ _ sync-block (rule-sync (a .self .setup .k) (a .self .taken) (a .self .ended) _ e) refl (c .before .before .well .ensures)
+
+check-block-requires : tie.Need-check-block-requires
+check-block-requires c κs = search needs
+
+enum-known-answer : tie.Need-enum-known-answer
+enum-known-answer c = search needs
+
+bad-requires : tie.Need-bad-requires
+bad-requires c κs = search needs
+
 same-length-2 : tie.Need-same-length-2
 same-length-2 c = search needs
 
-returns : tie.Need-returns
-returns c = c .before .before .before .before .accept .ensures
+returns-2 : tie.Need-returns-2
+returns-2 c =
+    let m = c .before .before .before .before in
+    let b = m .before .before in
+    let a = b .before .before .before .before .before in
+    let e = sym (b .before .looks-sync .ensures) ∙ b .if1 .left in
+    let v = check-not-passed (a .args .self .setup .k) (a .pre .ready .known) (a .args .row .now) (a .pre .held) _ (m .before .check-block .ensures) (m .match .keys2) in
+    handed-rule _ _ _ _ _ check-fails (rule-failed (a .args .self .setup .k) (a .args .self .taken) (a .args .self .ended) _ e v) refl
+    (c .before .before .bad .ensures ∙ handed-bad (whole (a .args .self) (a .args .array .now)) (a .args .used))
 
-judge-unstored-requires : tie.Need-judge-unstored-requires
-judge-unstored-requires c κs = search needs
+service-rule-requires : tie.Need-service-rule-requires
+service-rule-requires c κs = search needs
+
+enum-told : tie.Need-enum-told
+enum-told c = search needs
+
+store-item-requires : tie.Need-store-item-requires
+store-item-requires c κs = search needs
+
+stop-requires : tie.Need-stop-requires
+stop-requires c κs = search needs
 
 same-length-3 : tie.Need-same-length-3
 same-length-3 c = search needs
@@ -71,25 +84,39 @@ same-length-3 c = search needs
 same-length-4 : tie.Need-same-length-4
 same-length-4 c = search needs
 
-returns-2 : tie.Need-returns-2
-returns-2 c =
-    let b = c .before .before .before .before in
-    let k = b .before .before .before in
-    let a = k .before .before .before .before in
-    none-stored (a .args .self) (a .args .array .now) (a .pre .1) (a .args .row .now) (a .args .store .now) (a .args .used) (a .pre .4)
-    (k .shared-slice-known2 .given 0 .fits) (sym (b .before .stores .ensures) ∙ b .if1 .left) _ (c .before .before .judge-unstored .ensures)
+returns-3 : tie.Need-returns-3
+returns-3 c =
+    let i = c .before .before .before .before in
+    let t = i .before .before .before in
+    handed-accepts _ _ _ _ _ _ (ap ruleOf (sym (t .enum-told .given .1)) ∙ passed-rule (t .before .before)) (i .store-item .ensures)
+
+same-length-5 : tie.Need-same-length-5
+same-length-5 c = search needs
+
+returns-4 : tie.Need-returns-4
+returns-4 c =
+    let m = c .before .before .before .before in
+    handed-rule _ _ _ _ _ _ (passed-rule (m .before)) (stores-nothing (m .before .service-rule .result) (m .match2 .keys2)) (c .before .before .stop .ensures)
 
 pub judge-spec : {M : Type 1} → statement M
 judge-spec =
     tie.close
     (tie.spec
-    shared-slice-read-stores
-    stores-requires
-    accept-requires
+    looks-sync-requires
+    well-requires
     same-length
-    same-length-2
     returns
-    judge-unstored-requires
+    check-block-requires
+    enum-known-answer
+    bad-requires
+    same-length-2
+    returns-2
+    service-rule-requires
+    enum-told
+    store-item-requires
+    stop-requires
     same-length-3
     same-length-4
-    returns-2)
+    returns-3
+    same-length-5
+    returns-4)

@@ -37,7 +37,7 @@ in-step-requires c κs =
     let a = c .before .before .before .before .before .before .before .before in
     let s = whole (a .args .self) (a .args .array .now) in
     let r = in-range s (a .pre .1) in
-    (a .pre .0, r .known, r .row, r .taken, held-step s r (c .before .before .enum-told2 .given .1), a .pre .2)
+    (record { array-length = a .pre .0; known = r .known; bad-row = r .row; items = r .taken }, held-step s r (c .before .before .enum-told2 .given .1), a .pre .2)
 
 enum-told-3 : tie.Need-enum-told-3
 enum-told-3 c = search needs

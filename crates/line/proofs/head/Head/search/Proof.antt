@@ -1,7 +1,7 @@
 -- `Head::search` meets its contract: searching on from the window at each bit gives what searching all the bits gives. Assumes nothing.
 use mathlib.Core.Path.{_≡_, refl, sym, ap, _∙_}
 use mathlib.Core.List.{List}
-use Prim.Native.Nat.{ℕ, _-_, _^_, _≤_, _<_}
+use Prim.Native.Nat.{ℕ, _-_, _≤_}
 use native.Mathlib.Omega.{arith}
 use borrow.Author.Needs.{needs}
 use lib.ListN.{length, take, drop}
@@ -9,7 +9,7 @@ use Rattle.crc.specs.Bits.{Bits, bitsOf}
 use Rattle.line.specs.Receiving as S
 use Rattle.line.specs.Receiving.{heldBits}
 use Rattle.line.specs.ReceivingInPlace.{whole}
-use Rattle.line.specs.Code.ReceiveSteps.{windowBits, stepped, handedBack}
+use Rattle.line.specs.Code.ReceiveSteps.{WindowInRange, windowBits, stepped, handedBack}
 use Rattle.line.specs.declared.receiver.Event.the-variants as E
 use Rattle.line.proofs.Searching.{window-held, search-found, search-on, search-end}
 use Rattle.line.proofs.head.Head.search.Statement.{statement}
@@ -17,7 +17,7 @@ use Rattle.line.proofs.head.Head.search.Tie as tie
 
 abbrev Inv-loop : tie.InvT-loop
 Inv-loop self array₀ line bits window₀ used₀ array window used =
-    (array ≡ array₀) × (length array ≡ length array₀) × (used ≤ bits) × (window .held ≤ 15) × (window .number < 2 ^ window .held)
+    (array ≡ array₀) × (length array ≡ length array₀) × (used ≤ bits) × (WindowInRange window)
     × (S.search (whole self array₀) (windowBits window) (drop used (take bits (bitsOf line))) used ≡ S.search (whole self array₀) (heldBits (whole self array₀)) (take bits (bitsOf line)) 0)
 
 abbrev μ-loop : tie.MeasureT-loop
@@ -40,8 +40,7 @@ loop-holds c =
       refl,
       refl,
       search needs,
-      omega arith,
-      rw (e .0) (e .1),
+      record { held = omega arith; number = rw (e .0) (e .1) },
       ap (λ (w : Bits). S.search (whole (a .self) (a .array .now)) w (take (a .bits) (bitsOf (a .line .now))) 0)
           (e .2 ∙ window-held (a .array .now) (a .self .held) (omega arith) (omega arith)),
     )
@@ -68,7 +67,7 @@ returns c =
     c .before .before .well .ensures
     ∙ ap handedBack
     (search-found (whole (a .args .self) (a .args .array .now)) (a .args .line .now) (a .args .bits) (a .pre .2) (windowBits (l .window)) (l .used) _ (c .before .before .before .before .before .before .before .loop-test .taken)
-    (c .before .before .before .before .before .before .bit-at .ensures) (sym (c .before .before .before .before .before .ends-sequence .ensures) ∙ c .before .before .before .before .if1 .taken) ∙ l .inv .5)
+    (c .before .before .before .before .before .before .bit-at .ensures) (sym (c .before .before .before .before .before .ends-sequence .ensures) ∙ c .before .before .before .before .if1 .taken) ∙ l .inv .4)
 
 slide-requires : tie.Need-slide-requires Inv-loop μ-loop
 slide-requires c κs = search needs
@@ -84,9 +83,8 @@ loop-again c =
       l .inv .1,
       omega arith,
       c .slide .ensures .0,
-      c .slide .ensures .1,
       search-on (whole (a .args .self) (a .args .array .now)) (a .args .line .now) (a .args .bits) (a .pre .2) (windowBits (l .window)) (l .used) _ (c .before .before .before .before .loop-test .taken)
-          (c .before .before .before .bit-at .ensures) (sym (c .before .before .ends-sequence .ensures) ∙ c .before .if1 .left) _ (c .slide .ensures .2) ∙ l .inv .5,
+          (c .before .before .before .bit-at .ensures) (sym (c .before .before .ends-sequence .ensures) ∙ c .before .if1 .left) _ (c .slide .ensures .1) ∙ l .inv .4,
     )
 
 hold-window-requires : tie.Need-hold-window-requires Inv-loop μ-loop
@@ -102,7 +100,7 @@ returns-2 c =
     c .before .before .hold-window .ensures
     ∙ ap (λ (array : List ℕ). stepped (S.searching (whole (a .args .self) array) (windowBits (l .window))) E.None (l .used)) (l .inv .0)
     ∙ ap handedBack
-    (sym (search-end (whole (a .args .self) (a .args .array .now)) (a .args .line .now) (a .args .bits) (a .pre .2) (windowBits (l .window)) (l .used) (omega arith)) ∙ l .inv .5)
+    (sym (search-end (whole (a .args .self) (a .args .array .now)) (a .args .line .now) (a .args .bits) (a .pre .2) (windowBits (l .window)) (l .used) (omega arith)) ∙ l .inv .4)
 
 pub search-spec : {M : Type 1} → statement M
 search-spec =

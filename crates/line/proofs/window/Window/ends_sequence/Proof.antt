@@ -10,7 +10,7 @@ use Rattle.line.proofs.window.Window.ends_sequence.Statement.{statement
 use Rattle.line.proofs.window.Window.ends_sequence.Tie as tie
 
 returns : tie.Need-returns
-returns c = no-sequence _ _ (c .before .before .pre .0) (c .before .before .pre .1) _ (c .if1 .taken)
+returns c = no-sequence _ _ (c .before .before .pre .held) (c .before .before .pre .number) _ (c .if1 .taken)
 
 shifted-requires : tie.Need-shifted-requires
 shifted-requires c κs = search needs
@@ -19,7 +19,7 @@ returns-2 : tie.Need-returns-2
 unfolding number
 returns-2 c =
     let a = c .before .before .before in
-    ap (λ (x : ℕ). eqb x 20645) (c .shifted .ensures) ∙ sequence (a .args .self .held) (a .args .self .number) (omega arith) (a .pre .1) (a .args .next)
+    ap (λ (x : ℕ). eqb x 20645) (c .shifted .ensures) ∙ sequence (a .args .self .held) (a .args .self .number) (omega arith) (a .pre .number) (a .args .next)
 
 pub ends-sequence-spec : {M : Type 1} → statement M
 ends-sequence-spec = tie.close (tie.spec returns shifted-requires returns-2)

@@ -8,7 +8,7 @@ cast-result : tie.Need-cast-result
 cast-result c = search needs
 
 returns : tie.Need-returns
-returns c = shifted (c .before .args .self .held) (c .before .args .self .number) (c .before .pre .0) (c .before .pre .1) (c .before .args .next)
+returns c = shifted (c .before .args .self .held) (c .before .args .self .number) (c .before .pre .held) (c .before .pre .number) (c .before .args .next)
 
 pub shifted-spec : {M : Type 1} → statement M
 shifted-spec = tie.close (tie.spec cast-result returns)

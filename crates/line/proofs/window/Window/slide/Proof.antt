@@ -19,18 +19,19 @@ returns : tie.Need-returns
 returns c =
     let a = c .before .before .before .before in
     let r = c .before .before .before .shifted in (
-      search needs,
-      subst (λ (n : ℕ). n < 2 ^ (a .args .self .held + 1)) (sym (r .ensures)) (shifted-lt _ _ (a .pre .0) (a .pre .1) (a .args .next)),
-      ap (binary (a .args .self .held + 1)) (r .ensures) ∙ latest-more _ _ (a .pre .0) (a .pre .1) (a .args .next) (c .before .if1 .taken),
+      record {
+        held = search needs;
+        number = subst (λ (n : ℕ). n < 2 ^ (a .args .self .held + 1)) (sym (r .ensures)) (shifted-lt _ _ (a .pre .held) (a .pre .number) (a .args .next));
+      },
+      ap (binary (a .args .self .held + 1)) (r .ensures) ∙ latest-more _ _ (a .pre .held) (a .pre .number) (a .args .next) (c .before .if1 .taken),
     )
 
 returns-2 : tie.Need-returns-2
 returns-2 c =
     let a = c .before .before .before in
     let r = c .before .before .shifted in (
-      search needs,
-      mask-lt (r .result) 15,
-      ap (λ (n : ℕ). binary 15 (bitAnd n 32767)) (r .ensures) ∙ latest-full _ _ (omega arith) (a .pre .1) (a .args .next),
+      record { held = search needs; number = mask-lt (r .result) 15 },
+      ap (λ (n : ℕ). binary 15 (bitAnd n 32767)) (r .ensures) ∙ latest-full _ _ (omega arith) (a .pre .number) (a .args .next),
     )
 
 pub slide-spec : {M : Type 1} → statement M

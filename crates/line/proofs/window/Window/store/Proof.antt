@@ -17,13 +17,13 @@ shl-both : tie.Need-shl-both
 shl-both c = search needs
 
 cast-t6 : tie.Need-cast-t6
-cast-t6 c = record { fits = high-lt (c .before .before .args .self .held) (c .before .before .pre .0) (c .before .before .args .self .number) (c .before .before .pre .1) }
+cast-t6 c = record { fits = high-lt (c .before .before .args .self .held) (c .before .before .pre .held) (c .before .before .args .self .number) (c .before .before .pre .number) }
 
 cast-t7 : tie.Need-cast-t7
-cast-t7 c = record { fits = low-lt (c .before .before .args .self .held) (c .before .before .pre .0) (c .before .before .args .self .number) (c .before .before .pre .1) }
+cast-t7 c = record { fits = low-lt (c .before .before .args .self .held) (c .before .before .pre .held) (c .before .before .args .self .number) (c .before .before .pre .number) }
 
 returns : tie.Need-returns
-returns c = stored-bytes (c .before .before .args .self .held) (c .before .before .pre .0) (c .before .before .args .self .number) (c .before .before .pre .1)
+returns c = stored-bytes (c .before .before .args .self .held) (c .before .before .pre .held) (c .before .before .args .self .number) (c .before .before .pre .number)
 
 pub store-spec : {M : Type 1} → statement M
 store-spec = tie.close (tie.spec cast-both sub-both cast-both-2 shl-both cast-t6 cast-t7 returns)

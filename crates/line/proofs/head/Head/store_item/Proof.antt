@@ -1,0 +1,126 @@
+-- `Head::store_item` lends the data's place in the store, if there is room. Assumes nothing.
+use mathlib.Core.Path.{_≡_, ap}
+use mathlib.Core.Bool.{true}
+use mathlib.Core.List.{List, []}
+use Prim.Native.Nat.{ℕ, _+_, _-_, _*_, _/_, _≤_, _<_}
+use native.Mathlib.Omega.{arith}
+use lib.ListN.{length, take, drop, getD, length-drop}
+use lib.Seq.{length-take-le}
+use Rattle.crc.specs.Bits.{Bits, bitsOf}
+use Rattle.block.specs.Lengths.{isLength, blockLength}
+use Rattle.block.specs.Calls.{MoveData}
+use Rattle.block.specs.declared.Built.{Built}
+use Rattle.block.proofs.Lengths.{length-facts}
+use Rattle.line.specs.Receiving.{accepts, stops}
+use Rattle.line.specs.ReceivingInPlace.{whole}
+use Rattle.line.specs.Code.ReceiveSteps.{stepWith, handedBack, Handed}
+use Rattle.line.specs.declared.head.HeadStep.{HeadStep}
+use Rattle.line.specs.declared.receiver.Receiver.{Receiver}
+use Rattle.line.specs.declared.receiver.Step.{Step}
+use Rattle.line.proofs.Accepting.{start-lt, room, no-room, put-back, accepted-store}
+use Rattle.line.proofs.Handing.{handed-short, handed-stored, length-data, data-moved}
+use borrow.Author.Needs.{needs}
+use Rattle.line.proofs.head.Head.store_item.Statement.{statement}
+use Rattle.line.proofs.head.Head.store_item.Tie as tie
+
+module _ (s : Receiver) (known : isLength (s .setup .k) ≡ true) (slice store : List ℕ) (used : ℕ)
+    (h : blockLength (s .setup .k) ≤ 8 * length slice) (bytes : (i : ℕ) → getD store i 0 < 256)
+    (fits : s .taken * (s .setup .k / 8) + s .setup .k / 8 ≤ length store) where
+  abbrev k : ℕ
+  k = s .setup .k
+
+  abbrev start : ℕ
+  start = s .taken * (k / 8)
+
+  abbrev row : Bits
+  row = take (blockLength k) (bitsOf slice)
+
+  -- the place lent, and its length
+  abbrev n : ℕ
+  n = start + k / 8 - start
+
+  same : n ≡ k / 8
+  same = omega arith
+
+  abbrev lent : List ℕ
+  lent = take n (drop start store)
+
+  wide : k / 8 ≤ length lent
+  wide = omega (arith, same, length-take-le n (drop start store) (omega (arith, same, length-drop start store)))
+
+  stored : (answer : Built) (part : List ℕ) → MoveData k slice lent answer part → (r : Step) → r ≡ handedBack (stops s accepts [] used)
+      → Handed s store (stops s accepts row used) r (put-back k (s .taken) known store n part)
+  stored answer part p r e =
+      handed-stored s row used store r _ (room k (s .taken) known store fits)
+      (accepted-store k (s .taken) known store n part _ same (length-data k known slice h) fits bytes
+      (data-moved k known slice h lent wide answer part p))
+      e
+
+mul-start : tie.Need-mul-start
+mul-start c =
+    let a = c .before .before .before .before in
+    let h = start-lt (a .args .self .setup .k) (a .args .self .taken) (a .pre .ready .known) (a .pre .ready .items) in
+    omega arith
+
+add-end : tie.Need-add-end
+add-end c =
+    let a = c .before .before .before .before in
+    let h = start-lt (a .args .self .setup .k) (a .args .self .taken) (a .pre .ready .known) (a .pre .ready .items) in
+    let f = length-facts (a .args .self .setup .k) (a .pre .ready .known) in
+    omega arith
+
+refused-requires : tie.Need-refused-requires
+refused-requires c κs = search needs
+
+returns : tie.Need-returns
+returns c =
+    let a = c .before .before .before .before .before .before in
+    handed-short (whole (a .args .self) (a .args .array .now)) _ (a .args .used) (a .args .store .now) _
+    (no-room (a .args .self .setup .k) (a .args .self .taken) (a .pre .ready .known) (a .args .store .now) (c .before .if1 .taken))
+    (ap (λ (r : HeadStep). stepWith r (a .args .array .now)) (c .refused .ensures))
+
+sub-move-data : tie.Need-sub-move-data
+sub-move-data c = search needs
+
+part-move-data-start : tie.Need-part-move-data-start
+part-move-data-start c = search needs
+
+part-move-data-end : tie.Need-part-move-data-end
+part-move-data-end c = search needs
+
+move-data-requires : tie.Need-move-data-requires
+move-data-requires c κs = search needs
+
+stop-requires : tie.Need-stop-requires
+stop-requires c κs = search needs
+
+same-length : tie.Need-same-length
+same-length c = search needs
+
+same-length-2 : tie.Need-same-length-2
+same-length-2 c = search needs
+
+returns-2 : tie.Need-returns-2
+returns-2 c =
+    let m = c .before .before .before .before .before .before in
+    let l = m .before .before .before in
+    let a = l .before .before .before .before in
+    stored (whole (a .args .self) (a .args .array .now)) (a .pre .ready .known) (a .args .row .now) (a .args .store .now) (a .args .used) (a .pre .held)
+    (λ i. l .before .slice-known2 .given i .fits) (m .before .before .if1 .left) _ _ (m .move-data .ensures) _ (c .before .before .stop .ensures)
+
+pub store-item-spec : {M : Type 1} → statement M
+store-item-spec =
+    tie.close
+    (tie.spec
+    mul-start
+    add-end
+    refused-requires
+    returns
+    sub-move-data
+    part-move-data-start
+    part-move-data-end
+    move-data-requires
+    stop-requires
+    same-length
+    same-length-2
+    returns-2)
