@@ -8,7 +8,7 @@ use native.Mathlib.Numerals.{add-one, add-two}
 use native.Mathlib.Omega.{arith}
 use lib.Bits.{bitOr, bitAnd, or-shifted, and-mask}
 use lib.ListN.{length, take, drop, getD, set, length-append, length-drop, take-append-drop}
-use lib.Seq.{take-append-le, drop-append-le, take-at, drop-at, take-suc, drop-cons, drop-drop, take-add, length-take-le, sets-eq}
+use lib.Seq.{take-take, take-append-le, drop-append-le, take-at, drop-at, take-suc, drop-cons, drop-drop, take-add, length-take-le, sets-eq}
 use lib.Pow.{split, pow-pos}
 use Rattle.crc.specs.Bits.{Bits, zeros, binary, number, bitsOf, bytesOf}
 use Rattle.crc.proofs.Rows.{length-binary, number-binary, binary-mod, binary-join}
@@ -155,6 +155,12 @@ pub service-first : (s : List ℕ) → 0 < length s → take 4 (bitsOf s) ≡ bi
 unfolding binary bitsOf
 service-first [] h = absurd (omega arith)
 service-first (x ∷ s) h = ap (λ (l : Bits). take 4 (l ++ bitsOf s)) (binary-split 4 4 x)
+
+-- the service bits of a row's first n bits, as a number
+pub service-number : (n : ℕ) (s : List ℕ) → 4 ≤ n → 0 < length s → getD s 0 0 < 256
+    → number (take 4 (take n (bitsOf s))) ≡ getD s 0 0 / 16
+service-number n s h l b =
+    ap number (take-take 4 n (bitsOf s) h ∙ service-first s l) ∙ number-binary 4 (getD s 0 0 / 16) (omega arith)
 
 -- ---- the last three bytes of a block: four data bits, the check, four spare bits
 

@@ -1,32 +1,27 @@
 -- Which answer each call's definition gives, from the tests that the code makes on whole bytes. Assumes nothing.
 use mathlib.Core.Path.{_≡_, refl, sym, ap, _∙_}
-use mathlib.Core.Bool.{Bool, true, false, not}
+use mathlib.Core.Bool.{Bool, true, false}
 use mathlib.Core.List.{List, [], _∷_, _++_}
 use mathlib.Core.Logic.{⊎-elim}
 use Prim.Native.Nat.{ℕ, _+_, _*_, _/_, _≤_, _<_}
 use native.Mathlib.Omega.{arith}
-use borrow.Author.Tests.{lt-ltb, le-ltb, eq-eqb, ne-eqb}
-use lib.ListN.{length, getD, take, drop, length-drop}
-use lib.Seq.{take-take}
-use Rattle.crc.specs.Bits.{Bits, binary, number, bitsOf, bytesOf}
-use Rattle.crc.specs.Check.{remainder, passes}
-use Rattle.crc.proofs.Rows.{number-binary}
+use borrow.Author.Tests.{lt-ltb, le-ltb}
+use lib.ListN.{length, take, drop, length-drop}
+use Rattle.crc.specs.Bits.{Bits, binary, bitsOf, bytesOf}
 use Rattle.crc.proofs.Bytes.{length-bitsOf}
 use Rattle.block.specs.Answer as A
 use Rattle.block.specs.Answer.{Answer, refused, done, refuseIf}
 use Rattle.block.specs.Lengths.{isLength, blockLength, blockBytes}
-use Rattle.block.specs.Block.{blockBits, serviceOf, payloadOf, passed, failed, verdict, syncBlock, cancelled}
-use Rattle.block.specs.Calls.{tooShort, overwritten, buildBlock, BuildBlock, readAnswer, checkBlock, CheckBlock, moveData, movedBytes, MoveData, readBlock, readBytes, ReadBlock, buildSync, BuildSync, cancelBlock, CancelBlock}
+use Rattle.block.specs.Block.{blockBits, payloadOf, verdict, syncBlock, cancelled}
+use Rattle.block.specs.Calls.{tooShort, overwritten, buildBlock, BuildBlock, readAnswer, checkBlock, CheckBlock, moveData, MoveData, readBlock, readBytes, ReadBlock, buildSync, BuildSync, cancelBlock, CancelBlock}
 use types.Run.{OneOf}
 use denote.Enum.Declared.{tagOf}
-use Rattle.block.specs.declared.Built.{Built}
 use Rattle.block.specs.declared.Built.the-variants as B
 use Rattle.block.specs.declared.Read.{Read}
 use Rattle.block.specs.declared.Read.the-variants as R
 use Rattle.block.proofs.Read.{the-type}
 use Rattle.block.proofs.Lengths.{length-facts, length-bytes}
-use Rattle.block.proofs.Packing.{bytesOf-take, service-first}
-use Rattle.block.proofs.Truth.{or-yes, or-no}
+use Rattle.block.proofs.Packing.{bytesOf-take}
 
 -- a call that is done passed its test
 pub passed-test : {X : Type 0} (t : Bool) (n : ℕ) (next : Answer X) (x : X) → refuseIf t n next ≡ done x → (t ≡ false) × (next ≡ done x)
@@ -83,7 +78,7 @@ module _ (k service : ℕ) (payload slice : List ℕ) where
           rw (known, le-ltb 15 service small, payload-held k known payload h, block-held k known slice g) in
           record { answers = sym e; writes = rw e w }
 
--- ---- checking a packed block
+-- ---- checking one block
 
 module _ (k : ℕ) (slice : List ℕ) where
   -- the n bits that are read
@@ -104,56 +99,37 @@ module _ (k : ℕ) (slice : List ℕ) where
       unfolding checkBlock
       check-done = rw (known, block-held k known slice held)
 
-      pub check-failed : (remainder row ≡ 0 → ⊥) → CheckBlock k slice R.Failed
-      unfolding verdict passes
-      check-failed h = record { answers = sym (check-done ∙ ap done (rw (ne-eqb (remainder row) 0 h))) }
-
-      pub service-number : getD slice 0 0 < 256 → number (serviceOf row) ≡ getD slice 0 0 / 16
-      service-number b =
-          ap number (take-take 4 (blockLength k) (bitsOf slice) (omega arith) ∙ service-first slice (omega arith))
-          ∙ number-binary 4 (getD slice 0 0 / 16) (omega arith)
-
-      pub check-passed : remainder row ≡ 0 → getD slice 0 0 < 256 → CheckBlock k slice (R.Passed (getD slice 0 0 / 16))
-      unfolding verdict passes
-      check-passed h b =
-          let v : verdict row ≡ passed (getD slice 0 0 / 16) = rw (eq-eqb (remainder row) 0 h) (ap passed (service-number b)) in
-          record { answers = sym (check-done ∙ ap done v) }
-
 -- ---- moving its data
 
-module _ (k : ℕ) (slice payload : List ℕ) where
-  move-refused : (n : ℕ) → moveData k slice payload ≡ refused n → MoveData k slice payload (B.Refused n) payload
-  move-refused n e = record { answers = sym e; writes = rw e refl }
+module _ (m : ℕ) (slice payload : List ℕ) where
+  move-refused : moveData m slice payload ≡ refused A.short → MoveData m slice payload (B.Refused A.short) payload
+  move-refused e = record { answers = sym e; writes = rw e refl }
 
-  pub move-length : isLength k ≡ false → MoveData k slice payload (B.Refused A.block) payload
+  pub move-slice : length slice ≤ m → MoveData m slice payload (B.Refused A.short) payload
   unfolding moveData
-  move-length e = move-refused A.block (rw e)
+  move-slice h = move-refused (rw (lt-ltb (8 * length slice) (8 * m + 4) (omega arith)))
 
-  module _ (known : isLength k ≡ true) where
-    pub move-slice : length slice < k / 8 + 3 → MoveData k slice payload (B.Refused A.short) payload
+  module _ (held : m < length slice) where
+    pub move-payload : length payload < m → MoveData m slice payload (B.Refused A.short) payload
     unfolding moveData
-    move-slice h = move-refused A.short (rw (known, block-short k known slice h))
+    move-payload g =
+        move-refused (rw (le-ltb (8 * length slice) (8 * m + 4) (omega arith), lt-ltb (8 * length payload) (8 * m) (omega arith)))
 
-    module _ (held : k / 8 + 3 ≤ length slice) where
-      pub move-payload : length payload < k / 8 → MoveData k slice payload (B.Refused A.short) payload
+    -- the bytes that the code writes are those of the data bits
+    pub data-bytes : bytesOf m (drop 4 (bitsOf slice)) ≡ bytesOf m (payloadOf (8 * m) (bitsOf slice))
+    data-bytes = sym (bytesOf-take m (drop 4 (bitsOf slice)) (omega (arith, length-drop 4 (bitsOf slice), length-bitsOf slice)))
+
+    module _ (room : m ≤ length payload) where
+      pub move-done : moveData m slice payload ≡ done tt
       unfolding moveData
-      move-payload g = move-refused A.short (rw (known, block-held k known slice held, payload-short k known payload g))
+      move-done = rw (le-ltb (8 * length slice) (8 * m + 4) (omega arith), le-ltb (8 * length payload) (8 * m) (omega arith))
 
-      module _ (room : k / 8 ≤ length payload) where
-        pub move-done : moveData k slice payload ≡ done tt
-        unfolding moveData
-        move-done = rw (known, block-held k known slice held, payload-held k known payload room)
+      pub moved : (payload′ : List ℕ) → payload′ ≡ bytesOf m (drop 4 (bitsOf slice)) ++ drop m payload
+          → MoveData m slice payload B.Done payload′
+      moved payload′ w =
+          record { answers = sym move-done; writes = rw move-done (w ∙ ap (λ (l : List ℕ). l ++ drop m payload) data-bytes) }
 
-        pub moved : (payload′ : List ℕ) → payload′ ≡ bytesOf (k / 8) (drop 4 (bitsOf slice)) ++ drop (k / 8) payload
-            → MoveData k slice payload B.Done payload′
-        moved payload′ w =
-            let n : 8 * (k / 8) ≤ length (drop 4 (bitsOf slice)) = omega (arith, length-drop 4 (bitsOf slice), length-bitsOf slice) in
-            let t : bytesOf (k / 8) (drop 4 (bitsOf slice)) ≡ bytesOf (k / 8) (payloadOf k (bitsOf slice)) =
-            sym (bytesOf-take (k / 8) (drop 4 (bitsOf slice)) n)
-            ∙ ap (λ (x : ℕ). bytesOf (k / 8) (take x (drop 4 (bitsOf slice)))) (length-bytes k known) in
-            record { answers = sym move-done; writes = rw move-done (w ∙ ap (λ (l : List ℕ). l ++ drop (k / 8) payload) t) }
-
--- ---- reading one: the check, and the move of what passes
+-- ---- reading one
 
 module _ (k : ℕ) (slice payload : List ℕ) where
   read-refused : (n : ℕ) → readBlock k slice payload ≡ refused n → ReadBlock k slice payload (R.Refused n) payload
@@ -164,42 +140,49 @@ module _ (k : ℕ) (slice payload : List ℕ) where
   read-length e = read-refused A.block (rw e)
 
   module _ (known : isLength k ≡ true) where
-    pub read-payload : length payload < k / 8 → ReadBlock k slice payload (R.Refused A.short) payload
+    pub read-slice : length slice < k / 8 + 3 → ReadBlock k slice payload (R.Refused A.short) payload
     unfolding readBlock
-    read-payload g =
-        read-refused A.short (rw (known, payload-short k known payload g, or-yes (tooShort slice (blockLength k))))
+    read-slice h = read-refused A.short (rw (known, block-short k known slice h))
 
-    module _ (room : k / 8 ≤ length payload) where
-      -- where the data have room, it answers as the check does
-      pub read-check : readBlock k slice payload ≡ checkBlock k slice
-      unfolding readBlock checkBlock
-      read-check = rw (payload-held k known payload room, or-no (tooShort slice (blockLength k)))
+    module _ (held : k / 8 + 3 ≤ length slice) where
+      pub read-payload : length payload < k / 8 → ReadBlock k slice payload (R.Refused A.short) payload
+      unfolding readBlock
+      read-payload g = read-refused A.short (rw (known, block-held k known slice held, payload-short k known payload g))
 
-      module _ (answer : Read) (p : CheckBlock k slice answer) where
-        answered : readAnswer answer ≡ readBlock k slice payload
-        answered = p .answers ∙ sym read-check
+      module _ (room : k / 8 ≤ length payload) where
+        pub read-done : readBlock k slice payload ≡ done (verdict (row k slice))
+        unfolding readBlock
+        read-done = rw (known, block-held k known slice held, payload-held k known payload room)
 
-        -- a block that does not pass leaves the data as they were
-        pub read-kept : OneOf (1 ∷ 2 ∷ []) (tagOf the-type answer) → ReadBlock k slice payload answer payload
-        read-kept t = record { answers = answered; writes = kept answer t ∙ ap (readBytes k slice payload) answered }
-          where
-            kept : (a : Read) → OneOf (1 ∷ 2 ∷ []) (tagOf the-type a) → payload ≡ readBytes k slice payload (readAnswer a)
-            kept (R.Passed s) t = ⊎-elim (λ z. absurd (omega arith)) (λ z. absurd (omega arith)) t
-            kept R.Failed t = refl
-            kept (R.Refused n) t = refl
+        module _ (answer : Read) (p : readAnswer answer ≡ done (verdict (row k slice))) where
+          read-writes : (payload′ : List ℕ) → payload′ ≡ readBytes k slice payload (readAnswer answer) → ReadBlock k slice payload answer payload′
+          read-writes payload′ w =
+              let e : readAnswer answer ≡ readBlock k slice payload = p ∙ sym read-done in
+              record { answers = e; writes = w ∙ ap (readBytes k slice payload) e }
 
-        -- one that passes has its data moved
-        pub read-moved : (s : ℕ) → answer ≡ R.Passed s → (b : Built) (payload′ : List ℕ) → MoveData k slice payload b payload′
-            → ReadBlock k slice payload (R.Passed s) payload′
-        unfolding checkBlock moveData
-        read-moved s e b payload′ m =
-            let a : done (passed s) ≡ checkBlock k slice = sym (ap readAnswer e) ∙ p .answers in
-            let t = passed-test (tooShort slice (blockLength k)) A.short _ (passed s) (passed-test (not (isLength k)) A.block _ (passed s) (sym a) .1) in
-            let d : moveData k slice payload ≡ done tt = rw (known, t .0, payload-held k known payload room) in
-            record {
-              answers = sym (ap readAnswer e) ∙ answered;
-              writes = m .writes ∙ ap (movedBytes k slice payload) d ∙ ap (readBytes k slice payload) (a ∙ sym read-check);
-            }
+          -- a block that does not pass leaves the data as they were
+          pub read-kept : OneOf (1 ∷ 2 ∷ []) (tagOf the-type answer) → ReadBlock k slice payload answer payload
+          read-kept t = read-writes payload (kept answer t)
+            where
+              kept : (a : Read) → OneOf (1 ∷ 2 ∷ []) (tagOf the-type a) → payload ≡ readBytes k slice payload (readAnswer a)
+              kept (R.Passed s) t = ⊎-elim (λ z. absurd (omega arith)) (λ z. absurd (omega arith)) t
+              kept R.Failed t = refl
+              kept (R.Refused n) t = refl
+
+          -- one that passes has its data moved
+          pub read-moved : OneOf (0 ∷ []) (tagOf the-type answer) → (payload′ : List ℕ)
+              → payload′ ≡ bytesOf (k / 8) (drop 4 (bitsOf slice)) ++ drop (k / 8) payload → ReadBlock k slice payload answer payload′
+          read-moved t payload′ w =
+              read-writes payload′
+              (w ∙ ap (λ (l : List ℕ). l ++ drop (k / 8) payload)
+              (data-bytes (k / 8) slice payload (omega arith) ∙ ap (λ (x : ℕ). bytesOf (k / 8) (payloadOf x (bitsOf slice))) (length-bytes k known))
+              ∙ moved-by answer t)
+            where
+              moved-by : (a : Read) → OneOf (0 ∷ []) (tagOf the-type a)
+                  → overwritten (k / 8) (payloadOf k (bitsOf slice)) payload ≡ readBytes k slice payload (readAnswer a)
+              moved-by (R.Passed s) t = refl
+              moved-by R.Failed t = absurd (omega arith)
+              moved-by (R.Refused n) t = absurd (omega arith)
 
 -- ---- the synchronising block, and cancelling
 

@@ -21,7 +21,7 @@ use Rattle.block.specs.declared.Read.{Read}
 use Rattle.block.specs.declared.Read.the-variants as R
 use Rattle.block.proofs.Lengths.{length-facts, length-bytes}
 use Rattle.block.proofs.Block.{length-blockBits, passes-blockBits, service-blockBits, payload-blockBits}
-use Rattle.block.proofs.Refusals.{passed-test, check-done, read-check}
+use Rattle.block.proofs.Refusals.{passed-test, read-done}
 use Rattle.block.proofs.Truth.{or-false}
 
 -- a part of bytes is bytes
@@ -81,7 +81,7 @@ module _ (k service : ℕ) (payload slice room : List ℕ) (known : isLength k �
   pub read-built : readBlock k (builtBytes k service payload slice (done tt)) room ≡ done (passed service)
   read-built =
       let f = length-facts k known in
-      read-check k written room known (omega arith) ∙ check-done k written known (omega (arith, length-written))
+      read-done k written room known (omega (arith, length-written)) (omega arith)
       ∙ ap (λ (l : Bits). done (verdict l)) row-written ∙ ap done verdict-row
 
   payload-written : payloadOf k (bitsOf written) ≡ take k (bitsOf payload)

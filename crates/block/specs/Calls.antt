@@ -2,7 +2,7 @@
 use mathlib.Core.Path.{_≡_}
 use mathlib.Core.Bool.{Bool, not, _||_}
 use mathlib.Core.List.{List, _++_}
-use Prim.Native.Nat.{ℕ, _*_}
+use Prim.Native.Nat.{ℕ, _+_, _*_}
 use lib.Dec.{ltb}
 use lib.ListN.{length, take, drop}
 use Rattle.crc.specs.Bits.{Bits, binary, bitsOf, bytesOf}
@@ -51,7 +51,7 @@ pub record BuildBlock (k service : ℕ) (payload slice : List ℕ) (answer : Bui
   pub answers : builtAnswer answer ≡ buildBlock k service payload slice
   pub writes : slice′ ≡ builtBytes k service payload slice (buildBlock k service payload slice)
 
--- ---- checking a packed block: 1, 6; nothing is written
+-- ---- checking one: 1, 6; nothing is written
 
 unfoldable pub checkBlock : ℕ → List ℕ → Answer Verdict
 checkBlock k slice =
@@ -61,20 +61,18 @@ checkBlock k slice =
 pub record CheckBlock (k : ℕ) (slice : List ℕ) (answer : Read) : Type 0 where
   pub answers : readAnswer answer ≡ checkBlock k slice
 
--- ---- moving a packed block's data, whatever its check: 1, 6
+-- ---- moving the first m data bytes of a packed block, whatever its check: 6
 
 unfoldable pub moveData : ℕ → List ℕ → List ℕ → Answer (Unit {0})
-moveData k slice payload =
-    refuseIf (not (isLength k)) A.block
-    (refuseIf (tooShort slice (blockLength k) || tooShort payload k) A.short (done tt))
+moveData m slice payload = refuseIf (tooShort slice (8 * m + 4) || tooShort payload (8 * m)) A.short (done tt)
 
 abbrev pub movedBytes : ℕ → List ℕ → List ℕ → Answer (Unit {0}) → List ℕ
-movedBytes k slice payload (refused n) = payload
-movedBytes k slice payload (done u) = overwritten (payloadBytes k) (payloadOf k (bitsOf slice)) payload
+movedBytes m slice payload (refused n) = payload
+movedBytes m slice payload (done u) = overwritten m (payloadOf (8 * m) (bitsOf slice)) payload
 
-pub record MoveData (k : ℕ) (slice payload : List ℕ) (answer : Built) (payload′ : List ℕ) : Type 0 where
-  pub answers : builtAnswer answer ≡ moveData k slice payload
-  pub writes : payload′ ≡ movedBytes k slice payload (moveData k slice payload)
+pub record MoveData (m : ℕ) (slice payload : List ℕ) (answer : Built) (payload′ : List ℕ) : Type 0 where
+  pub answers : builtAnswer answer ≡ moveData m slice payload
+  pub writes : payload′ ≡ movedBytes m slice payload (moveData m slice payload)
 
 -- ---- reading one: 1, 6, both slices judged first
 

@@ -5,9 +5,10 @@ ghost use Prim.Native.Nat.{_+_, _*_, _/_, _≤_, _<_};
 ghost use lib.ListN.{length, take, drop};
 ghost use Rattle.crc.specs.Bits.{binary, bitsOf, bytesOf};
 ghost use Rattle.crc.specs.Check.{remainder};
+ghost use Rattle.block.specs.Answer.{done};
 ghost use Rattle.block.specs.Lengths.{isLength};
-ghost use Rattle.block.specs.Block.{blockBits, syncBlock};
-ghost use Rattle.block.specs.Calls.{tooShort, overwritten, BuildBlock, CheckBlock, MoveData, ReadBlock, BuildSync, CancelBlock};
+ghost use Rattle.block.specs.Block.{blockBits, verdict, syncBlock};
+ghost use Rattle.block.specs.Calls.{readAnswer, tooShort, overwritten, BuildBlock, CheckBlock, MoveData, ReadBlock, BuildSync, CancelBlock};
 
 // Document 01, "What the ends turn away".
 pub const BLOCK: u8 = 1;
@@ -134,7 +135,19 @@ fn remainder_of(m: usize, block: &[u8]) -> u16
     check ^ received_check(block[m], block[m + 1], block[m + 2])
 }
 
-// A packed block checked; nothing is written. Refused in the order 1, 6.
+// The check of a packed block of m data bytes.
+fn checked(m: usize, block: &[u8]) -> Read
+    requires { ⌜ m + 3 ≤ length (now block) ⌝ }
+    ensures { λ r. ⌜ readAnswer r ≡ done (verdict (take (8 * m + 20) (bitsOf (now (block .entry))))) ⌝ }
+{
+    if remainder_of(m, block) != 0 {
+        return Read::Failed;
+    }
+    let service = block[0] >> 4;
+    Read::Passed(service)
+}
+
+// One block checked; nothing is written. Refused in the order 1, 6.
 pub fn check_block(k: usize, block: &[u8]) -> Read
     ensures { λ r. ⌜ CheckBlock k (now (block .entry)) r ⌝ }
 {
@@ -145,22 +158,14 @@ pub fn check_block(k: usize, block: &[u8]) -> Read
     if block.len() < m + 3 {
         return Read::Refused(SHORT);
     }
-    if remainder_of(m, block) != 0 {
-        return Read::Failed;
-    }
-    let service = block[0] >> 4;
-    Read::Passed(service)
+    checked(m, block)
 }
 
-// The data of a packed block moved, whatever its check. Refused in the order 1, 6.
-pub fn move_data(k: usize, block: &[u8], payload: &mut [u8]) -> Built
-    ensures { λ r. ⌜ MoveData k (now (block .entry)) (now (payload .entry)) r (now (payload .exit)) ⌝ }
+// The first m data bytes of a packed block moved, whatever its check. Refused 6.
+pub fn move_data(m: usize, block: &[u8], payload: &mut [u8]) -> Built
+    ensures { λ r. ⌜ MoveData m (now (block .entry)) (now (payload .entry)) r (now (payload .exit)) ⌝ }
 {
-    if !known_length(k) {
-        return Built::Refused(BLOCK);
-    }
-    let m = k / 8;
-    if block.len() < m + 3 {
+    if block.len() <= m {
         return Built::Refused(SHORT);
     }
     if payload.len() < m {
@@ -177,15 +182,18 @@ pub fn read_block(k: usize, block: &[u8], payload: &mut [u8]) -> Read
     if !known_length(k) {
         return Read::Refused(BLOCK);
     }
-    if payload.len() < k / 8 {
+    let m = k / 8;
+    if block.len() < m + 3 {
         return Read::Refused(SHORT);
     }
-    let answer = check_block(k, block);
-    let Read::Passed(service) = answer else {
-        return answer;
-    };
-    move_data(k, block, payload);
-    Read::Passed(service)
+    if payload.len() < m {
+        return Read::Refused(SHORT);
+    }
+    let answer = checked(m, block);
+    if let Read::Passed(_) = answer {
+        shift_half(m, block, payload);
+    }
+    answer
 }
 
 // The synchronising block of m data bytes, over the first m + 3 bytes of block.

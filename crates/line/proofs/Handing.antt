@@ -22,7 +22,7 @@ use Rattle.block.specs.declared.Built.{Built}
 use Rattle.block.specs.declared.Read.{Read}
 use Rattle.block.specs.declared.Read.the-variants as B
 use Rattle.block.proofs.Read.{the-type}
-use Rattle.block.proofs.Lengths.{length-facts, length-bytes}
+use Rattle.block.proofs.Lengths.{length-facts}
 use Rattle.block.proofs.Refusals.{check-done, move-done}
 use Rattle.line.specs.Receiving.{lastBad, badly, Rule, sync-block, check-fails, accepts, meaning, endRule, serviceRule, looksSync, judge, stops, Reading, storeAt}
 use Rattle.line.specs.Code.ReceiveSteps.{ruleOf, stepped, handedBack, judged, Handed}
@@ -131,11 +131,13 @@ module _ (k : ℕ) (known : isLength k ≡ true) (slice : List ℕ) (h : blockLe
         go B.Failed e t = cc
         go (B.Refused n) e t = cc
 
-  same-data : payloadOf k (bitsOf slice) ≡ payloadOf k row
-  same-data =
+  -- the first m data bytes
+  same-data : (m : ℕ) → 8 * m ≤ k → payloadOf (8 * m) (bitsOf slice) ≡ take (8 * m) (payloadOf k row)
+  same-data m l =
       let f = length-facts k known in
-      sym (take-take k (blockLength k - 4) (drop 4 (bitsOf slice)) (omega arith))
-      ∙ ap (take k) (sym (drop-take 4 (blockLength k) (bitsOf slice) (omega arith) (omega (arith, length-bitsOf slice))))
+      sym (take-take (8 * m) (blockLength k - 4) (drop 4 (bitsOf slice)) (omega arith))
+      ∙ ap (take (8 * m)) (sym (drop-take 4 (blockLength k) (bitsOf slice) (omega arith) (omega (arith, length-bitsOf slice))))
+      ∙ sym (take-take (8 * m) k (drop 4 row) l)
 
   pub length-data : length (payloadOf k row) ≡ k
   length-data =
@@ -143,27 +145,27 @@ module _ (k : ℕ) (known : isLength k ≡ true) (slice : List ℕ) (h : blockLe
       let n : length row ≡ blockLength k = length-take-le (blockLength k) (bitsOf slice) (omega (arith, length-bitsOf slice)) in
       length-take-le k (drop 4 row) (omega (arith, length-drop 4 row))
 
-  module _ (payload : List ℕ) (room : k / 8 ≤ length payload) (answer : Built) (payload′ : List ℕ)
-      (p : MoveData k slice payload answer payload′) where
-    pub data-moved : payload′ ≡ bytesOf (k / 8) (payloadOf k row) ++ drop (k / 8) payload
+  module _ (m : ℕ) (l : 8 * m ≤ k) (payload : List ℕ) (room : m ≤ length payload) (answer : Built) (payload′ : List ℕ)
+      (p : MoveData m slice payload answer payload′) where
+    pub data-moved : payload′ ≡ bytesOf m (take (8 * m) (payloadOf k row)) ++ drop m payload
     data-moved =
-        p .writes ∙ ap (movedBytes k slice payload) (move-done k slice payload known held-bytes room)
-        ∙ ap (λ (d : Bits). bytesOf (k / 8) d ++ drop (k / 8) payload) same-data
+        let f = length-facts k known in
+        p .writes ∙ ap (movedBytes m slice payload) (move-done m slice payload (omega arith) room)
+        ∙ ap (λ (d : Bits). bytesOf m d ++ drop m payload) (same-data m l)
 
-    pub bits-moved : take k (bitsOf payload′) ≡ payloadOf k row
+    pub bits-moved : take (8 * m) (bitsOf payload′) ≡ take (8 * m) (payloadOf k row)
     bits-moved =
-        let d : Bits = payloadOf k row in
-        let z : bitsOf (bytesOf (k / 8) d) ≡ d = whole-bytes (k / 8) d (length-data ∙ sym (length-bytes k known)) in
-        ap (λ (x : List ℕ). take k (bitsOf x)) data-moved
-        ∙ ap (take k) (bitsOf-append (bytesOf (k / 8) d) (drop (k / 8) payload) ∙ ap (λ (x : Bits). x ++ bitsOf (drop (k / 8) payload)) z)
-        ∙ take-at d (bitsOf (drop (k / 8) payload)) k length-data
+        let d : Bits = take (8 * m) (payloadOf k row) in
+        let n : length d ≡ 8 * m = length-take-le (8 * m) (payloadOf k row) (omega (arith, length-data)) in
+        ap (λ (x : List ℕ). take (8 * m) (bitsOf x)) data-moved
+        ∙ ap (take (8 * m)) (bitsOf-append (bytesOf m d) (drop m payload) ∙ ap (λ (x : Bits). x ++ bitsOf (drop m payload)) (whole-bytes m d n))
+        ∙ take-at d (bitsOf (drop m payload)) (8 * m) n
 
 -- rule 6 reads the first forty bits of the data alone
-pub end-first-bits : (k r : ℕ) (ended : Bool) (row : Bits) → 40 ≤ k → k ≤ length row
-    → endRule k r ended row ≡ endRule k r ended (take k row)
+pub end-first-bits : (k r : ℕ) (ended : Bool) (row : Bits) → 40 ≤ length row → endRule k r ended row ≡ endRule k r ended (take 40 row)
 unfolding endRule
-end-first-bits k r ended row h l =
-    let a : take 8 (take k row) ≡ take 8 row = take-take 8 k row (omega arith) in
-    let b : take 32 (drop 8 (take k row)) ≡ take 32 (drop 8 row) =
-    ap (take 32) (drop-take 8 k row (omega arith) l) ∙ take-take 32 (k - 8) (drop 8 row) (omega arith) in
+end-first-bits k r ended row l =
+    let a : take 8 (take 40 row) ≡ take 8 row = take-take 8 40 row (omega arith) in
+    let b : take 32 (drop 8 (take 40 row)) ≡ take 32 (drop 8 row) =
+    ap (take 32) (drop-take 8 40 row (omega arith) l) ∙ take-take 32 (40 - 8) (drop 8 row) (omega arith) in
     rw (a, b)

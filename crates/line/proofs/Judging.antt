@@ -15,8 +15,7 @@ use Rattle.crc.proofs.Bytes.{length-bitsOf, take-bitsOf, drop-bitsOf}
 use Rattle.block.specs.Lengths.{isLength, blockLength}
 use Rattle.block.specs.Block.{serviceOf, serviceSync, syncSequence}
 use Rattle.block.proofs.Lengths.{length-facts}
-use Rattle.block.proofs.Packing.{block-parts}
-use Rattle.block.proofs.Refusals.{service-number}
+use Rattle.block.proofs.Packing.{service-number, block-parts}
 use Rattle.line.specs.Order.{longestOrder, validLength, itemCount, version}
 use Rattle.line.specs.Receiving.{Rule, ends, wrong-length, lengthRule, endRule, looksSync}
 
@@ -92,7 +91,7 @@ module _ (k : ℕ) (known : isLength k ≡ true) (s : List ℕ) (h : blockLength
   row = take (blockLength k) (bitsOf s)
 
   service-of : getD s 0 0 < 256 → number (serviceOf row) ≡ getD s 0 0 / 16
-  service-of b = let f = length-facts k known in service-number k s known (omega arith) b
+  service-of = service-number (blockLength k) s (omega arith) (omega arith)
 
   pub other-service : getD s 0 0 < 256 → (getD s 0 0 / 16 ≡ number serviceSync → ⊥) → false ≡ looksSync k row
   unfolding looksSync

@@ -207,13 +207,13 @@ impl Head {
         requires { ⌜ FinishedBlock self (now array) (now row) ⌝ }
         ensures { λ r. ⌜ Handed (whole self (now (array .entry))) (now (store .entry)) (S.stops (whole self (now (array .entry))) S.accepts (take (blockLength (self .setup .k)) (bitsOf (now (row .entry)))) used) (stepWith r (now (array .exit))) (now (store .exit)) ⌝ }
     {
-        let k = self.setup.k;
-        let start = self.taken * (k / 8);
-        let end = start + k / 8;
+        let m = self.setup.k / 8;
+        let start = self.taken * m;
+        let end = start + m;
         if store.len() < end {
             return self.refused(block::SHORT);
         }
-        block::move_data(k, row, &mut store[start..end]);
+        block::move_data(m, row, &mut store[start..end]);
         self.stop(array, Rule::Accepts, used)
     }
 

@@ -117,7 +117,7 @@ fn end_rule(k: usize, taken: usize, ended: bool, payload: &[u8]) -> Rule
     Rule::Ends(bits)
 }
 
-// By the service bits; an end block's data are read from a copy.
+// By the service bits; of an end block's data the version and the length are moved out.
 pub(crate) fn service_rule(k: usize, taken: usize, ended: bool, service: u8, row: &[u8]) -> Rule
     requires { ⌜ (isLength k ≡ true) × (taken ≤ mostItems) × (blockLength k ≤ 8 * length (now row)) ⌝ }
     ensures { λ r. ⌜ ruleOf r ≡ serviceRule k taken ended service (payloadOf k (take (blockLength k) (bitsOf (now (row .entry))))) ⌝ }
@@ -129,8 +129,8 @@ pub(crate) fn service_rule(k: usize, taken: usize, ended: bool, service: u8, row
         return letter_rule(taken, service);
     }
     if service == END {
-        let mut payload = [0u8; 480];
-        block::move_data(k, row, &mut payload);
+        let mut payload = [0u8; 5];
+        block::move_data(5, row, &mut payload);
         return end_rule(k, taken, ended, &payload);
     }
     Rule::AnythingElse

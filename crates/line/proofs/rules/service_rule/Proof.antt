@@ -1,15 +1,17 @@
 -- `service_rule` answers the rule by the service bits. Assumes nothing.
 use mathlib.Core.Path.{_≡_, sym, ap, _∙_}
 use mathlib.Core.List.{List}
-use Prim.Native.Nat.{ℕ, _≤_}
+use Prim.Native.Nat.{ℕ}
 use native.Mathlib.Omega.{arith}
 use borrow.Author.Tests.{eq-eqb, ne-eqb}
-use lib.ListN.{length}
-use Rattle.crc.specs.Bits.{bitsOf}
+use lib.ListN.{length, take}
+use Rattle.crc.specs.Bits.{Bits, bitsOf}
 use Rattle.crc.proofs.Bytes.{length-bitsOf}
+use Rattle.block.specs.Lengths.{blockLength}
+use Rattle.block.specs.Block.{payloadOf}
 use Rattle.block.proofs.Lengths.{length-facts}
 use Rattle.line.specs.Receiving.{endRule, serviceRule}
-use Rattle.line.proofs.Handing.{bits-moved, end-first-bits}
+use Rattle.line.proofs.Handing.{length-data, bits-moved, end-first-bits}
 use borrow.Author.Needs.{needs}
 use Rattle.line.proofs.rules.service_rule.Statement.{statement}
 use Rattle.line.proofs.rules.service_rule.Tie as tie
@@ -50,10 +52,13 @@ returns-3 c =
     let k : ℕ = a .args .k in
     let f = length-facts k (a .pre .0) in
     let payload : List ℕ = m .move-data .last .1 .1 .0 in
-    let n : length payload ≡ 480 = search needs in
+    let n : length payload ≡ 5 = search needs in
+    let d : Bits = payloadOf k (take (blockLength k) (bitsOf (a .args .row .now))) in
+    let l : length d ≡ k = length-data k (a .pre .0) (a .args .row .now) (a .pre .2) in
     c .end-rule .ensures
-    ∙ end-first-bits k (a .args .taken) (a .args .ended) (bitsOf payload) (omega arith) (omega (arith, length-bitsOf payload))
-    ∙ ap (endRule k (a .args .taken) (a .args .ended)) (bits-moved k (a .pre .0) (a .args .row .now) (a .pre .2) _ (omega arith) _ payload (m .move-data .ensures))
+    ∙ end-first-bits k (a .args .taken) (a .args .ended) (bitsOf payload) (omega (arith, length-bitsOf payload))
+    ∙ ap (endRule k (a .args .taken) (a .args .ended)) (bits-moved k (a .pre .0) (a .args .row .now) (a .pre .2) 5 (omega arith) _ (omega arith) _ payload (m .move-data .ensures))
+    ∙ sym (end-first-bits k (a .args .taken) (a .args .ended) d (omega arith))
     ∙ sym (simp (sym (e .before .before .is-letter .ensures) ∙ e .before .if1 .left, eq-eqb _ _ (e .if3 .taken)))
 
 returns-4 : tie.Need-returns-4

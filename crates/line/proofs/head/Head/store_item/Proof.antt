@@ -1,16 +1,17 @@
 -- `Head::store_item` lends the data's place in the store, if there is room. Assumes nothing.
-use mathlib.Core.Path.{_≡_, ap}
+use mathlib.Core.Path.{_≡_, ap, _∙_}
 use mathlib.Core.Bool.{true}
-use mathlib.Core.List.{List, []}
+use mathlib.Core.List.{List, [], _++_}
 use Prim.Native.Nat.{ℕ, _+_, _-_, _*_, _/_, _≤_, _<_}
 use native.Mathlib.Omega.{arith}
 use lib.ListN.{length, take, drop, getD, length-drop}
-use lib.Seq.{length-take-le}
-use Rattle.crc.specs.Bits.{Bits, bitsOf}
+use lib.Seq.{take-all, length-take-le}
+use Rattle.crc.specs.Bits.{Bits, bitsOf, bytesOf}
 use Rattle.block.specs.Lengths.{isLength, blockLength}
+use Rattle.block.specs.Block.{payloadOf}
 use Rattle.block.specs.Calls.{MoveData}
 use Rattle.block.specs.declared.Built.{Built}
-use Rattle.block.proofs.Lengths.{length-facts}
+use Rattle.block.proofs.Lengths.{length-facts, length-bytes}
 use Rattle.line.specs.Receiving.{accepts, stops}
 use Rattle.line.specs.ReceivingInPlace.{whole}
 use Rattle.line.specs.Code.ReceiveSteps.{stepWith, handedBack, Handed}
@@ -48,23 +49,27 @@ module _ (s : Receiver) (known : isLength (s .setup .k) ≡ true) (slice store :
   wide : k / 8 ≤ length lent
   wide = omega (arith, same, length-take-le n (drop start store) (omega (arith, same, length-drop start store)))
 
-  stored : (answer : Built) (part : List ℕ) → MoveData k slice lent answer part → (r : Step) → r ≡ handedBack (stops s accepts [] used)
+  all-data : take (8 * (k / 8)) (payloadOf k row) ≡ payloadOf k row
+  all-data = take-all (8 * (k / 8)) (payloadOf k row) (omega (arith, length-bytes k known, length-data k known slice h))
+
+  stored : (answer : Built) (part : List ℕ) → MoveData (k / 8) slice lent answer part → (r : Step) → r ≡ handedBack (stops s accepts [] used)
       → Handed s store (stops s accepts row used) r (put-back k (s .taken) known store n part)
   stored answer part p r e =
       handed-stored s row used store r _ (room k (s .taken) known store fits)
       (accepted-store k (s .taken) known store n part _ same (length-data k known slice h) fits bytes
-      (data-moved k known slice h lent wide answer part p))
+      (data-moved k known slice h (k / 8) (omega (arith, length-bytes k known)) lent wide answer part p
+      ∙ ap (λ (d : Bits). bytesOf (k / 8) d ++ drop (k / 8) lent) all-data))
       e
 
 mul-start : tie.Need-mul-start
 mul-start c =
-    let a = c .before .before .before .before in
+    let a = c .before .before .before .before .before in
     let h = start-lt (a .args .self .setup .k) (a .args .self .taken) (a .pre .ready .known) (a .pre .ready .items) in
     omega arith
 
 add-end : tie.Need-add-end
 add-end c =
-    let a = c .before .before .before .before in
+    let a = c .before .before .before .before .before in
     let h = start-lt (a .args .self .setup .k) (a .args .self .taken) (a .pre .ready .known) (a .pre .ready .items) in
     let f = length-facts (a .args .self .setup .k) (a .pre .ready .known) in
     omega arith
@@ -74,7 +79,7 @@ refused-requires c κs = search needs
 
 returns : tie.Need-returns
 returns c =
-    let a = c .before .before .before .before .before .before in
+    let a = c .before .before .before .before .before .before .before in
     handed-short (whole (a .args .self) (a .args .array .now)) _ (a .args .used) (a .args .store .now) _
     (no-room (a .args .self .setup .k) (a .args .self .taken) (a .pre .ready .known) (a .args .store .now) (c .before .if1 .taken))
     (ap (λ (r : HeadStep). stepWith r (a .args .array .now)) (c .refused .ensures))
@@ -104,9 +109,9 @@ returns-2 : tie.Need-returns-2
 returns-2 c =
     let m = c .before .before .before .before .before .before in
     let l = m .before .before .before in
-    let a = l .before .before .before .before in
+    let a = l .before .before .before .before .before in
     stored (whole (a .args .self) (a .args .array .now)) (a .pre .ready .known) (a .args .row .now) (a .args .store .now) (a .args .used) (a .pre .held)
-    (λ i. l .before .slice-known2 .given i .fits) (m .before .before .if1 .left) _ _ (m .move-data .ensures) _ (c .before .before .stop .ensures)
+    (λ i. l .before .before .slice-known2 .given i .fits) (m .before .before .if1 .left) _ _ (m .move-data .ensures) _ (c .before .before .stop .ensures)
 
 pub store-item-spec : {M : Type 1} → statement M
 store-item-spec =
