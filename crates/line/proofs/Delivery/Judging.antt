@@ -150,25 +150,25 @@ pub data Judged : Rule → Type 0 where
 module _ (P : Rule → Type 0) (some : (x : Rule) → meaning x .data-or-end ≡ true → P x) (none : P anything-else) (k r : ℕ)
     (ended : Bool) where
   letter-case : (p : Place) → P (letterRule r p)
-  letter-case expected = cond-case P (ltb r mostItems) (λ e. some accepts refl) (λ e. none)
-  letter-case last = some previous refl
-  letter-case next = some out-of-sequence refl
+  letter-case expected = cond-case P (ltb r mostItems) (λ e. some _ refl) (λ e. none)
+  letter-case last = some _ refl
+  letter-case next = some _ refl
   letter-case other = none
 
   end-case : (payload : Bits) → P (endRule k r ended payload)
   unfolding endRule
   end-case payload =
-      cond-case P ended (λ e. some ends-again refl)
+      cond-case P ended (λ e. some _ refl)
       (λ e. cond-case P
       (eqb (number (take 8 payload)) version && validLength (number (take 32 (drop 8 payload))) && eqb
       (itemCount k (number (take 32 (drop 8 payload)))) r)
-      (λ e. some (ends (number (take 32 (drop 8 payload)))) refl) (λ e. some wrong-length refl))
+      (λ e. some _ refl) (λ e. some _ refl))
 
   pub service-case : (service : ℕ) (payload : Bits) → P (serviceRule k r ended service payload)
   unfolding serviceRule
   service-case service payload =
       cond-case P (isLetter service)
-      (λ a. cond-case P ended (λ e. some out-of-sequence refl) (λ e. letter-case (place r service)))
+      (λ a. cond-case P ended (λ e. some _ refl) (λ e. letter-case (place r service)))
       (λ a. cond-case P (eqb service endService) (λ e. end-case payload) (λ e. none))
 
 verdict-judged : (k r : ℕ) (ended : Bool) (row : Bits) (v : Verdict) → Judged (verdictRule k r ended row v)
