@@ -1,13 +1,12 @@
--- Laws of the order as items: the number of items, the lengths of their parts, and their service bits. Assumes nothing.
+-- Laws of the order as items: the number of items, the lengths of their parts, and what they hold. Assumes nothing.
 use mathlib.Core.Path.{_≡_, refl, ap, ap₂, sym, _∙_}
-use mathlib.Core.Logic.{_≢_}
-use mathlib.Core.Bool.{Bool, true, false, cond, not, _||_}
+use mathlib.Core.Bool.{Bool, true, false, cond}
 use mathlib.Core.List.{List, _++_}
-use Prim.Native.Nat.{ℕ, zero, suc, _+_, _-_, _*_, _%_, _≤_, _<_}
+use Prim.Native.Nat.{ℕ, zero, suc, _+_, _-_, _*_, _≤_, _<_}
 use native.Mathlib.Nat.{div-mul-le-self, lt-div-mul-add, mul-le-mul, mul-le-mul-right, le-div-iff-mul-le}
 use native.Mathlib.Omega.{arith}
-use borrow.Author.Tests.{leb-true, ltb-true, lt-ltb, le-ltb, eq-eqb}
-use lib.Dec.{eqb, eqb→eq, leb}
+use borrow.Author.Tests.{leb-true, ltb-true, lt-ltb, le-ltb}
+use lib.Dec.{leb}
 use lib.ListN.{length, take, drop, length-append, length-drop, length-replicate}
 use lib.Seq.{length-take-le, take-add}
 use Rattle.crc.specs.Bits.{Bits, binary, bitsOf, number, zeros}
@@ -19,8 +18,8 @@ use Rattle.block.specs.Block.{blockBits, serviceOf, payloadOf}
 use Rattle.block.proofs.Lengths.{length-facts}
 use Rattle.block.proofs.Block.{length-blockBits, passes-blockBits, service-blockBits, payload-blockBits}
 use Rattle.block.proofs.Truth.{and-left, and-right}
-use Rattle.line.proofs.Table.{at-cell}
-use Rattle.line.specs.Order.{longestOrder, mostItems, validLength, itemCount, letter, third, endService, isLetter, orderBits, filled, version, endPayload, isData, itemService, itemPayload, itemBits}
+use Rattle.line.proofs.ServiceBits.{letter-lt16}
+use Rattle.line.specs.Order.{longestOrder, mostItems, validLength, itemCount, letter, endService, orderBits, filled, version, endPayload, isData, itemService, itemPayload, itemBits}
 
 -- ---- the number of items
 
@@ -128,61 +127,7 @@ pub passes-itemBits : (k L : ℕ) (content : Bits) (i : ℕ) → passes (itemBit
 unfolding itemBits
 passes-itemBits k L content i = passes-blockBits (binary 4 (itemService k L i)) (itemPayload k L content i)
 
--- ---- service bits
-
--- what holds of A, B and C holds of every letter
-third-law : (P : ℕ → Type 0) → P (third 0) → P (third 1) → P (third 2) → (n : ℕ) → P (third n)
-third-law P a b c zero = a
-third-law P a b c (suc zero) = b
-third-law P a b c (suc (suc n)) = c
-
-pub letter-law : (P : ℕ → Type 0) → P (third 0) → P (third 1) → P (third 2) → (i : ℕ) → P (letter i)
-unfolding letter
-letter-law P a b c i = third-law P a b c (i % 3)
-
-pub letter-lt16 : (i : ℕ) → letter i < 16
-letter-lt16 i = letter-law (λ (s : ℕ). s < 16) (omega arith) (omega arith) (omega arith) i
-
-pub letter-isLetter : (i : ℕ) → isLetter (letter i) ≡ true
-unfolding isLetter
-letter-isLetter i = letter-law (λ (s : ℕ). isLetter s ≡ true) refl refl refl i
-
-pub letter-not-end : (i : ℕ) → letter i ≡ endService → ⊥
-letter-not-end i = letter-law (λ (s : ℕ). s ≡ endService → ⊥) (λ e. omega arith) (λ e. omega arith) (λ e. omega arith) i
-
-pub letter-not-sync : (i : ℕ) → letter i ≡ 0b0101 → ⊥
-letter-not-sync i = letter-law (λ (s : ℕ). s ≡ 0b0101 → ⊥) (λ e. omega arith) (λ e. omega arith) (λ e. omega arith) i
-
-distinct-test : ℕ → ℕ → Bool
-distinct-test a b = not (eqb (third a) (third b)) || eqb a b
-
-distinct-thirds : (a b : ℕ) → a < 3 → b < 3 → third a ≡ third b → a ≡ b
-unfolding distinct-test
-distinct-thirds a b ha hb e =
-    eqb→eq a b (rw (eq-eqb (third a) (third b) e) at (at-cell distinct-test 3 3 tt a b ha hb))
-
--- two items have the same letter exactly if their numbers leave the same when divided by 3
-pub letter-same : (i j : ℕ) → i % 3 ≡ j % 3 → letter i ≡ letter j
-unfolding letter
-letter-same i j e = ap third e
-
-pub same-letter : (i j : ℕ) → letter i ≡ letter j → i % 3 ≡ j % 3
-unfolding letter
-same-letter i j e = distinct-thirds (i % 3) (j % 3) (omega arith) (omega arith) e
-
-pub letter-next : (i : ℕ) → letter (i + 1) ≢ letter i
-letter-next i e = let d = same-letter (i + 1) i e in omega arith
-
-pub letter-next-but-one : (i : ℕ) → letter (i + 2) ≢ letter i
-letter-next-but-one i e = let d = same-letter (i + 2) i e in omega arith
-
--- the letters of three items in a row are three
-pub letter-three : (i : ℕ) → 1 ≤ i → (letter (i - 1) ≢ letter i) × (letter i ≢ letter (i + 1)) × (letter (i - 1) ≢ letter (i + 1))
-letter-three i h = (
-  (λ e. let d = same-letter (i - 1) i e in omega arith),
-  (λ e. let d = same-letter i (i + 1) e in omega arith),
-  (λ e. let d = same-letter (i - 1) (i + 1) e in omega arith),
-)
+-- ---- service bits and data
 
 module _ (k L i : ℕ) where
   pub itemService-data : i < itemCount k L → itemService k L i ≡ letter i

@@ -1,4 +1,5 @@
 pub mod Table
+pub mod ServiceBits
 pub mod Items
 pub mod Filling
 pub mod Building

@@ -2,7 +2,7 @@
 -- invariant over them. Truth values are 0 and 1, so that every clause is linear. Assumes nothing.
 use mathlib.Core.Path.{_≡_}
 use mathlib.Core.Logic.{_⊎_}
-use Prim.Native.Nat.{ℕ, _+_, _*_, _≤_, _<_, _%_}
+use Prim.Native.Nat.{ℕ, _+_, _*_, _≤_, _<_}
 use Rattle.line.specs.declared.sender.Next.{Next}
 use Rattle.line.specs.declared.sender.Next.the-variants.{Sync, Older, Newer}
 use Rattle.line.specs.declared.receiver.Event.{Event}
@@ -127,17 +127,13 @@ pub data Reads (N : ℕ) (s t : Ends) : LineBlock → Event → Type 0 where
   bad-eighth : {f : LineBlock} → SameSender s t → Reading s → s .row ≡ 7 → NotWhole f → Rejected s t 1 0
       → Reads N s t f E.Bad
   bad-first : SameSender s t → Reading s → s .taken ≡ 0 → Rejected s t 1 0 → Reads N s t sync E.Bad
-  -- rules 3 to 7 of a data or end block that arrives whole
-  accepts : {i : ℕ} → SameSender s t → Reading s → i < N → s .ended ≡ 0 → i % 3 ≡ s .taken % 3
-      → InStep t (s .taken + 1) 0 0 → Reads N s t (item i 1) E.Accepted
-  repeats : {i : ℕ} → SameSender s t → Reading s → i < N → s .ended ≡ 0 → (i + 1) % 3 ≡ s .taken % 3
-      → InStep t (s .taken) 0 0 → Reads N s t (item i 1) E.Previous
-  out-of-sequence : {i : ℕ} → SameSender s t → Reading s → i < N
-      → (s .ended ≡ 1) ⊎ ((s .ended ≡ 0) × (i % 3 ≡ (s .taken + 1) % 3)) → Alarms s t 0
+  -- rules 3 to 6 of a data or end block that arrives whole
+  accepts : {i : ℕ} → SameSender s t → Reading s → i < N → s .ended ≡ 0 → i ≡ s .taken → InStep t (s .taken + 1) 0 0
+      → Reads N s t (item i 1) E.Accepted
+  repeats : {i : ℕ} → SameSender s t → Reading s → i < N → s .ended ≡ 0 → i + 1 ≡ s .taken → InStep t (s .taken) 0 0
+      → Reads N s t (item i 1) E.Previous
+  out-of-sequence : {i : ℕ} → SameSender s t → Reading s → i < N → s .ended ≡ 0 → i ≡ s .taken + 1 → Alarms s t 0
       → Reads N s t (item i 1) E.SequenceAlarm
-  -- rule 7 of a whole data block: never, but the rules have it
-  anything-else : {i : ℕ} → SameSender s t → Reading s → i < N → s .ended ≡ 0 → (i % 3 ≡ s .taken % 3 → N ≤ s .taken)
-      → ((i + 1) % 3 ≡ s .taken % 3 → s .taken ≡ 0) → (i % 3 ≡ (s .taken + 1) % 3 → ⊥) → Reads N s t (item i 1) E.Bad
   ends : {i L : ℕ} → SameSender s t → Reading s → N ≤ i → s .ended ≡ 0 → s .taken ≡ N → InStep t (s .taken) 1 0
       → Reads N s t (item i 1) (E.Ended L)
   ends-again : {i : ℕ} → SameSender s t → Reading s → N ≤ i → s .ended ≡ 1 → InStep t (s .taken) 1 0
@@ -205,3 +201,10 @@ pub record Busy (N : ℕ) (s : Ends) (n : Next) (f : LineBlock) : Type 0 where
   pub basic : Basic N s
   pub all : s .ended ≡ 1 → s .taken ≡ N
   pub state : Alarmed s ⊎ (During s n × FromPair N s n f)
+
+-- a data item that arrives whole, with r items taken: it is item r, the one before it or the one after it, and the end is
+-- not taken
+pub record Neighbour (r ended i : ℕ) : Type 0 where
+  pub open-end : ended ≡ 0
+  pub low : r ≤ i + 1
+  pub high : i ≤ r + 1

@@ -3,7 +3,7 @@
 use mathlib.Core.Path.{_≡_, refl}
 use mathlib.Core.Logic.{_⊎_, inl, inr, ⊎-elim}
 use mathlib.Core.Bool.{Bool, true, _||_}
-use Prim.Native.Nat.{ℕ, zero, suc, _+_, _*_, _≤_, _<_}
+use Prim.Native.Nat.{ℕ, _+_, _*_, _≤_, _<_}
 use native.Mathlib.Omega.{arith}
 use Rattle.line.specs.Delivery.{news}
 use Rattle.line.specs.declared.sender.Next.{Next}
@@ -12,7 +12,7 @@ use Rattle.line.specs.declared.receiver.Event.{Event}
 use Rattle.line.specs.declared.receiver.Event.the-variants as E
 use Rattle.line.proofs.Delivery.Ends.{Ends, LineBlock, sync, item, SameSender, Sends, Reads, Between, Idle, Busy, NotWhole}
 use Rattle.line.proofs.Delivery.Ends as D
-use Rattle.line.proofs.Delivery.Invariant.{send-keeps, read-keeps, whole-of, never-anything-else}
+use Rattle.line.proofs.Delivery.Invariant.{zero-or-one, send-keeps, read-keeps}
 
 -- a new block or the end
 abbrev pub isNews : Event → Bool
@@ -49,8 +49,7 @@ sender-kept (D.bad-eighth q a w f r) = q
 sender-kept (D.bad-first q a k0 r) = q
 sender-kept (D.accepts q a i e0 m r) = q
 sender-kept (D.repeats q a i e0 m r) = q
-sender-kept (D.out-of-sequence q a i m r) = q
-sender-kept (D.anything-else q a i e0 m1 m2 m3) = q
+sender-kept (D.out-of-sequence q a i e0 m r) = q
 sender-kept (D.ends q a i e0 m r) = q
 sender-kept (D.ends-again q a i e0 r) = q
 sender-kept (D.wrong-length q a i e0 m r) = q
@@ -69,16 +68,9 @@ module _ {N : ℕ} {s t : Ends} {n : Next} where
   whole-read {i} {w} h (D.bad-step q a lt f r) w1 n0 z0 e0 = absurd (not-whole i w f w1)
   whole-read {i} {w} h (D.bad-eighth q a w′ f r) w1 n0 z0 e0 = absurd (not-whole i w f w1)
   whole-read h (D.accepts q a i e0 m r) w1 n0 z0 e1 = inl refl
-  whole-read h (D.repeats q a i e0 m r) w1 n0 z0 e1 =
-      ⊎-elim
-      (λ b. absurd (omega arith))
-      (λ b. let c = whole-of (b .1) refl in ⊎-elim (λ v. inr (omega arith)) (λ v. absurd (omega arith)) (c .which))
-      (h .state)
-  whole-read h (D.out-of-sequence q a i m r) w1 n0 z0 e1 =
-      absurd (⊎-elim (λ b. omega arith) (λ b. omega arith) (read-keeps h (D.out-of-sequence q a i m r) .state))
-  whole-read h (D.anything-else q a i e0 m1 m2 m3) w1 n0 z0 e1 =
-      absurd (⊎-elim (λ b. omega arith) (λ b. never-anything-else (h .basic) (b .0) (whole-of (b .1) refl) i e0 m1 m2 m3)
-      (h .state))
+  whole-read h (D.repeats q a i e0 m r) w1 n0 z0 e1 = inr (omega arith)
+  whole-read h (D.out-of-sequence q a i e0 m r) w1 n0 z0 e1 =
+      absurd (⊎-elim (λ b. omega arith) (λ b. omega arith) (read-keeps h (D.out-of-sequence q a i e0 m r) .state))
   whole-read h (D.ends q a i e0 m r) w1 n0 z0 e1 = inl refl
   whole-read h (D.ends-again q a i e0 r) w1 n0 z0 e1 = absurd (omega arith)
   whole-read h (D.wrong-length q a i e0 m r) w1 n0 z0 e1 =
@@ -90,10 +82,6 @@ pub record Undisturbed (s : Ends) (n : Next) (reading : ℕ) (f : LineBlock) (e 
   pub read : reading ≡ s .back
   pub synced : f ≡ sync → e ≡ E.Sync
   pub whole : (i w : ℕ) → f ≡ item i w → (n ≡ Newer → reading ≡ 0) → w ≡ 1
-
-zero-or-one : (n : ℕ) → n ≤ 1 → (n ≡ 0) ⊎ (n ≡ 1)
-zero-or-one zero h = inl refl
-zero-or-one (suc n) h = inr (omega arith)
 
 older-newer : Older ≡ Newer → ⊥
 older-newer p = let z : _≡_ {A = ℕ} 0 1 = cc in omega arith

@@ -11,7 +11,6 @@ use borrow.Author.Tests.{eqb-true, leb-true, leb-false, lt-ltb}
 use Rattle.crc.specs.Bits.{bit, bitsOf}
 use Rattle.block.specs.Lengths.{blockLength}
 use Rattle.block.proofs.Truth.{or-true, or-false, or-no, or-yes}
-use Rattle.line.specs.Order.{mostItems}
 use Rattle.line.specs.Receiving.{arrayBytes, Rule, unfinished, standing, found, sync-block, check-fails, accepts, previous, out-of-sequence, ends, wrong-length, ends-again, anything-else, meaning, lastBad, blank, well, badly, alarmed, after, heldBits, heldInRange}
 use Rattle.line.specs.Delivery.{news}
 use Rattle.line.specs.declared.sender.Sender.{Sender}
@@ -23,7 +22,7 @@ use Rattle.line.proofs.Delivery.Ends.{LineBlock, Reads, SameSender, Not
 use Rattle.line.proofs.Delivery.Ends as D
 use Rattle.line.proofs.Delivery.Holding.{length-noBytes}
 use Rattle.line.proofs.Delivery.Judging as J
-use Rattle.line.proofs.Delivery.Judging.{Unharmed, data-item, end-item}
+use Rattle.line.proofs.Delivery.Judging.{Unharmed}
 use Rattle.line.proofs.Delivery.State.{Session, N, inSearch, alarmStands, Held}
 use Rattle.line.proofs.Delivery.State as S
 
@@ -125,31 +124,27 @@ pub well-in-step : (s : Sender) (r : Receiver) (taken : ℕ) (ended : Bool) (l d
 well-in-step s r taken ended l d e h =
     record { search = refl; row = refl; back = refl; taken = refl; ended = h; alarm = refl; danger = refl }
 
-module _ (o : Session) (s : Sender) (r : Receiver) (l d : ℕ) (few : N o ≤ mostItems) (step : r .phase ≡ P.InStep) where
+module _ (o : Session) (s : Sender) (r : Receiver) (l d : ℕ) (step : r .phase ≡ P.InStep) where
   in-step : D.Reading (S.ends s r l d)
   in-step =
       record { alarm = ap (λ (p : Phase). bit (alarmStands p)) step; search = ap (λ (p : Phase). bit (inSearch p)) step }
 
   pub unharmed-reads : (i : ℕ) (x : Rule) → Unharmed (o .k) (o .L) (r .taken) (r .ended) i x
       → Reads (N o) (S.ends s r l d) (S.ends s (after r x) l 0) (LineBlock.item i 1) (meaning x .event)
-  unharmed-reads i x (data-item h (J.of-r e m)) =
-      D.accepts (same-sender s r (after r accepts) l d 0) in-step h (ap bit e) m
-      (well-in-step s r (r .taken + 1) (r .ended) l 0 0 (ap bit e))
-  unharmed-reads i x (data-item h (J.of-last e m)) =
-      D.repeats (same-sender s r (after r previous) l d 0) in-step h (ap bit e) m
-      (well-in-step s r (r .taken) (r .ended) l 0 0 (ap bit e))
-  unharmed-reads i x (data-item h (J.of-next m)) =
-      D.out-of-sequence (same-sender s r (after r out-of-sequence) l d 0) in-step h
-      (⊎-elim (λ e. inl (ap bit e)) (λ e. inr (ap bit (e .0), e .1)) m)
+  unharmed-reads i x (J.expected-item h e m) =
+      D.accepts (same-sender s r (after r accepts) l d 0) in-step h e m
+      (well-in-step s r (r .taken + 1) (r .ended) l 0 0 e)
+  unharmed-reads i x (J.last-item h e m) =
+      D.repeats (same-sender s r (after r previous) l d 0) in-step h e m (well-in-step s r (r .taken) (r .ended) l 0 0 e)
+  unharmed-reads i x (J.next-item h e m) =
+      D.out-of-sequence (same-sender s r (after r out-of-sequence) l d 0) in-step h e m
       (record { taken = refl; ended = refl; alarm = refl; danger = refl })
-  unharmed-reads i x (data-item h (J.of-none e a b c)) =
-      D.anything-else (same-sender s r (after r anything-else) l d 0) in-step h (ap bit e) (λ m. let q = a m in omega arith) b c
-  unharmed-reads i x (end-item h (J.again e)) =
+  unharmed-reads i x (J.end-again h e) =
       D.ends-again (same-sender s r (after r ends-again) l d 0) in-step h (ap bit e)
       (well-in-step s r (r .taken) (r .ended) l 0 1 (ap bit e))
-  unharmed-reads i x (end-item h (J.all e t)) =
+  unharmed-reads i x (J.end-all h e t) =
       D.ends (same-sender s r (after r (ends (o .L))) l d 0) in-step h (ap bit e) t (well-in-step s r (r .taken) true l 0 1 refl)
-  unharmed-reads i x (end-item h (J.short e t)) =
+  unharmed-reads i x (J.end-short h e t) =
       D.wrong-length (same-sender s r (after r wrong-length) l d 0) in-step h (ap bit e) t
       (record { taken = refl; ended = refl; alarm = refl; danger = refl })
 

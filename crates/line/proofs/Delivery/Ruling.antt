@@ -10,9 +10,9 @@ use lib.ListN.{length}
 use Rattle.crc.specs.Bits.{Bits, bit}
 use Rattle.block.specs.Block.{syncBlock}
 use Rattle.block.proofs.Truth.{and-no}
-use Rattle.line.specs.Order.{longestOrder, mostItems, validLength, itemBits}
+use Rattle.line.specs.Order.{longestOrder, mostItems, validLength, itemCount, itemBits}
 use Rattle.line.specs.Sending.{Block, synchronising, item}
-use Rattle.line.specs.Receiving.{Rule, found, sync-block, check-fails, accepts, ends, anything-else, meaning, after, judge}
+use Rattle.line.specs.Receiving.{Rule, found, sync-block, check-fails, ends, anything-else, meaning, after, judge}
 use Rattle.line.specs.Course.{World}
 use Rattle.line.specs.Delivery.{isItem, reportsEnd}
 use Rattle.line.specs.declared.receiver.Receiver.{Receiver}
@@ -21,9 +21,9 @@ use Rattle.line.specs.declared.receiver.Event.the-variants as E
 use Rattle.line.proofs.Items.{itemCount-fits}
 use Rattle.line.proofs.Delivery.Ends.{LineBlock, Reads, During}
 use Rattle.line.proofs.Delivery.Ends as D
-use Rattle.line.proofs.Delivery.Invariant.{accepted-is}
+use Rattle.line.proofs.Delivery.Invariant.{neighbour}
 use Rattle.line.proofs.Delivery.Judging as J
-use Rattle.line.proofs.Delivery.Judging.{Unharmed, data-item, end-item, Judged, judged, judge-item, judge-fails, judge-sync}
+use Rattle.line.proofs.Delivery.Judging.{Unharmed, Judged, judged, judge-item, judge-fails, judge-sync}
 use Rattle.line.proofs.Delivery.Reading.{endsBlock, same-sender, well-in-step, unharmed-reads, fails-reads, other-reads}
 use Rattle.line.proofs.Delivery.State.{Session, N, Fit, alarmStands, endsOf, BusyLine, CopyOf, syncing, whole, damaged}
 use Rattle.line.proofs.Delivery.State as S
@@ -35,42 +35,16 @@ few o fit = itemCount-fits (o .k) (o .L) (fit .known)
 
 -- ---- an item as it was before cancelling
 
-module _ {k L r : ℕ} {ended : Bool} {i : ℕ} where
-  unharmed-ends : {x : Rule} → Unharmed k L r ended i x → endsBlock x ≡ true
-  unharmed-ends (data-item h (J.of-r e m)) = refl
-  unharmed-ends (data-item h (J.of-last e m)) = refl
-  unharmed-ends (data-item h (J.of-next m)) = refl
-  unharmed-ends (data-item h (J.of-none e a b c)) = refl
-  unharmed-ends (end-item h (J.again e)) = refl
-  unharmed-ends (end-item h (J.all e t)) = refl
-  unharmed-ends (end-item h (J.short e t)) = refl
-
-  unharmed-checked : {x : Rule} → Unharmed k L r ended i x → meaning x .checked ≡ true
-  unharmed-checked (data-item h (J.of-r e m)) = refl
-  unharmed-checked (data-item h (J.of-last e m)) = refl
-  unharmed-checked (data-item h (J.of-next m)) = refl
-  unharmed-checked (data-item h (J.of-none e a b c)) = refl
-  unharmed-checked (end-item h (J.again e)) = refl
-  unharmed-checked (end-item h (J.all e t)) = refl
-  unharmed-checked (end-item h (J.short e t)) = refl
-
-  unharmed-length : {x : Rule} → Unharmed k L r ended i x → (M : ℕ) → reportsEnd M (meaning x .event) ≡ true → M ≡ L
-  unharmed-length (data-item h (J.of-r e m)) M n = absurd (false≢true n)
-  unharmed-length (data-item h (J.of-last e m)) M n = absurd (false≢true n)
-  unharmed-length (data-item h (J.of-next m)) M n = absurd (false≢true n)
-  unharmed-length (data-item h (J.of-none e a b c)) M n = absurd (false≢true n)
-  unharmed-length (end-item h (J.again e)) M n = absurd (false≢true n)
-  unharmed-length (end-item h (J.all e t)) M n = sym (eqb-true L M n)
-  unharmed-length (end-item h (J.short e t)) M n = absurd (false≢true n)
-
-  unharmed-stores : {x : Rule} → Unharmed k L r ended i x → meaning x .stores ≡ true → x ≡ accepts
-  unharmed-stores (data-item h (J.of-r e m)) n = refl
-  unharmed-stores (data-item h (J.of-last e m)) n = absurd (false≢true n)
-  unharmed-stores (data-item h (J.of-next m)) n = absurd (false≢true n)
-  unharmed-stores (data-item h (J.of-none e a b c)) n = absurd (false≢true n)
-  unharmed-stores (end-item h (J.again e)) n = absurd (false≢true n)
-  unharmed-stores (end-item h (J.all e t)) n = absurd (false≢true n)
-  unharmed-stores (end-item h (J.short e t)) n = absurd (false≢true n)
+-- its rule ends the block with a passing check, reports no length but L, and stores no item but item r
+unharmed-facts : {k L r : ℕ} {ended : Bool} {i : ℕ} {x : Rule} → Unharmed k L r ended i x
+    → (endsBlock x ≡ true) × (meaning x .checked ≡ true) × ((M : ℕ) → reportsEnd M (meaning x .event) ≡ true → M ≡ L)
+    × (meaning x .stores ≡ true → (i ≡ r) × (i < itemCount k L))
+unharmed-facts (J.expected-item h e m) = (refl, refl, λ M n. absurd (false≢true n), λ n. (m, h))
+unharmed-facts (J.last-item h e m) = (refl, refl, λ M n. absurd (false≢true n), λ n. absurd (false≢true n))
+unharmed-facts (J.next-item h e m) = (refl, refl, λ M n. absurd (false≢true n), λ n. absurd (false≢true n))
+unharmed-facts (J.end-again h e) = (refl, refl, λ M n. absurd (false≢true n), λ n. absurd (false≢true n))
+unharmed-facts {L = L} (J.end-all h e t) = (refl, refl, λ M n. sym (eqb-true L M n), λ n. absurd (false≢true n))
+unharmed-facts (J.end-short h e t) = (refl, refl, λ M n. absurd (false≢true n), λ n. absurd (false≢true n))
 
 -- ---- the block on the line
 
@@ -141,7 +115,7 @@ module _ (o : Session) (fit : Fit o) (w : World) (l d : ℕ) (copy : Bits) (f : 
           ends-block = refl;
           reads =
               subst (λ (m : ℕ). ReadBy check-fails m f) (sym (not-good false (inl refl)))
-              (fails-reads o (w .sender) r l d (few o fit) step f n (during quiet .row));
+              (fails-reads o (w .sender) r l d step f n (during quiet .row));
           length = λ M n. absurd (false≢true n);
           takes = λ n. absurd (false≢true n);
           clean = λ a b. absurd (c a b);
@@ -153,7 +127,7 @@ module _ (o : Session) (fit : Fit o) (w : World) (l d : ℕ) (copy : Bits) (f : 
           ends-block = refl;
           reads =
               subst₂ (ReadBy anything-else) (sym (not-good true (inr z))) (sym q)
-              (other-reads o (w .sender) r l d (few o fit) step (during quiet .row));
+              (other-reads o (w .sender) r l d step (during quiet .row));
           length = λ M n. absurd (false≢true n);
           takes = λ n. absurd (false≢true n);
           clean = λ a b. absurd (c b);
@@ -181,32 +155,15 @@ module _ (o : Session) (fit : Fit o) (w : World) (l d : ℕ) (copy : Bits) (f : 
         (c : copy ≡ itemBits (o .k) (o .L) (o .content) i) where
       unharmed-read : (x : Rule) → Unharmed (o .k) (o .L) (r .taken) (r .ended) i x → Ruling x
       unharmed-read x a =
+          let u = unharmed-facts a in
+          let zero-danger : 0 ≡ danger-left x = sym (ap₂ (λ (y b : Bool). cond (y && b) 0 d) good (u .1)) in
           record {
-            ends-block = unharmed-ends a;
-            reads = reads;
-            length = unharmed-length a;
-            takes = takes;
+            ends-block = u .0;
+            reads = subst₂ (ReadBy x) zero-danger (sym q) (unharmed-reads o (w .sender) r l d step i x a);
+            length = u .2;
+            takes = λ n. let t = u .3 n in (i, c, t .0, t .1);
             clean = λ p y. absurd (not-sync q p);
           }
-        where
-          zero-danger : 0 ≡ danger-left x
-          zero-danger = sym (ap₂ (λ (y b : Bool). cond (y && b) 0 d) good (unharmed-checked a))
-
-          reads : ReadBy x (danger-left x) f
-          reads =
-              subst₂ (ReadBy x) zero-danger (sym q)
-              (unharmed-reads o (w .sender) r l d (few o fit) step i x a)
-
-          takes : meaning x .stores ≡ true → (j : ℕ) × (copy ≡ itemBits (o .k) (o .L) (o .content) j)
-              × (j ≡ r .taken) × (j < N o)
-          takes e =
-              let accepted =
-              subst (Reads (N o) (endsOf w l d) (S.ends (w .sender) (after r x) l (danger-left x)) f)
-              (ap (λ (y : Rule). meaning y .event) (unharmed-stores a e)) reads in
-              let t = accepted-is (line .busy) accepted (ap bit quiet) in
-              let u : f ≡ LineBlock.item (t .0) 1 = t .1 in
-              let v : i ≡ t .0 = cc in
-              (t .0, c ∙ ap (itemBits (o .k) (o .L) (o .content)) v, t .2, t .3)
 
     -- the rule of the block on the line, whatever it is, where sync comes only of a synchronising block and no
     -- synchronising block is read as data or end
@@ -220,7 +177,8 @@ module _ (o : Session) (fit : Fit o) (w : World) (l d : ℕ) (copy : Bits) (f : 
         go (whole {i = i} z c) q =
             unharmed-read i q (ap isItem z) c rule
             (subst (λ (y : Bits). Unharmed (o .k) (o .L) (r .taken) (r .ended) i (judge (o .k) (r .taken) (r .ended) y)) (sym c)
-            (judge-item (o .k) (o .L) (o .content) (fit .known) (fit .low) (fit .high) (fit .content) (r .taken) (r .ended) i))
+            (judge-item (o .k) (o .L) (o .content) (fit .known) (fit .low) (fit .high) (fit .content) (r .taken) (r .ended) i
+            (few o fit) (neighbour (rw q at (line .busy)) (ap bit quiet))))
         go (damaged {i = i} z p) q =
             ⊎-elim
             (λ y. absurd (not-item z (so (ap (λ (x : Rule). meaning x .event) y))))
