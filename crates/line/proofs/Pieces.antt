@@ -3,20 +3,9 @@ pub mod Search
 pub mod Step
 pub mod Reading
 pub mod Calls
-use mathlib.Core.Path.{refl, sym, _∙_}
-use mathlib.Core.Logic.{⊎-elim}
-use mathlib.Core.Bool.{true, false, true≢false}
-use Rattle.line.specs.Pieces.{reads, Pieces}
-use Rattle.line.proofs.Calling.{in-range}
-use Rattle.line.proofs.Pieces.Reading.{splits, onward-of}
-use Rattle.line.proofs.Pieces.Calls.{two, any}
+use Rattle.line.specs.Pieces.{Pieces}
+use Rattle.line.proofs.Pieces.Calls.{any}
 
 pub pieces : Pieces
-pieces =
-    record {
-      onward = λ s a b range array q. onward-of s (in-range s range) array a (reads s a) refl q .more b;
-      within = λ s a b range array q.
-          ⊎-elim (λ o. absurd (true≢false (sym (o .quiet) ∙ q))) (λ w. w .more b) (splits s (in-range s range) array a);
-      two = two;
-      any = any;
-    }
+unfolding Pieces
+pieces s store whole first further array = any s store array whole first further
