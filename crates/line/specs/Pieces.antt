@@ -37,7 +37,7 @@ call s store p =
     let answer = receive s (p .line) (p .count) store in
     record { answer = answer; store = receiveStore s store answer }
 
--- the bits used, with those that the calls before it used
+-- the bits used counted with those of the calls before
 abbrev pub addUsed : ℕ → Reading → Reading
 addUsed before x = record { rule = x .rule; row = x .row; used = before + x .used; state = x .state }
 
@@ -57,7 +57,7 @@ abbrev pub nextCalls : Outcome → List Piece → Outcome
 nextCalls y [] = y
 nextCalls y (p ∷ ps) = nextCalls (nextCall (y .answer) (y .store) p) ps
 
--- For every division of a call's bits, all of them there; a receiver's array has its length by its type.
+-- However a call's bits are divided among calls, none missing; a receiver's array has its length by its type.
 unfoldable pub Pieces : Type 0
 Pieces =
     (s : Receiver) (store : List ℕ) (whole first : Piece) (further : List Piece) → length (s .bits) ≡ arrayBytes

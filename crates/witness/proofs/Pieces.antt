@@ -28,13 +28,16 @@ searches = blank (freshReceiver 240) 0 true 2 false P.Search
 abbrev earlier : Bits
 earlier = drop 200 (block letterB) ++ take 20 (syncBlock 240)
 
+abbrev all : Piece
+all = record { line = bytesOf 40 (earlier ++ drop 20 (syncBlock 240)); count = 320 }
+
 -- found at the last bit
-pub search-split : call searches [] (record { line = bytesOf 40 (earlier ++ drop 20 (syncBlock 240)); count = 320 })
+pub search-split : call searches [] all
     ≡ record { answer = done (record { rule = found; row = []; used = 320; state = blank searches 0 false 2 false P.InStep }); store = [] }
 unfolding Pieces receive receiverInRange readings blockBits syncBlock check remainder number binary bitsOf bytesOf noBytes freshReceiver isLength
 search-split =
-    pieces searches [] (record { line = bytesOf 40 (earlier ++ drop 20 (syncBlock 240)); count = 320 })
-    (record { line = bytesOf 10 earlier; count = 80 }) (record { line = bytesOf 30 (drop 20 (syncBlock 240)); count = 240 } ∷ [])
+    pieces searches [] all (record { line = bytesOf 10 earlier; count = 80 })
+    (record { line = bytesOf 30 (drop 20 (syncBlock 240)); count = 240 } ∷ [])
     length-noBytes refl refl refl
 
 -- ---- in step: 100 bits of a data block, its other 160, and 40 bits of the block behind it, which are not looked at

@@ -1,19 +1,19 @@
 -- A block split anywhere, in step: what is held of it, and its row when it is complete. Assumes nothing.
 use mathlib.Core.Path.{_≡_, refl, ap, ap₂, sym, _∙_}
 use mathlib.Core.Logic.{⊎-elim}
-use mathlib.Core.Bool.{true, false, false≢true}
+use mathlib.Core.Bool.{true, false, _&&_}
 use mathlib.Core.List.{List, [], _++_, append-assoc}
 use native.Mathlib.Omega.{arith}
 use Prim.Native.Nat.{ℕ, _+_, _*_, _≤_, _<_}
 use lib.Dec.{ltb}
 use lib.ListN.{length, take, drop, length-append}
 use lib.Seq.{take-append-le, take-append-add, drop-drop}
-use borrow.Author.Tests.{ltb-true, ltb-false, lt-ltb}
+use borrow.Author.Tests.{ltb-true, ltb-false}
 use Rattle.crc.specs.Bits.{Bits, bitsOf, bytesOf}
 use Rattle.crc.proofs.Bytes.{length-bitsOf}
 use Rattle.block.specs.Lengths.{isLength}
 use Rattle.block.proofs.Lengths.{length-facts}
-use Rattle.line.specs.Receiving.{arrayBytes, Rule, unfinished, standing, found, sync-block, check-fails, accepts, previous, out-of-sequence, ends, wrong-length, ends-again, anything-else, meaning, judge, heldBits, Reading, stops, overwrite, holding, missing, finishedRow, inStep}
+use Rattle.line.specs.Receiving.{arrayBytes, Rule, unfinished, standing, found, sync-block, check-fails, accepts, previous, out-of-sequence, ends, wrong-length, ends-again, anything-else, meaning, judge, heldBits, stops, overwrite, holding, missing, finishedRow, inStep}
 use Rattle.line.specs.Pieces.{addUsed}
 use Rattle.line.specs.declared.receiver.Receiver.{Receiver}
 use Rattle.line.proofs.Stepping.{step-on, step-done}
@@ -108,23 +108,23 @@ step-within s a b h =
     ∙ sym (step-done s a h)
 
 -- a rule that uses all bits stores nothing, and reads no block
-pub quiet-rule : (x : Rule) → meaning x .uses-all ≡ true → (meaning x .stores ≡ false) × (meaning x .data-or-end ≡ false)
-quiet-rule unfinished e = (refl, refl)
-quiet-rule (standing alarm) e = (refl, refl)
-quiet-rule found e = absurd (false≢true e)
-quiet-rule sync-block e = absurd (false≢true e)
-quiet-rule check-fails e = absurd (false≢true e)
-quiet-rule accepts e = absurd (false≢true e)
-quiet-rule previous e = absurd (false≢true e)
-quiet-rule out-of-sequence e = absurd (false≢true e)
-quiet-rule (ends L) e = absurd (false≢true e)
-quiet-rule wrong-length e = absurd (false≢true e)
-quiet-rule ends-again e = absurd (false≢true e)
-quiet-rule anything-else e = absurd (false≢true e)
+pub quiet-rule : (x : Rule)
+    → (meaning x .uses-all && meaning x .stores ≡ false) × (meaning x .data-or-end && meaning x .uses-all ≡ false)
+quiet-rule unfinished = (refl, refl)
+quiet-rule (standing alarm) = (refl, refl)
+quiet-rule found = (refl, refl)
+quiet-rule sync-block = (refl, refl)
+quiet-rule check-fails = (refl, refl)
+quiet-rule accepts = (refl, refl)
+quiet-rule previous = (refl, refl)
+quiet-rule out-of-sequence = (refl, refl)
+quiet-rule (ends L) = (refl, refl)
+quiet-rule wrong-length = (refl, refl)
+quiet-rule ends-again = (refl, refl)
+quiet-rule anything-else = (refl, refl)
 
 pub judged-event : {x : Rule} → Judged x → meaning x .uses-all ≡ false
 judged-event as-sync = refl
 judged-event fails = refl
-judged-event {x} (as-data h) =
-    ⊎-elim (λ q. absurd (false≢true (sym (quiet-rule x q .1) ∙ h))) (λ q. q) (either (meaning x .uses-all))
+judged-event {x} (as-data h) = rw h at (quiet-rule x .1)
 judged-event as-other = refl
