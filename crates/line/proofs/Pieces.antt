@@ -3,20 +3,27 @@ pub mod Search
 pub mod Step
 pub mod Reading
 pub mod Calls
-use mathlib.Core.Path.{refl, sym, _∙_}
-use mathlib.Core.Logic.{⊎-elim}
-use mathlib.Core.Bool.{true, false, true≢false}
-use Rattle.line.specs.Pieces.{reads, Pieces}
-use Rattle.line.proofs.Calling.{in-range}
-use Rattle.line.proofs.Pieces.Reading.{splits, onward-of}
-use Rattle.line.proofs.Pieces.Calls.{two, any}
+use mathlib.Core.Path.{_≡_, ap, sym, _∙_}
+use native.Mathlib.Omega.{arith}
+use Prim.Native.Nat.{_*_}
+use lib.ListN.{length, length-take}
+use borrow.Author.Tests.{ltb-false}
+use Rattle.crc.specs.Bits.{bitsOf}
+use Rattle.crc.proofs.Bytes.{length-bitsOf}
+use Rattle.line.specs.Pieces.{lent, joined, total, Outcome, nextCalls, Pieces}
+use Rattle.line.proofs.Pieces.Calls.{Full, outcome, rowAnswer, receive-row, full-rest, next-calls}
 
 pub pieces : Pieces
-pieces =
-    record {
-      onward = λ s a b range array q. onward-of s (in-range s range) array a (reads s a) refl q .more b;
-      within = λ s a b range array q.
-          ⊎-elim (λ o. absurd (true≢false (sym (o .quiet) ∙ q))) (λ w. w .more b) (splits s (in-range s range) array a);
-      two = two;
-      any = any;
-    }
+unfolding Pieces
+pieces s store whole first further array enough counts bits =
+    ap (outcome s store) (receive-row s store whole full ∙ ap (rowAnswer s store) bits)
+    ∙ next-calls s store array further (lent first) (parts .1)
+    ∙ ap (λ (y : Outcome). nextCalls y further) (ap (outcome s store) (sym (receive-row s store first (parts .0))))
+  where
+    full : Full whole
+    full =
+        let n = ltb-false (8 * length (whole .line)) (whole .count) enough in
+        omega (arith, length-take (whole .count) (bitsOf (whole .line)), length-bitsOf (whole .line))
+
+    parts : Full first × (length (joined further) ≡ total further)
+    parts = full-rest first further (ap length (sym bits) ∙ full ∙ counts)

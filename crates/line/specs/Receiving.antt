@@ -80,31 +80,31 @@ pub data Rule : Type 0 where
   ends-again : Rule  -- rule 6, the end already taken
   anything-else : Rule  -- rule 7
 
--- what a rule comes to: its event; whether the data go to the store; whether rules 3 to 6 read the block; whether the
--- block was read in step with a passing check
+-- what a rule comes to
 pub record Meaning : Type 0 where
   pub event : Event
-  pub stores : Bool
-  pub data-or-end : Bool
-  pub checked : Bool
+  pub uses-all : Bool  -- all bits are used: without an event, or under an alarm that stood before the call
+  pub stores : Bool  -- the data go to the store
+  pub data-or-end : Bool  -- rules 3 to 6 read the block
+  pub checked : Bool  -- the block was read in step with a passing check
 
-abbrev pub meant : Event → Bool → Bool → Bool → Meaning
-meant event stores data-or-end checked =
-    record { event = event; stores = stores; data-or-end = data-or-end; checked = checked }
+abbrev pub meant : Event → Bool → Bool → Bool → Bool → Meaning
+meant event uses-all stores data-or-end checked =
+    record { event = event; uses-all = uses-all; stores = stores; data-or-end = data-or-end; checked = checked }
 
 abbrev pub meaning : Rule → Meaning
-meaning unfinished = meant E.None false false false
-meaning (standing alarm) = meant alarm false false false
-meaning found = meant E.Sync false false false
-meaning sync-block = meant E.Sync false false false
-meaning check-fails = meant E.Bad false false false
-meaning accepts = meant E.Accepted true true true
-meaning previous = meant E.Previous false true true
-meaning out-of-sequence = meant E.SequenceAlarm false true true
-meaning (ends L) = meant (E.Ended L) false true true
-meaning wrong-length = meant E.LengthAlarm false true true
-meaning ends-again = meant E.Previous false true true
-meaning anything-else = meant E.Bad false false true
+meaning unfinished = meant E.None true false false false
+meaning (standing alarm) = meant alarm true false false false
+meaning found = meant E.Sync false false false false
+meaning sync-block = meant E.Sync false false false false
+meaning check-fails = meant E.Bad false false false false
+meaning accepts = meant E.Accepted false true true true
+meaning previous = meant E.Previous false false true true
+meaning out-of-sequence = meant E.SequenceAlarm false false true true
+meaning (ends L) = meant (E.Ended L) false false true true
+meaning wrong-length = meant E.LengthAlarm false false true true
+meaning ends-again = meant E.Previous false false true true
+meaning anything-else = meant E.Bad false false false true
 
 -- ---- in step, at each n-th bit: k, the items taken and whether the end is, and the row of n bits
 

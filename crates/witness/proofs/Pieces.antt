@@ -10,8 +10,8 @@ use Rattle.block.specs.Answer.{done}
 use Rattle.block.specs.Lengths.{isLength}
 use Rattle.block.specs.Block.{blockBits, verdict, syncBlock}
 use Rattle.line.specs.Order.{letter, letterA, letterB, isLetter}
-use Rattle.line.specs.Receiving.{freshReceiver, noBytes, unfinished, found, accepts, place, serviceRule, looksSync, judge, blank, Reading, searching, inStep, readings, receiverInRange, receive, storeAt}
-use Rattle.line.specs.Pieces.{Piece, call}
+use Rattle.line.specs.Receiving.{freshReceiver, noBytes, found, accepts, place, serviceRule, looksSync, judge, blank, inStep, readings, receiverInRange, receive, storeAt}
+use Rattle.line.specs.Pieces.{Piece, call, Pieces}
 use Rattle.line.specs.declared.receiver.Receiver.{Receiver}
 use Rattle.line.specs.declared.receiver.Phase.the-variants as P
 use Rattle.line.proofs.Delivery.Holding.{length-noBytes}
@@ -28,23 +28,17 @@ searches = blank (freshReceiver 240) 0 true 2 false P.Search
 abbrev earlier : Bits
 earlier = drop 200 (block letterB) ++ take 20 (syncBlock 240)
 
-abbrev window : Bits
-window = drop 65 earlier
-
-abbrev passed : Reading
-passed = record { rule = unfinished; row = []; used = 80; state = searching searches window }
-
-abbrev all : List ℕ
-all = bytesOf 40 (earlier ++ drop 20 (syncBlock 240))
-
-abbrev rest : List ℕ
-rest = bytesOf 30 (drop 20 (syncBlock 240))
+abbrev all : Piece
+all = record { line = bytesOf 40 (earlier ++ drop 20 (syncBlock 240)); count = 320 }
 
 -- found at the last bit
-pub search-split : receive searches all 320 []
-    ≡ done (record { rule = found; row = []; used = 320; state = blank searches 0 false 2 false P.InStep })
-unfolding receive receiverInRange readings blockBits syncBlock check remainder number binary bitsOf bytesOf noBytes freshReceiver isLength
-search-split = pieces .two searches [] (bytesOf 10 earlier) rest all 80 240 passed length-noBytes refl refl refl
+pub search-split : call searches [] all
+    ≡ record { answer = done (record { rule = found; row = []; used = 320; state = blank searches 0 false 2 false P.InStep }); store = [] }
+unfolding Pieces receive receiverInRange readings blockBits syncBlock check remainder number binary bitsOf bytesOf noBytes freshReceiver isLength
+search-split =
+    pieces searches [] all (record { line = bytesOf 10 earlier; count = 80 })
+    (record { line = bytesOf 30 (drop 20 (syncBlock 240)); count = 240 } ∷ [])
+    length-noBytes refl refl refl
 
 -- ---- in step: 100 bits of a data block, its other 160, and 40 bits of the block behind it, which are not looked at
 
@@ -60,14 +54,14 @@ further =
     ∷ record { line = bytesOf 5 (take 40 (block letterB)); count = 40 }
     ∷ []
 
-abbrev joint : List ℕ
-joint = bytesOf 38 (block letterA ++ take 40 (block letterB))
+abbrev joint : Piece
+joint = record { line = bytesOf 38 (block letterA ++ take 40 (block letterB)); count = 300 }
 
 -- accepted and stored at the block's last bit
-pub step-split : call stepping (replicate 30 255) (record { line = joint; count = 300 })
+pub step-split : call stepping (replicate 30 255) joint
     ≡ record {
       answer = done (record { rule = accepts; row = block letterA; used = 260; state = blank stepping 0 false 1 false P.InStep });
       store = replicate 30 0;
     }
-unfolding receive receiverInRange readings inStep judge looksSync verdict passes remainder check blockBits serviceRule place letter isLetter number binary bitsOf bytesOf noBytes freshReceiver isLength storeAt
-step-split = pieces .any stepping (replicate 30 255) joint first further length-noBytes refl refl
+unfolding Pieces receive receiverInRange readings inStep judge looksSync verdict passes remainder check blockBits serviceRule place letter isLetter number binary bitsOf bytesOf noBytes freshReceiver isLength storeAt
+step-split = pieces stepping (replicate 30 255) joint first further length-noBytes refl refl refl

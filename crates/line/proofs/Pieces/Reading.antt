@@ -1,7 +1,7 @@
 -- What a call reads is what its first bits come to and then the others, in every phase. Assumes nothing.
 use mathlib.Core.Path.{_≡_, refl, ap, ap₂, sym, _∙_, subst}
 use mathlib.Core.Logic.{_⊎_, inl, inr, ⊎-elim}
-use mathlib.Core.Bool.{Bool, true, false, _&&_, true≢false}
+use mathlib.Core.Bool.{Bool, true, false, _&&_}
 use mathlib.Core.List.{[], _∷_, _++_, append-nil}
 use native.Mathlib.Omega.{arith}
 use Prim.Native.Nat.{ℕ, _+_, _≤_, _<_}
@@ -11,8 +11,8 @@ use borrow.Author.Tests.{ltb-true, ltb-false, lt-ltb, le-leb}
 use Rattle.crc.specs.Bits.{Bits}
 use Rattle.block.specs.Lengths.{blockLength}
 use Rattle.line.specs.Order.{mostItems}
-use Rattle.line.specs.Receiving.{arrayBytes, lastBad, Rule, standing, heldBits, Reading, searching, search, holding, missing, finishedRow, inStep, stands, stood, reading, idleRule, idle, readings, heldInRange, receiverInRange}
-use Rattle.line.specs.Pieces.{usesAll, reads, later}
+use Rattle.line.specs.Receiving.{arrayBytes, lastBad, Rule, standing, meaning, heldBits, Reading, searching, search, holding, missing, finishedRow, inStep, stands, stood, reading, idleRule, idle, readings, heldInRange, receiverInRange}
+use Rattle.line.specs.Pieces.{addUsed}
 use Rattle.line.specs.declared.receiver.Receiver.{Receiver}
 use Rattle.line.specs.declared.receiver.Phase.{Phase}
 use Rattle.line.specs.declared.receiver.Phase.the-variants as P
@@ -22,23 +22,26 @@ use Rattle.line.proofs.Stepping.{held-on, step-on, step-done}
 use Rattle.line.proofs.Calling.{InRange, held-search, readings-some}
 use Rattle.block.proofs.Truth.{either}
 use Rattle.line.proofs.Delivery.Judging.{judged}
-use Rattle.line.proofs.Delivery.Holding.{length-heldBits, length-holding, length-searching, heldBits-searching}
-use Rattle.line.proofs.Pieces.Search.{Passed, Found, unfound, search-splits, search-later}
-use Rattle.line.proofs.Pieces.Step.{step-later, step-within, judged-event}
+use Rattle.line.proofs.Delivery.Holding.{length-heldBits, heldBits-searching}
+use Rattle.line.proofs.Pieces.Search.{Passed, Found, unfound, search-splits, search-addUsed}
+use Rattle.line.proofs.Pieces.Step.{step-addUsed, step-within, judged-event}
+
+-- what a call reads that is lent these bits
+abbrev pub reads : Receiver → Bits → Reading
+reads s new = readings s new (length new)
 
 -- all of a's bits are used, and further bits are read from the state then
 pub record Onward (s : Receiver) (a : Bits) (x : Reading) : Type 0 where
-  pub quiet : usesAll (x .rule) ≡ true
+  pub quiet : meaning (x .rule) .uses-all ≡ true
   pub used : x .used ≡ length a
   pub range : receiverInRange (x .state) ≡ true
-  pub array : length (x .state .bits) ≡ arrayBytes
   pub k : x .state .setup .k ≡ s .setup .k
   pub taken : x .state .taken ≡ s .taken
-  pub more : (b : Bits) → reads s (a ++ b) ≡ later (length a) (reads (x .state) b)
+  pub more : (b : Bits) → reads s (a ++ b) ≡ addUsed (length a) (reads (x .state) b)
 
 -- an event comes within a
 pub record Within (s : Receiver) (a : Bits) (x : Reading) : Type 0 where
-  pub event : usesAll (x .rule) ≡ false
+  pub event : meaning (x .rule) .uses-all ≡ false
   pub more : (b : Bits) → reads s (a ++ b) ≡ x
 
 abbrev pub Splits : Receiver → Bits → Reading → Type 0
@@ -56,7 +59,7 @@ reads-none : (s : Receiver) → reads s [] ≡ idle s
 unfolding readings
 reads-none s = refl
 
-idle-uses-all : (p : Phase) → usesAll (idleRule p) ≡ true
+idle-uses-all : (p : Phase) → meaning (idleRule p) .uses-all ≡ true
 idle-uses-all P.Search = refl
 idle-uses-all P.InStep = refl
 idle-uses-all P.SequenceAlarm = refl
@@ -69,7 +72,6 @@ module _ (s : Receiver) (r : InRange s) (array : length (s .bits) ≡ arrayBytes
         quiet = idle-uses-all (s .phase);
         used = refl;
         range = range-in s r;
-        array = array;
         k = refl;
         taken = refl;
         more = λ b. ap (λ (n : ℕ). record { rule = reads s b .rule; row = reads s b .row; used = n; state = reads s b .state }) (omega arith);
@@ -87,14 +89,14 @@ module _ (s : Receiver) (r : InRange s) (array : length (s .bits) ≡ arrayBytes
         splits = search-splits s (heldBits s) a 0
             (omega (arith, held-search s r e, length-heldBits s array (omega (arith, held-search s r e))))
 
-        behind : (w : Bits) → length w ≤ 15 → (b : Bits) → search s w b (0 + length a) ≡ later (length a) (reads (searching s w) b)
+        behind : (w : Bits) → length w ≤ 15 → (b : Bits) → search s w b (0 + length a) ≡ addUsed (length a) (reads (searching s w) b)
         behind w h [] = ap₂ (λ (x : Rule) (n : ℕ). record { rule = x; row = []; used = n; state = searching s w })
             (ap idleRule (sym e)) (omega arith)
-            ∙ ap (later (length a)) (sym (reads-none (searching s w)))
+            ∙ ap (addUsed (length a)) (sym (reads-none (searching s w)))
         behind w h (d ∷ b) =
             ap (search s w (d ∷ b)) (omega arith)
-            ∙ search-later s w w (d ∷ b) (length a) 0
-            ∙ ap (later (length a))
+            ∙ search-addUsed s w w (d ∷ b) (length a) 0
+            ∙ ap (addUsed (length a))
             (ap (λ (v : Bits). search (searching s w) v (d ∷ b) 0) (sym (heldBits-searching s w h))
             ∙ sym (reads-some (searching s w) P.Search e d b))
 
@@ -110,7 +112,6 @@ module _ (s : Receiver) (r : InRange s) (array : length (s .bits) ≡ arrayBytes
                 held = ap (λ (q : Phase). heldInRange q (blockLength (s .setup .k)) (length (p .then))) e
                     ∙ le-leb (length (p .then)) 15 (p .short);
               });
-              array = length-searching s (p .then) array;
               k = refl;
               taken = refl;
               more = λ b. reads-some s P.Search e c (cs ++ b) ∙ p .more b ∙ behind (p .then) (p .short) b;
@@ -124,20 +125,20 @@ module _ (s : Receiver) (r : InRange s) (array : length (s .bits) ≡ arrayBytes
         complete : missing s ≤ length a → Within s a (inStep s a)
         complete h =
             record {
-              event = ap (λ (x : Reading). usesAll (x .rule)) (step-done s a h)
+              event = ap (λ (x : Reading). meaning (x .rule) .uses-all) (step-done s a h)
                   ∙ judged-event (judged (s .setup .k) (s .taken) (s .ended) (finishedRow s a));
               more = λ b. reads-some s P.InStep e c (cs ++ b) ∙ step-within s a b h;
             }
 
-        behind : length a < missing s → (b : Bits) → inStep s (a ++ b) ≡ later (length a) (reads (holding s a) b)
+        behind : length a < missing s → (b : Bits) → inStep s (a ++ b) ≡ addUsed (length a) (reads (holding s a) b)
         behind h [] =
             let n : length a ≡ length a + 0 = omega arith in
             ap (inStep s) (append-nil a) ∙ step-on s a h
             ∙ ap₂ (λ (x : Rule) (m : ℕ). record { rule = x; row = []; used = m; state = holding s a }) (ap idleRule (sym e)) n
-            ∙ ap (later (length a)) (sym (reads-none (holding s a)))
+            ∙ ap (addUsed (length a)) (sym (reads-none (holding s a)))
         behind h (d ∷ b) =
-            step-later s array (r .known) a h (d ∷ b)
-            ∙ ap (later (length a)) (sym (reads-some (holding s a) P.InStep e d b))
+            step-addUsed s array (r .known) a h (d ∷ b)
+            ∙ ap (addUsed (length a)) (sym (reads-some (holding s a) P.InStep e d b))
 
         held : length a < missing s → Onward s a (held-on s a)
         held h =
@@ -151,7 +152,6 @@ module _ (s : Receiver) (r : InRange s) (array : length (s .bits) ≡ arrayBytes
                 held = ap (λ (q : Phase). heldInRange q (blockLength (s .setup .k)) (s .held + length a)) e
                     ∙ lt-ltb (s .held + length a) (blockLength (s .setup .k)) (omega arith);
               });
-              array = length-holding s a;
               k = refl;
               taken = refl;
               more = λ b. reads-some s P.InStep e c (cs ++ b) ∙ behind h b;
@@ -170,11 +170,10 @@ module _ (s : Receiver) (r : InRange s) (array : length (s .bits) ≡ arrayBytes
             taken = r .taken;
             held = r .held;
           });
-          array = array;
           k = refl;
           taken = refl;
           more = λ b. reads-some s p e c (cs ++ b) ∙ st s (a ++ b)
-              ∙ ap (stood s alarm) (length-append a b) ∙ ap (later (length a)) (sym (behind b));
+              ∙ ap (stood s alarm) (length-append a b) ∙ ap (addUsed (length a)) (sym (behind b));
         }
       where
         behind : (b : Bits) → reads (stands s) b ≡ stood s alarm (length b)
@@ -190,10 +189,3 @@ module _ (s : Receiver) (r : InRange s) (array : length (s .bits) ≡ arrayBytes
 pub splits : (s : Receiver) → InRange s → length (s .bits) ≡ arrayBytes → (a : Bits) → Splits s a (reads s a)
 splits s r array [] = inl (subst (Onward s []) (sym (reads-none s)) (none s r array))
 splits s r array (c ∷ cs) = subst (Splits s (c ∷ cs)) (sym (reads-some s (s .phase) refl c cs)) (by-phase s r array c cs (s .phase) refl)
-
-pub onward-of : (s : Receiver) → InRange s → length (s .bits) ≡ arrayBytes → (a : Bits) (x : Reading) → reads s a ≡ x
-    → usesAll (x .rule) ≡ true → Onward s a x
-onward-of s r array a x e q =
-    ⊎-elim (λ o. subst (Onward s a) e o)
-    (λ w. absurd (true≢false (sym (ap (λ (y : Reading). usesAll (y .rule)) e ∙ q) ∙ w .event)))
-    (splits s r array a)

@@ -9,8 +9,8 @@ use lib.ListN.{length, drop}
 use lib.Seq.{drop-at}
 use Rattle.crc.specs.Bits.{Bits, bytesOf}
 use Rattle.crc.proofs.Bytes.{length-bytesOf}
-use Rattle.line.specs.Receiving.{unfinished, found, Reading, stops, latest, searching, isSequence, search}
-use Rattle.line.specs.Pieces.{usesAll, later}
+use Rattle.line.specs.Receiving.{unfinished, found, meaning, Reading, stops, latest, searching, isSequence, search}
+use Rattle.line.specs.Pieces.{addUsed}
 use Rattle.line.specs.declared.receiver.Receiver.{Receiver}
 use Rattle.line.proofs.Delivery.Scanning.{length-latest}
 
@@ -41,7 +41,7 @@ module _ (s : Receiver) where
 
   -- ... or it is
   pub record Found (window a : Bits) (used : ℕ) : Type 0 where
-    pub event : usesAll (search s window a used .rule) ≡ false
+    pub event : meaning (search s window a used .rule) .uses-all ≡ false
     pub more : (b : Bits) → search s window (a ++ b) used ≡ search s window a used
 
   pub search-splits : (window a : Bits) (used : ℕ) → length window ≤ 15 → Passed window a used ⊎ Found window a used
@@ -72,7 +72,7 @@ module _ (s : Receiver) where
           → Passed window (c ∷ a) used ⊎ Found window (c ∷ a) used
       go true e r =
           inr (record {
-            event = ap (λ (x : Reading). usesAll (x .rule)) (at e a);
+            event = ap (λ (x : Reading). meaning (x .rule) .uses-all) (at e a);
             more = λ b. at e (a ++ b) ∙ sym (at e a);
           })
       go false e (inl r) =
@@ -84,24 +84,24 @@ module _ (s : Receiver) where
           })
       go false e (inr r) =
           inr (record {
-            event = ap (λ (x : Reading). usesAll (x .rule)) (on e a) ∙ r .event;
+            event = ap (λ (x : Reading). meaning (x .rule) .uses-all) (on e a) ∙ r .event;
             more = λ b. on e (a ++ b) ∙ r .more b ∙ sym (on e a);
           })
 
   -- from the state that holds an earlier window, with fewer bits used
-  pub search-later : (earlier window b : Bits) (m n : ℕ)
-      → search s window b (m + n) ≡ later m (search (searching s earlier) window b n)
-  search-later earlier window [] m n =
+  pub search-addUsed : (earlier window b : Bits) (m n : ℕ)
+      → search s window b (m + n) ≡ addUsed m (search (searching s earlier) window b n)
+  search-addUsed earlier window [] m n =
       ap (λ (t : Receiver). record { rule = unfinished; row = []; used = m + n; state = t }) (sym (searching-again s earlier window))
-  search-later earlier window (c ∷ b) m n =
+  search-addUsed earlier window (c ∷ b) m n =
       go (isSequence (window ++ (c ∷ []))) (search s (latest (window ++ (c ∷ []))) b (suc (m + n)))
       (search (searching s earlier) (latest (window ++ (c ∷ []))) b (suc n))
-      (ap (search s (latest (window ++ (c ∷ []))) b) e ∙ search-later earlier (latest (window ++ (c ∷ []))) b m (suc n))
+      (ap (search s (latest (window ++ (c ∷ []))) b) e ∙ search-addUsed earlier (latest (window ++ (c ∷ []))) b m (suc n))
     where
       e : suc (m + n) ≡ m + suc n
       e = omega arith
 
-      go : (t : Bool) (x y : Reading) → x ≡ later m y
-          → cond t (stops s found [] (suc (m + n))) x ≡ later m (cond t (stops (searching s earlier) found [] (suc n)) y)
+      go : (t : Bool) (x y : Reading) → x ≡ addUsed m y
+          → cond t (stops s found [] (suc (m + n))) x ≡ addUsed m (cond t (stops (searching s earlier) found [] (suc n)) y)
       go true x y q = ap (stops s found []) e
       go false x y q = q

@@ -1,20 +1,20 @@
 -- A block split anywhere, in step: what is held of it, and its row when it is complete. Assumes nothing.
 use mathlib.Core.Path.{_≡_, refl, ap, ap₂, sym, _∙_}
 use mathlib.Core.Logic.{⊎-elim}
-use mathlib.Core.Bool.{true, false, false≢true}
+use mathlib.Core.Bool.{true, false, _&&_}
 use mathlib.Core.List.{List, [], _++_, append-assoc}
 use native.Mathlib.Omega.{arith}
 use Prim.Native.Nat.{ℕ, _+_, _*_, _≤_, _<_}
 use lib.Dec.{ltb}
 use lib.ListN.{length, take, drop, length-append}
 use lib.Seq.{take-append-le, take-append-add, drop-drop}
-use borrow.Author.Tests.{ltb-true, ltb-false, lt-ltb}
+use borrow.Author.Tests.{ltb-true, ltb-false}
 use Rattle.crc.specs.Bits.{Bits, bitsOf, bytesOf}
 use Rattle.crc.proofs.Bytes.{length-bitsOf}
 use Rattle.block.specs.Lengths.{isLength}
 use Rattle.block.proofs.Lengths.{length-facts}
-use Rattle.line.specs.Receiving.{arrayBytes, Rule, unfinished, standing, found, sync-block, check-fails, accepts, previous, out-of-sequence, ends, wrong-length, ends-again, anything-else, meaning, judge, heldBits, Reading, stops, overwrite, holding, missing, finishedRow, inStep}
-use Rattle.line.specs.Pieces.{usesAll, later}
+use Rattle.line.specs.Receiving.{arrayBytes, Rule, unfinished, standing, found, sync-block, check-fails, accepts, previous, out-of-sequence, ends, wrong-length, ends-again, anything-else, meaning, judge, heldBits, stops, overwrite, holding, missing, finishedRow, inStep}
+use Rattle.line.specs.Pieces.{addUsed}
 use Rattle.line.specs.declared.receiver.Receiver.{Receiver}
 use Rattle.line.proofs.Stepping.{step-on, step-done}
 use Rattle.block.proofs.Truth.{either}
@@ -76,18 +76,18 @@ module _ (s : Receiver) (array : length (s .bits) ≡ arrayBytes) (known : isLen
   room : s .held + length a ≤ 3864
   room = omega (arith, length-facts (s .setup .k) known)
 
-  pub step-later : (b : Bits) → inStep s (a ++ b) ≡ later (length a) (inStep (holding s a) b)
-  step-later b = ⊎-elim (λ t. on (ltb-true (length b) (missing (holding s a)) t))
+  pub step-addUsed : (b : Bits) → inStep s (a ++ b) ≡ addUsed (length a) (inStep (holding s a) b)
+  step-addUsed b = ⊎-elim (λ t. on (ltb-true (length b) (missing (holding s a)) t))
       (λ t. complete (ltb-false (length b) (missing (holding s a)) t)) (either (ltb (length b) (missing (holding s a))))
     where
-      on : length b < missing (holding s a) → inStep s (a ++ b) ≡ later (length a) (inStep (holding s a) b)
+      on : length b < missing (holding s a) → inStep s (a ++ b) ≡ addUsed (length a) (inStep (holding s a) b)
       on l =
           step-on s (a ++ b) (omega (arith, length-append a b))
           ∙ ap₂ (λ (n : ℕ) (t : Receiver). record { rule = unfinished; row = []; used = n; state = t })
           (length-append a b) (sym (holding-again s array a room b))
-          ∙ ap (later (length a)) (sym (step-on (holding s a) b l))
+          ∙ ap (addUsed (length a)) (sym (step-on (holding s a) b l))
 
-      complete : missing (holding s a) ≤ length b → inStep s (a ++ b) ≡ later (length a) (inStep (holding s a) b)
+      complete : missing (holding s a) ≤ length b → inStep s (a ++ b) ≡ addUsed (length a) (inStep (holding s a) b)
       complete l =
           let n : missing s ≡ length a + missing (holding s a) = omega arith in
           let row : Bits = finishedRow (holding s a) b in
@@ -97,7 +97,7 @@ module _ (s : Receiver) (array : length (s .bits) ≡ arrayBytes) (known : isLen
           (sym (finishedRow-again s array a room b (omega arith))) n
           ∙ ap (λ (t : Receiver). record { rule = rule; row = row; used = length a + missing (holding s a); state = t })
           (sym (after-holding s a (judged (s .setup .k) (s .taken) (s .ended) row)))
-          ∙ ap (later (length a)) (sym (step-done (holding s a) b l))
+          ∙ ap (addUsed (length a)) (sym (step-done (holding s a) b l))
 
 -- a block is complete, and bits behind it change nothing
 pub step-within : (s : Receiver) (a b : Bits) → missing s ≤ length a → inStep s (a ++ b) ≡ inStep s a
@@ -108,23 +108,23 @@ step-within s a b h =
     ∙ sym (step-done s a h)
 
 -- a rule that uses all bits stores nothing, and reads no block
-pub quiet-rule : (x : Rule) → usesAll x ≡ true → (meaning x .stores ≡ false) × (meaning x .data-or-end ≡ false)
-quiet-rule unfinished e = (refl, refl)
-quiet-rule (standing alarm) e = (refl, refl)
-quiet-rule found e = absurd (false≢true e)
-quiet-rule sync-block e = absurd (false≢true e)
-quiet-rule check-fails e = absurd (false≢true e)
-quiet-rule accepts e = absurd (false≢true e)
-quiet-rule previous e = absurd (false≢true e)
-quiet-rule out-of-sequence e = absurd (false≢true e)
-quiet-rule (ends L) e = absurd (false≢true e)
-quiet-rule wrong-length e = absurd (false≢true e)
-quiet-rule ends-again e = absurd (false≢true e)
-quiet-rule anything-else e = absurd (false≢true e)
+pub quiet-rule : (x : Rule)
+    → (meaning x .uses-all && meaning x .stores ≡ false) × (meaning x .data-or-end && meaning x .uses-all ≡ false)
+quiet-rule unfinished = (refl, refl)
+quiet-rule (standing alarm) = (refl, refl)
+quiet-rule found = (refl, refl)
+quiet-rule sync-block = (refl, refl)
+quiet-rule check-fails = (refl, refl)
+quiet-rule accepts = (refl, refl)
+quiet-rule previous = (refl, refl)
+quiet-rule out-of-sequence = (refl, refl)
+quiet-rule (ends L) = (refl, refl)
+quiet-rule wrong-length = (refl, refl)
+quiet-rule ends-again = (refl, refl)
+quiet-rule anything-else = (refl, refl)
 
-pub judged-event : {x : Rule} → Judged x → usesAll x ≡ false
+pub judged-event : {x : Rule} → Judged x → meaning x .uses-all ≡ false
 judged-event as-sync = refl
 judged-event fails = refl
-judged-event {x} (as-data h) =
-    ⊎-elim (λ q. absurd (false≢true (sym (quiet-rule x q .1) ∙ h))) (λ q. q) (either (usesAll x))
+judged-event {x} (as-data h) = rw h at (quiet-rule x .1)
 judged-event as-other = refl
