@@ -64,6 +64,20 @@ pub data Entry : Type 0 where
   sent : Sent → Entry
   heard : Heard → Entry
 
+-- `f` of a sending call that is not refused; of every other entry, `other`
+abbrev pub onSent {ℓ} : {A : Type ℓ} → A → (Sent → A) → Entry → A
+onSent other f (send-refused n) = other
+onSent other f (receive-refused n) = other
+onSent other f (sent x) = f x
+onSent other f (heard y) = other
+
+-- `f` of a receiving call that is not refused; of every other entry, `other`
+abbrev pub onHeard {ℓ} : {A : Type ℓ} → A → (Heard → A) → Entry → A
+onHeard other f (send-refused n) = other
+onHeard other f (receive-refused n) = other
+onHeard other f (sent x) = other
+onHeard other f (heard y) = f y
+
 abbrev pub sendEntry : World → List ℕ → Bool → Bits → Answer Block → Entry
 sendEntry w order reading arrives (refused n) = send-refused n
 sendEntry w order reading arrives (done b) =

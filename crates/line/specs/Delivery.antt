@@ -12,8 +12,8 @@ use Rattle.block.specs.Answer as A
 use Rattle.block.specs.Lengths.{blockLength}
 use Rattle.line.specs.Order.{itemCount, filled, orderBits}
 use Rattle.line.specs.Sending.{Block, synchronising, item, OpenSender, gaveUp}
-use Rattle.line.specs.Receiving.{meaning, OpenReceiver}
-use Rattle.line.specs.Course.{Call, World, opened, Sent, Heard, Entry, send-refused, receive-refused, sent, heard, course, final, Result, results, Run, observed}
+use Rattle.line.specs.Receiving.{meaning, EventKind, eventKind, withLength, OpenReceiver}
+use Rattle.line.specs.Course.{Call, World, opened, Sent, Heard, Entry, send-refused, receive-refused, sent, heard, onSent, onHeard, course, final, Result, results, Run, observed}
 use Rattle.line.specs.declared.sender.Sender.{Sender}
 use Rattle.line.specs.declared.sender.Opened.{Opened}
 use Rattle.line.specs.declared.sender.Opened.the-variants as SenderOpened
@@ -23,15 +23,15 @@ use Rattle.line.specs.declared.receiver.Event.the-variants as E
 use Rattle.line.specs.declared.receiver.Opened as ReceiverOpened
 use Rattle.line.specs.declared.receiver.Opening.the-variants as Opening
 
--- ---- lists of entries
+-- ---- lists
 
-abbrev pub Each : (Entry → Type 0) → List Entry → Type 0
-Each P [] = Unit {0}
-Each P (e ∷ es) = P e × Each P es
+abbrev pub All : {A : Type 0} → (A → Type 0) → List A → Type 0
+All P [] = Unit {0}
+All P (x ∷ xs) = P x × All P xs
 
-abbrev pub some : (Entry → Bool) → List Entry → Bool
+abbrev pub some : {A : Type 0} → (A → Bool) → List A → Bool
 some f [] = false
-some f (e ∷ es) = f e || some f es
+some f (x ∷ xs) = f x || some f xs
 
 abbrev pub count : (Entry → Bool) → List Entry → ℕ
 count f [] = 0
@@ -39,50 +39,25 @@ count f (e ∷ es) = cond (f e) 1 0 + count f es
 
 -- ---- the words of demand 3
 
--- "a new block", "the end", "an alarm": what an event is to the demand
-pub record News : Type 0 where
-  pub new : Bool
-  pub end : Bool
-  pub alarm : Bool
-
-abbrev pub news : Event → News
-news E.None = record { new = false; end = false; alarm = false }
-news E.Sync = record { new = false; end = false; alarm = false }
-news E.Bad = record { new = false; end = false; alarm = false }
-news E.Accepted = record { new = true; end = false; alarm = false }
-news E.Previous = record { new = false; end = false; alarm = false }
-news E.SequenceAlarm = record { new = false; end = false; alarm = true }
-news E.LengthAlarm = record { new = false; end = false; alarm = true }
-news (E.Ended L) = record { new = false; end = true; alarm = false }
-
 abbrev pub eventOf : Heard → Event
 eventOf y = meaning (y .rule) .event
 
-abbrev pub hears : (Heard → Bool) → Entry → Bool
-hears f (send-refused n) = false
-hears f (receive-refused n) = false
-hears f (sent x) = false
-hears f (heard y) = f y
+abbrev pub kindOf : Heard → EventKind
+kindOf y = eventKind (eventOf y)
 
+-- "a new block", "the end", "an alarm"
 abbrev pub isNew : Entry → Bool
-isNew e = hears (λ y. news (eventOf y) .new) e
+isNew = onHeard false (λ y. kindOf y .new)
 
 abbrev pub isEnd : Entry → Bool
-isEnd e = hears (λ y. news (eventOf y) .end) e
-
-abbrev pub isAlarm : Entry → Bool
-isAlarm e = hears (λ y. news (eventOf y) .alarm) e
+isEnd = onHeard false (λ y. withLength false (λ M. true) (kindOf y .length))
 
 -- the end reported with this length
-abbrev pub reportsEnd : ℕ → Event → Bool
-reportsEnd M E.None = false
-reportsEnd M E.Sync = false
-reportsEnd M E.Bad = false
-reportsEnd M E.Accepted = false
-reportsEnd M E.Previous = false
-reportsEnd M E.SequenceAlarm = false
-reportsEnd M E.LengthAlarm = false
-reportsEnd M (E.Ended L) = eqb L M
+abbrev pub reportsEnd : ℕ → Entry → Bool
+reportsEnd L = onHeard false (λ y. withLength false (λ M. eqb M L) (kindOf y .length))
+
+abbrev pub isAlarm : Entry → Bool
+isAlarm = onHeard false (λ y. kindOf y .alarm)
 
 abbrev pub isUsed : Block → Bool
 isUsed synchronising = false
@@ -99,75 +74,53 @@ isItem (item i end used cancel) = true
 
 -- "lost": a request is lost if the return bit is 1 and a used reading is 0
 abbrev pub isLost : Entry → Bool
-isLost (send-refused n) = false
-isLost (receive-refused n) = false
-isLost (sent x) = isUsed (x .block) && x .back && not (x .reading)
-isLost (heard y) = false
+isLost = onSent false (λ x. isUsed (x .block) && x .back && not (x .reading))
 
 -- "a good block": sent as data or end and read in step with a passing check
 abbrev pub isGood : Entry → Bool
-isGood e = hears (λ y. isItem (y .block) && meaning (y .rule) .checked) e
+isGood = onHeard false (λ y. isItem (y .block) && meaning (y .rule) .checked)
 
 -- ---- what is supposed
 
 -- A sending call finds all bits of the block before used, and its block's copy keeps its length; a receiving call is lent
 -- the next bits of the copy that are not yet used.
 abbrev pub OnLine : ℕ → Entry → Type 0
-OnLine k (send-refused n) = Unit {0}
-OnLine k (receive-refused n) = Unit {0}
-OnLine k (sent x) = (x .unused ≡ []) × (length (x .arrives) ≡ blockLength k)
-OnLine k (heard y) = (later : Bits) × (y .left ≡ y .lent ++ later)
+OnLine k e =
+    onSent (onHeard (Unit {0}) (λ y. (later : Bits) × (y .left ≡ y .lent ++ later)) e)
+    (λ x. (x .unused ≡ []) × (length (x .arrives) ≡ blockLength k)) e
 
 -- each sending call is lent the same order
 abbrev pub SameOrder : Bits → Entry → Type 0
-SameOrder content (send-refused n) = Unit {0}
-SameOrder content (receive-refused n) = Unit {0}
-SameOrder content (sent x) = x .order ≡ content
-SameOrder content (heard y) = Unit {0}
+SameOrder content = onSent (Unit {0}) (λ x. x .order ≡ content)
 
 -- each receiving call is lent the same store, as the last one left it
 abbrev pub SameStore : Entry → Type 0
-SameStore (send-refused n) = Unit {0}
-SameStore (receive-refused n) = Unit {0}
-SameStore (sent x) = Unit {0}
-SameStore (heard y) = y .store ≡ y .kept
+SameStore = onHeard (Unit {0}) (λ y. y .store ≡ y .kept)
 
 -- against the block before cancelling, the damage is nothing, an odd number of bits, or bits within 16 adjacent places
 abbrev pub Admitted : Entry → Type 0
-Admitted (send-refused n) = Unit {0}
-Admitted (receive-refused n) = Unit {0}
-Admitted (sent x) = Damage (xorBits (x .arrives) (x .plain))
-Admitted (heard y) = Unit {0}
+Admitted = onSent (Unit {0}) (λ x. Damage (xorBits (x .arrives) (x .plain)))
 
 -- no cancelled block arrives whole: as it was before cancelling
 abbrev pub NotWhole : Entry → Type 0
-NotWhole (send-refused n) = Unit {0}
-NotWhole (receive-refused n) = Unit {0}
-NotWhole (sent x) = isCancelled (x .block) ≡ true → x .arrives ≡ x .plain → ⊥
-NotWhole (heard y) = Unit {0}
+NotWhole = onSent (Unit {0}) (λ x. isCancelled (x .block) ≡ true → x .arrives ≡ x .plain → ⊥)
 
 -- sync comes only at the last bit of a synchronising block
 abbrev pub SyncAtLast : Entry → Type 0
-SyncAtLast (send-refused n) = Unit {0}
-SyncAtLast (receive-refused n) = Unit {0}
-SyncAtLast (sent x) = Unit {0}
-SyncAtLast (heard y) = eventOf y ≡ E.Sync → (y .block ≡ synchronising) × (y .used ≡ length (y .left))
+SyncAtLast = onHeard (Unit {0}) (λ y. eventOf y ≡ E.Sync → (y .block ≡ synchronising) × (y .used ≡ length (y .left)))
 
 -- a synchronising block passes for no data or end: rules 3 to 6 do not read it
 abbrev pub SyncNotData : Entry → Type 0
-SyncNotData (send-refused n) = Unit {0}
-SyncNotData (receive-refused n) = Unit {0}
-SyncNotData (sent x) = Unit {0}
-SyncNotData (heard y) = y .block ≡ synchronising → meaning (y .rule) .data-or-end ≡ false
+SyncNotData = onHeard (Unit {0}) (λ y. y .block ≡ synchronising → meaning (y .rule) .data-or-end ≡ false)
 
 pub record Assumptions (k : ℕ) (content : Bits) (es : List Entry) : Type 0 where
-  pub line : Each (OnLine k) es
-  pub order : Each (SameOrder content) es
-  pub store : Each SameStore es
-  pub damage : Each Admitted es
-  pub not-whole : Each NotWhole es
-  pub sync-at-last : Each SyncAtLast es
-  pub sync-not-data : Each SyncNotData es
+  pub line : All (OnLine k) es
+  pub order : All (SameOrder content) es
+  pub store : All SameStore es
+  pub damage : All Admitted es
+  pub not-whole : All NotWhole es
+  pub sync-at-last : All SyncAtLast es
+  pub sync-not-data : All SyncNotData es
   -- between two lost requests the machine reads at least one good block, an alarm before the second excepted
   pub between-losses : (before between behind : List Entry) (p q : Entry)
       → es ≡ before ++ (p ∷ (between ++ (q ∷ behind))) → isLost p ≡ true → isLost q ≡ true
@@ -185,20 +138,16 @@ pub record Grouped : Type 0 where
   pub periods : List Period
 
 abbrev pub grouped : Entry → Grouped → Grouped
-grouped (send-refused n) g = record { loose = send-refused n ∷ g .loose; periods = g .periods }
-grouped (receive-refused n) g = record { loose = receive-refused n ∷ g .loose; periods = g .periods }
-grouped (heard y) g = record { loose = heard y ∷ g .loose; periods = g .periods }
-grouped (sent x) g = record { loose = []; periods = record { start = x; calls = g .loose } ∷ g .periods }
+grouped e g =
+    onSent (record { loose = e ∷ g .loose; periods = g .periods })
+    (λ x. record { loose = []; periods = record { start = x; calls = g .loose } ∷ g .periods }) e
 
 abbrev pub group : List Entry → Grouped
 group [] = record { loose = []; periods = [] }
 group (e ∷ es) = grouped e (group es)
 
 abbrev pub usedBy : Entry → ℕ
-usedBy (send-refused n) = 0
-usedBy (receive-refused n) = 0
-usedBy (sent x) = 0
-usedBy (heard y) = y .used
+usedBy = onHeard 0 (λ y. y .used)
 
 abbrev pub usedBits : List Entry → ℕ
 usedBits [] = 0
@@ -210,13 +159,8 @@ pub record Undisturbed (k : ℕ) (p : Period) : Type 0 where
   pub as-sent : p .start .arrives ≡ p .start .bits
   pub all-used : usedBits (p .calls) ≡ blockLength k
 
-abbrev pub EachPeriod : (Period → Type 0) → List Period → Type 0
-EachPeriod P [] = Unit {0}
-EachPeriod P (p ∷ ps) = P p × EachPeriod P ps
-
 abbrev pub brings : (Entry → Bool) → List Period → Bool
-brings f [] = false
-brings f (p ∷ ps) = some f (p .calls) || brings f ps
+brings f = some (λ p. some f (p .calls))
 
 -- how many undisturbed periods in a row bring a new block or the end
 abbrev pub enough : ℕ
@@ -241,7 +185,7 @@ pub record Guarantees (k L : ℕ) (content : Bits) (first : List ℕ) (es : List
   pub stored : take (accepted es * k) (bitsOf (w .store)) ≡ take (accepted es * k) (filled k L content)
   pub untouched : drop (accepted es * k) (bitsOf (w .store)) ≡ drop (accepted es * k) (bitsOf first)
   -- with the end reported, all of it, and the order's length
-  pub ended : (M : ℕ) → some (hears (λ y. reportsEnd M (eventOf y))) es ≡ true → (accepted es ≡ itemCount k L) × (M ≡ L)
+  pub ended : (M : ℕ) → some (reportsEnd M) es ≡ true → (accepted es ≡ itemCount k L) × (M ≡ L)
   -- an alarm only if a repeat request was lost before it
   pub alarm : (before behind : List Entry) (e : Entry) → es ≡ before ++ (e ∷ behind) → isAlarm e ≡ true
       → some isLost before ≡ true
@@ -250,8 +194,8 @@ pub record Guarantees (k L : ℕ) (content : Bits) (first : List ℕ) (es : List
   -- and unless the sender gave up, six undisturbed periods in a row that begin before the end bring a new block or the end
   pub progress : some isLost es ≡ false → gaveUp (w .sender) ≡ false
       → (before these behind : List Period) → group es .periods ≡ before ++ (these ++ behind) → length these ≡ enough
-      → EachPeriod (Undisturbed k) these → brings isEnd before ≡ false → brings (λ e. isNew e || isEnd e) these ≡ true
-  pub refusals : Each OnlyRefused es
+      → All (Undisturbed k) these → brings isEnd before ≡ false → brings (λ e. isNew e || isEnd e) these ≡ true
+  pub refusals : All OnlyRefused es
 
 -- Both ends have just been opened, neither refused, with the same k; the store has at least N times k bits.
 pub record Openings (k speed loop-ms L : ℕ) (order : List ℕ) (s : Sender) (o : ReceiverOpened.Opened) (first : List ℕ) : Type 0 where

@@ -2,6 +2,7 @@
 use mathlib.Core.Path.{_≡_}
 use mathlib.Core.Bool.{Bool, true, false, cond, not, _&&_, _||_}
 use mathlib.Core.List.{List, [], _∷_, _++_}
+use mathlib.Core.Option.{Option, none, some}
 use Prim.Native.Nat.{ℕ, suc, _+_, _-_, _*_}
 use lib.Dec.{eqb, leb, ltb}
 use lib.ListN.{length, take, drop, replicate}
@@ -105,6 +106,27 @@ meaning (ends L) = meant (E.Ended L) false false true true
 meaning wrong-length = meant E.LengthAlarm false false true true
 meaning ends-again = meant E.Previous false false true true
 meaning anything-else = meant E.Bad false false false true
+
+-- what an event says: a new block, an alarm, the end with its length
+pub record EventKind : Type 0 where
+  pub new : Bool
+  pub alarm : Bool
+  pub length : Option ℕ
+
+abbrev pub eventKind : Event → EventKind
+eventKind E.None = record { new = false; alarm = false; length = none }
+eventKind E.Sync = record { new = false; alarm = false; length = none }
+eventKind E.Bad = record { new = false; alarm = false; length = none }
+eventKind E.Accepted = record { new = true; alarm = false; length = none }
+eventKind E.Previous = record { new = false; alarm = false; length = none }
+eventKind E.SequenceAlarm = record { new = false; alarm = true; length = none }
+eventKind E.LengthAlarm = record { new = false; alarm = true; length = none }
+eventKind (E.Ended L) = record { new = false; alarm = false; length = some L }
+
+-- `f` of the end's length; without the end, `other`
+abbrev pub withLength : {A : Type 0} → A → (ℕ → A) → Option ℕ → A
+withLength other f none = other
+withLength other f (some L) = f L
 
 -- ---- in step, at each n-th bit: k, the items taken and whether the end is, and the row of n bits
 

@@ -7,7 +7,7 @@ use Prim.Native.Nat.{ℕ}
 use lib.ListN.{drop}
 use Rattle.block.specs.Answer as A
 use Rattle.block.specs.Answer.{Answer, refused, done}
-use Rattle.line.specs.Receiving.{openReceiver, freshReceiver, Reading, receiverInRange, receive, receiveStore, Report, reported}
+use Rattle.line.specs.Receiving.{eventKind, withLength, openReceiver, freshReceiver, Reading, receiverInRange, receive, receiveStore, Report, reported}
 use Rattle.line.specs.declared.receiver.Receiver.{Receiver}
 use Rattle.line.specs.declared.receiver.Event.{Event}
 use Rattle.line.specs.declared.receiver.Event.the-variants as E
@@ -47,14 +47,7 @@ eventNumber (E.Ended L) = 23
 
 -- the length that comes with the end; without it, the number stays
 abbrev pub eventLength : ℕ → Event → ℕ
-eventLength len E.None = len
-eventLength len E.Sync = len
-eventLength len E.Bad = len
-eventLength len E.Accepted = len
-eventLength len E.Previous = len
-eventLength len E.SequenceAlarm = len
-eventLength len E.LengthAlarm = len
-eventLength len (E.Ended L) = L
+eventLength len event = withLength len (λ L. L) (eventKind event .length)
 
 abbrev pub reportNumber : Answer Report → ℕ
 reportNumber (refused n) = n

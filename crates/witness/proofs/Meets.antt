@@ -5,6 +5,7 @@ use mathlib.Core.List.{List, [], _∷_, _++_}
 use native.Mathlib.Omega.{arith}
 use Prim.Native.Nat.{ℕ, suc, _≤_}
 use lib.Dec.{eqb}
+use denote.Enum.Declared.{tagOf}
 use lib.ListN.{length, take, drop, length-take, take-append-drop}
 use borrow.Author.Tests.{eqb-true, not-true}
 use Rattle.crc.specs.Bits.{Bits, zeros, parity, xorBits}
@@ -13,11 +14,12 @@ use Rattle.block.specs.Lengths.{blockLength}
 use Rattle.block.proofs.Truth.{and-true}
 use Rattle.line.specs.Sending.{Block, synchronising, item}
 use Rattle.line.specs.Receiving.{meaning}
-use Rattle.line.specs.Course.{Sent, Heard, Entry, send-refused, receive-refused, sent, heard}
-use Rattle.line.specs.Delivery.{Each, eventOf, isCancelled, isItem, OnLine, SameOrder, SameStore, Admitted, NotWhole, SyncAtLast, SyncNotData, Assumptions}
+use Rattle.line.specs.Course.{Sent, Heard, Entry, send-refused, receive-refused, sent, heard, onSent, onHeard}
+use Rattle.line.specs.Delivery.{All, eventOf, isCancelled, isItem, OnLine, SameOrder, SameStore, Admitted, NotWhole, SyncAtLast, SyncNotData, Assumptions}
 use Rattle.line.proofs.Delivery.Spacing.{implies, implies-true, spaced, spaced-between}
 use Rattle.line.specs.declared.receiver.Event.{Event}
 use Rattle.line.specs.declared.receiver.Event.the-variants as E
+use Rattle.line.proofs.receiver.Event.{the-type}
 
 -- ---- rows, bytes and blocks
 
@@ -140,14 +142,7 @@ admits-damage e h = go (parity e) refl h
 -- ---- one entry
 
 abbrev isSyncEvent : Event → Bool
-isSyncEvent E.None = false
-isSyncEvent E.Sync = true
-isSyncEvent E.Bad = false
-isSyncEvent E.Accepted = false
-isSyncEvent E.Previous = false
-isSyncEvent E.SequenceAlarm = false
-isSyncEvent E.LengthAlarm = false
-isSyncEvent (E.Ended L) = false
+isSyncEvent v = eqb (tagOf the-type v) (tagOf the-type E.Sync)
 
 abbrev sentMeets : ℕ → Bits → Sent → Bool
 sentMeets k content x =
@@ -165,10 +160,7 @@ heardMeets y =
     && (isItem (y .block) || not (meaning (y .rule) .data-or-end))))
 
 abbrev pub entryMeets : ℕ → Bits → Entry → Bool
-entryMeets k content (send-refused n) = true
-entryMeets k content (receive-refused n) = true
-entryMeets k content (sent x) = sentMeets k content x
-entryMeets k content (heard y) = heardMeets y
+entryMeets k content e = onSent (onHeard true heardMeets e) (sentMeets k content) e
 
 record Met (k : ℕ) (content : Bits) (e : Entry) : Type 0 where
   line : OnLine k e
@@ -237,33 +229,33 @@ abbrev pub eachMeets : ℕ → Bits → List Entry → Bool
 eachMeets k content [] = true
 eachMeets k content (e ∷ es) = entryMeets k content e && eachMeets k content es
 
-each-met : (k : ℕ) (content : Bits) (P : Entry → Type 0) → ((e : Entry) → Met k content e → P e)
-    → (es : List Entry) → eachMeets k content es ≡ true → Each P es
-each-met k content P f [] h = tt
-each-met k content P f (e ∷ es) h =
+all-met : (k : ℕ) (content : Bits) (P : Entry → Type 0) → ((e : Entry) → Met k content e → P e)
+    → (es : List Entry) → eachMeets k content es ≡ true → All P es
+all-met k content P f [] h = tt
+all-met k content P f (e ∷ es) h =
     let a = and-true _ _ h in
-    (f e (entry-meets k content e (a .0)), each-met k content P f es (a .1))
+    (f e (entry-meets k content e (a .0)), all-met k content P f es (a .1))
 
 -- all clauses but the one on losses
 pub record OtherClauses (k : ℕ) (content : Bits) (es : List Entry) : Type 0 where
-  pub line : Each (OnLine k) es
-  pub order : Each (SameOrder content) es
-  pub store : Each SameStore es
-  pub damage : Each Admitted es
-  pub not-whole : Each NotWhole es
-  pub sync-at-last : Each SyncAtLast es
-  pub sync-not-data : Each SyncNotData es
+  pub line : All (OnLine k) es
+  pub order : All (SameOrder content) es
+  pub store : All SameStore es
+  pub damage : All Admitted es
+  pub not-whole : All NotWhole es
+  pub sync-at-last : All SyncAtLast es
+  pub sync-not-data : All SyncNotData es
 
 pub others-meet : (k : ℕ) (content : Bits) (es : List Entry) → eachMeets k content es ≡ true → OtherClauses k content es
 others-meet k content es h =
     record {
-      line = each-met k content (OnLine k) (λ e m. m .line) es h;
-      order = each-met k content (SameOrder content) (λ e m. m .order) es h;
-      store = each-met k content SameStore (λ e m. m .store) es h;
-      damage = each-met k content Admitted (λ e m. m .damage) es h;
-      not-whole = each-met k content NotWhole (λ e m. m .not-whole) es h;
-      sync-at-last = each-met k content SyncAtLast (λ e m. m .sync-at-last) es h;
-      sync-not-data = each-met k content SyncNotData (λ e m. m .sync-not-data) es h;
+      line = all-met k content (OnLine k) (λ e m. m .line) es h;
+      order = all-met k content (SameOrder content) (λ e m. m .order) es h;
+      store = all-met k content SameStore (λ e m. m .store) es h;
+      damage = all-met k content Admitted (λ e m. m .damage) es h;
+      not-whole = all-met k content NotWhole (λ e m. m .not-whole) es h;
+      sync-at-last = all-met k content SyncAtLast (λ e m. m .sync-at-last) es h;
+      sync-not-data = all-met k content SyncNotData (λ e m. m .sync-not-data) es h;
     }
 
 pub meets : (k : ℕ) (content : Bits) (es : List Entry) → eachMeets k content es ≡ true → spaced false es ≡ true → Assumptions k content es

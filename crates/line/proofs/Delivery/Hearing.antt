@@ -1,8 +1,9 @@
 -- A receiving call while a block is on the line: the bits go by, or they are the last of the block. Assumes nothing.
 use mathlib.Core.Path.{_≡_, refl, ap, ap₂, sym, _∙_, subst, subst₂}
 use mathlib.Core.Logic.{_⊎_, inl, inr, ⊎-elim}
-use mathlib.Core.Bool.{Bool, true, false, cond, _&&_, _||_, false≢true}
+use mathlib.Core.Bool.{Bool, true, false, cond, _&&_, _||_, false≢true, or-self}
 use mathlib.Core.List.{List, [], _∷_, _++_, append-assoc, append-nil}
+use mathlib.Core.Option.{none}
 use Prim.Native.Nat.{ℕ, _+_, _*_, _<_}
 use native.Mathlib.Omega.{arith}
 use lib.ListN.{length, drop, length-append}
@@ -13,19 +14,19 @@ use Rattle.block.specs.Lengths.{blockLength}
 use Rattle.block.specs.Block.{payloadOf, syncBlock}
 use Rattle.block.proofs.Truth.{or-no, and-no}
 use Rattle.line.specs.Order.{itemBits, itemPayload}
-use Rattle.line.specs.Receiving.{arrayBytes, lastBad, Rule, unfinished, standing, meaning, after, Reading, stops, idleRule, heldInRange, storeAt}
+use Rattle.line.specs.Receiving.{arrayBytes, lastBad, Rule, unfinished, meaning, EventKind, eventKind, after, Reading, stops, idleRule, heldInRange, storeAt}
 use Rattle.line.specs.Course.{World, receiveEntry, receiveAfter}
-use Rattle.line.specs.Delivery.{news, isItem, reportsEnd}
+use Rattle.line.specs.Delivery.{isItem}
 use Rattle.line.specs.declared.receiver.Receiver.{Receiver}
 use Rattle.line.specs.declared.receiver.Setup.{Setup}
 use Rattle.line.specs.declared.receiver.Phase.{Phase}
 use Rattle.line.specs.declared.receiver.Phase.the-variants as P
-use Rattle.line.specs.declared.receiver.Event.{Event}
 use Rattle.line.specs.declared.receiver.Event.the-variants as E
 use Rattle.line.proofs.Items.{payload-itemBits}
 use Rattle.line.proofs.Delivery.Ends.{Ends, LineBlock, Reads, Busy}
 use Rattle.line.proofs.Delivery.Ends as D
 use Rattle.line.proofs.Delivery.Invariant.{read-keeps}
+use Rattle.line.proofs.Delivery.Progress.{ending, endingWith}
 use Rattle.line.proofs.Delivery.Reading.{After, after-is, none-held, held-none}
 use Rattle.line.proofs.Delivery.Ruling.{Ruling}
 use Rattle.line.proofs.Delivery.Storing.{store-takes, store-after}
@@ -35,37 +36,19 @@ use Rattle.line.proofs.Delivery.State as S
 -- ---- a rule that ends no block
 
 pub record Quiet (alarm : Bool) (x : Rule) : Type 0 where
-  pub new : news (meaning x .event) .new ≡ false
-  pub end : news (meaning x .event) .end ≡ false
-  pub alarms : (alarm || news (meaning x .event) .alarm) ≡ alarm
-  pub alarm-only : news (meaning x .event) .alarm ≡ true → alarm ≡ true
-  pub reports : (M : ℕ) → reportsEnd M (meaning x .event) ≡ false
+  pub kind : eventKind (meaning x .event) ≡ record { new = false; alarm = alarm; length = none }
   pub checked : meaning x .checked ≡ false
   pub stores : meaning x .stores ≡ false
 
-pub quiet-unfinished : (alarm : Bool) → Quiet alarm unfinished
-quiet-unfinished alarm =
-    record {
-      new = refl;
-      end = refl;
-      alarms = or-no alarm;
-      alarm-only = λ e. absurd (false≢true e);
-      reports = λ M. refl;
-      checked = refl;
-      stores = refl;
-    }
-
-quiet-alarm : {e : Event} → news e .new ≡ false → news e .end ≡ false → ((M : ℕ) → reportsEnd M e ≡ false)
-    → news e .alarm ≡ true → Quiet true (standing e)
-quiet-alarm a b c d =
-    record { new = a; end = b; alarms = refl; alarm-only = λ e. refl; reports = c; checked = refl; stores = refl }
-
 -- 0 bits
 pub quiet-idle : (p : Phase) → Quiet (alarmStands p) (idleRule p)
-quiet-idle P.Search = quiet-unfinished false
-quiet-idle P.InStep = quiet-unfinished false
-quiet-idle P.SequenceAlarm = quiet-alarm refl refl (λ M. refl) refl
-quiet-idle P.LengthAlarm = quiet-alarm refl refl (λ M. refl) refl
+quiet-idle P.Search = record { kind = refl; checked = refl; stores = refl }
+quiet-idle P.InStep = record { kind = refl; checked = refl; stores = refl }
+quiet-idle P.SequenceAlarm = record { kind = refl; checked = refl; stores = refl }
+quiet-idle P.LengthAlarm = record { kind = refl; checked = refl; stores = refl }
+
+pub quiet-unfinished : {alarm : Bool} → alarm ≡ false → Quiet alarm unfinished
+quiet-unfinished e = subst (λ (b : Bool). Quiet b unfinished) (sym e) (quiet-idle P.InStep)
 
 pub not-danger : (alarm : Bool) (x : Rule) → Quiet alarm x → (good : Bool) (d : ℕ)
     → cond (good && meaning x .checked) 0 d ≡ d
@@ -105,11 +88,14 @@ still-told o w l base lent store same x n t q s lost =
         held = s .held;
         stored = subst₂ (λ (m : ℕ) (z : List ℕ). Stored o m z) (sym (s .taken)) (sym kept) (base .stored);
       };
-      taken = s .taken ∙ omega (arith, ap bit (q .new));
-      ended = s .ended ∙ sym (ap (λ (b : Bool). w .receiver .ended || b) (q .end) ∙ or-no (w .receiver .ended));
-      length = λ M e. absurd (false≢true (sym (q .reports M) ∙ e));
-      alarm = ap alarmStands (s .phase) ∙ sym (q .alarms);
-      alarm-lost = λ e. lost (q .alarm-only e);
+      taken = s .taken ∙ omega (arith, ap (λ (v : EventKind). bit (v .new)) (q .kind));
+      ended =
+          s .ended ∙ sym (ap (λ (v : EventKind). w .receiver .ended || ending v) (q .kind) ∙ or-no (w .receiver .ended));
+      length = λ M e. absurd (false≢true (sym (ap (endingWith M) (q .kind)) ∙ e));
+      alarm =
+          ap alarmStands (s .phase)
+          ∙ sym (ap (λ (v : EventKind). alarmStands (w .receiver .phase) || v .alarm) (q .kind) ∙ or-self (alarmStands (w .receiver .phase)));
+      alarm-lost = λ e. lost (sym (ap (λ (v : EventKind). v .alarm) (q .kind)) ∙ e);
       refusal = tt;
     }
   where
@@ -195,8 +181,7 @@ module _ (o : Session) (fit : Fit o) (w : World) (l d : ℕ) (copy : Bits) (f : 
   -- the rule that ends the block
   module _ (x : Rule) (row : Bits) (n : ℕ) (all : n ≡ length (w .left)) (is-copy : meaning x .stores ≡ true → row ≡ copy)
       (quiet : alarmStands (w .receiver .phase) ≡ false) (g : Ruling o fit w l d copy f line x) where
-    left-state : After (w .receiver) (after (w .receiver) x) (meaning x .stores) (news (meaning x .event) .new)
-        (news (meaning x .event) .end) (news (meaning x .event) .alarm)
+    left-state : After (w .receiver) (after (w .receiver) x) (meaning x .stores) (eventKind (meaning x .event))
     left-state = after-is (w .receiver) x (g .ends-block)
 
     carries : (i : ℕ) → i ≡ w .receiver .taken → row ≡ itemBits (o .k) (o .L) (o .content) i
@@ -216,7 +201,7 @@ module _ (o : Session) (fit : Fit o) (w : World) (l d : ℕ) (copy : Bits) (f : 
         (sym (ap₂ (λ (m : ℕ) (p : Bits). storeAt (w .receiver .taken * m) p store) (base .k) y
         ∙ ap (storeAt (w .receiver .taken * o .k) (itemPayload (o .k) (o .L) (o .content) (w .receiver .taken))) same)) h
 
-    alarms-lost : news (meaning x .event) .alarm ≡ true → l ≡ 1
+    alarms-lost : eventKind (meaning x .event) .alarm ≡ true → l ≡ 1
     alarms-lost e =
         ⊎-elim (λ b. b .lost) (λ b. absurd (omega (arith, ap bit (left-state .alarms ∙ e), b .alarm)))
         (read-keeps (line .busy) (g .reads) .state)
@@ -250,7 +235,7 @@ module _ (o : Session) (fit : Fit o) (w : World) (l d : ℕ) (copy : Bits) (f : 
             taken = a .taken ∙ ap (λ (b : Bool). bit b + w .receiver .taken) (a .stored);
             ended = a .ended;
             length = g .length;
-            alarm = a .alarms ∙ sym (ap (λ (b : Bool). b || news (meaning x .event) .alarm) quiet);
+            alarm = a .alarms ∙ sym (ap (λ (b : Bool). b || eventKind (meaning x .event) .alarm) quiet);
             alarm-lost = alarms-lost;
             refusal = tt;
           };

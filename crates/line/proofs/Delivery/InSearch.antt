@@ -97,7 +97,7 @@ module _ (o : Session) (fit : Fit o) (w : World) (l d : ℕ) (copy : Bits) (f : 
     search-on y ok =
         pass o fit w l d copy f line base lent store (ok .store) (ok .line .0) (ok .line .1) unfinished
         (0 + length lent) then (omega arith)
-        (quiet-unfinished (alarmStands (r .phase)))
+        (quiet-unfinished quiet)
         (record {
           k = base .k;
           array = length-searching r (latest ((earlier ++ line .used) ++ lent)) (base .array);

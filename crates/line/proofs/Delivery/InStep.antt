@@ -55,7 +55,7 @@ module _ (o : Session) (fit : Fit o) (w : World) (l d : ℕ) (copy : Bits) (f : 
         let m = ltb-true (length lent) (missing r) e in
         pass o fit w l d copy f line base lent store (ok .store) (ok .line .0) (ok .line .1) unfinished (length lent)
         (holding r lent) refl
-        (quiet-unfinished (alarmStands (r .phase)))
+        (quiet-unfinished (ap alarmStands step))
         (record {
           k = base .k;
           array = length-holding r lent;

@@ -8,7 +8,7 @@ use Prim.Native.Nat.{ℕ, _+_}
 use Rattle.crc.specs.Bits.{bit}
 use Rattle.block.proofs.Truth.{or-true, or-false, or-no}
 use Rattle.line.specs.Course.{World, Call, Entry, entry, next, course, final}
-use Rattle.line.specs.Delivery.{Each, some, count, eventOf, hears, isNew, isEnd, isAlarm, isLost, isGood, reportsEnd, OnLine, SameOrder, SameStore, Admitted, NotWhole, SyncAtLast, SyncNotData, OnlyRefused, Assumptions}
+use Rattle.line.specs.Delivery.{All, some, count, isNew, isEnd, isAlarm, isLost, isGood, reportsEnd, OnLine, SameOrder, SameStore, Admitted, NotWhole, SyncAtLast, SyncNotData, OnlyRefused, Assumptions}
 use Rattle.line.proofs.Delivery.State.{Session, Fit, alarmStands, lost′, danger′, Inv, Okay, Keeps}
 use Rattle.line.proofs.Delivery.OneCall.{call-keeps}
 use Rattle.line.proofs.Delivery.Spacing.{pends, spaced, spaced-head, spaced-tail, between-spaced}
@@ -31,8 +31,8 @@ bit-pends p e = go (isLost e) p (isGood e)
     go false false false = refl
 
 module _ (o : Session) where
-  okays-from : (alarm p : Bool) (es : List Entry) → Each (OnLine (o .k)) es → Each (SameOrder (o .content)) es
-      → Each SameStore es → Each Admitted es → Each NotWhole es → Each SyncAtLast es → Each SyncNotData es
+  okays-from : (alarm p : Bool) (es : List Entry) → All (OnLine (o .k)) es → All (SameOrder (o .content)) es
+      → All SameStore es → All Admitted es → All NotWhole es → All SyncAtLast es → All SyncNotData es
       → (alarm ≡ false → spaced p es ≡ true) → Okays o alarm (bit p) es
   okays-from alarm p [] a b c d f g h s = tt
   okays-from alarm p (e ∷ es) a b c d f g h s = (
@@ -88,9 +88,9 @@ pub record Safe (o : Session) (w : World) (l d : ℕ) (es : List Entry) (w′ : 
   pub inv : Inv o w′ (losts l es) (dangers d es)
   pub taken : w′ .receiver .taken ≡ count isNew es + w .receiver .taken
   pub ended : w′ .receiver .ended ≡ (w .receiver .ended || some isEnd es)
-  pub length : (M : ℕ) → some (hears (λ y. reportsEnd M (eventOf y))) es ≡ true → M ≡ o .L
+  pub length : (M : ℕ) → some (reportsEnd M) es ≡ true → M ≡ o .L
   pub alarm : (before behind : List Entry) (e : Entry) → es ≡ before ++ (e ∷ behind) → isAlarm e ≡ true → losts l before ≡ 1
-  pub refusals : Each OnlyRefused es
+  pub refusals : All OnlyRefused es
 
 bit-cond : (b : Bool) → bit b ≡ cond b 1 0
 bit-cond true = refl
@@ -120,7 +120,7 @@ safe-call o w w′ w″ l d e es y z =
       taken = omega (arith, z .taken, y .told .taken, bit-cond (isNew e));
       ended =
           z .ended ∙ ap (λ (b : Bool). b || some isEnd es) (y .told .ended) ∙ or-assoc (w .receiver .ended) (isEnd e) (some isEnd es);
-      length = λ M h. ⊎-elim (y .told .length M) (z .length M) (or-true (hears (λ x. reportsEnd M (eventOf x)) e) _ h);
+      length = λ M h. ⊎-elim (y .told .length M) (z .length M) (or-true (reportsEnd M e) _ h);
       alarm = lost-before;
       refusals = (y .told .refusal, z .refusals);
     }

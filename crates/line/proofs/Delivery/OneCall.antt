@@ -19,9 +19,8 @@ use Rattle.block.proofs.Truth.{cond-case, or-false, or-no}
 use Rattle.line.specs.Order.{longestOrder, mostItems, validLength, itemCount, orderBits}
 use Rattle.line.specs.Sending.{Block, transmit, gaveUp, send, senderInRange, plainBits}
 use Rattle.line.specs.Receiving.{meaning, Reading, reading, idleRule, idle, readings, receive, receiverInRange, lastBad, heldInRange}
-use Rattle.line.specs.Course.{World, Call, sending, receiving, Heard, Entry, receive-refused, sendEntry, sendAfter, receiveEntry, receiveAfter, entry, next}
-use Rattle.line.specs.Delivery as Delivery
-use Rattle.line.specs.Delivery.{news, OnlyRefused, isItem, eventOf, reportsEnd}
+use Rattle.line.specs.Course.{World, Call, sending, receiving, Heard, Entry, receive-refused, onHeard, sendEntry, sendAfter, receiveEntry, receiveAfter, entry, next}
+use Rattle.line.specs.Delivery.{OnlyRefused, isItem, isNew}
 use Rattle.line.specs.declared.sender.Sender.{Sender}
 use Rattle.line.specs.declared.sender.Setup.{Setup}
 use Rattle.line.specs.declared.receiver.Receiver.{Receiver}
@@ -75,22 +74,20 @@ receive-answered r line count store h =
 -- ---- a call that hears nothing: refused, or a sending call
 
 unheard-told : (o : Session) (w : World) (l : ℕ) (e : Entry) (w′ : World)
-    → ((f : Heard → Bool) → Delivery.hears f e ≡ false) → Base o w′
+    → ((f : Heard → Bool) → onHeard false f e ≡ false) → Base o w′
     → w′ .receiver ≡ w .receiver → OnlyRefused e → Told o w l e w′
 unheard-told o w l e w′ none base same refusal =
     record {
       base = base;
-      taken = ap (λ (r : Receiver). r .taken) same ∙ omega (arith, ap bit (none (λ y. news (eventOf y) .new)));
+      taken = ap (λ (r : Receiver). r .taken) same ∙ (let new : isNew e ≡ false = none _ in omega (arith, ap bit new));
       ended =
           ap (λ (r : Receiver). r .ended) same
-          ∙ sym (ap (λ (b : Bool). w .receiver .ended || b) (none (λ y. news (eventOf y) .end))
-          ∙ or-no (w .receiver .ended));
-      length = λ M h. absurd (false≢true (sym (none (λ y. reportsEnd M (eventOf y))) ∙ h));
+          ∙ sym (ap (λ (b : Bool). w .receiver .ended || b) (none _) ∙ or-no (w .receiver .ended));
+      length = λ M h. absurd (false≢true (sym (none _) ∙ h));
       alarm =
           ap (λ (r : Receiver). alarmStands (r .phase)) same
-          ∙ sym (ap (λ (b : Bool). alarmStands (w .receiver .phase) || b) (none (λ y. news (eventOf y) .alarm))
-          ∙ or-no (alarmStands (w .receiver .phase)));
-      alarm-lost = λ h. absurd (false≢true (sym (none (λ y. news (eventOf y) .alarm)) ∙ h));
+          ∙ sym (ap (λ (b : Bool). alarmStands (w .receiver .phase) || b) (none _) ∙ or-no (alarmStands (w .receiver .phase)));
+      alarm-lost = λ h. absurd (false≢true (sym (none _) ∙ h));
       refusal = refusal;
     }
 

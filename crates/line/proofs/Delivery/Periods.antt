@@ -16,7 +16,7 @@ use Rattle.line.specs.Order.{orderBits, itemBits}
 use Rattle.line.specs.Sending.{Block, synchronising, item, transmit, plainBits, sentBits, gaveUp, send}
 use Rattle.line.specs.Receiving.{Reading, receive}
 use Rattle.line.specs.Course.{World, Call, sending, receiving, Entry, send-refused, sendEntry, sendAfter, receiveEntry, receiveAfter, course}
-use Rattle.line.specs.Delivery.{some, isEnd, isLost, Period, group, Undisturbed, EachPeriod, brings}
+use Rattle.line.specs.Delivery.{some, isEnd, isLost, Period, group, Undisturbed, All, brings}
 use Rattle.line.specs.declared.sender.Sender.{Sender}
 use Rattle.line.specs.declared.sender.Next.{Next}
 use Rattle.line.specs.declared.sender.Next.the-variants.{Sync, Older, Newer}
@@ -184,7 +184,7 @@ module _ (o : Session) (fit : Fit o) where
   Lack w d es =
       Inv o w 0 d → w .receiver .ended ≡ false → Okays o (alarmStands (w .receiver .phase)) d es → some isLost es ≡ false
       → (before these behind : List Period) → group es .periods ≡ before ++ (these ++ behind) → 5 ≤ length these
-      → EachPeriod (Undisturbed (o .k)) these → some isEnd (group es .loose) ≡ false → brings isEnd before ≡ false
+      → All (Undisturbed (o .k)) these → some isEnd (group es .loose) ≡ false → brings isEnd before ≡ false
       → brings brought these ≡ false → ⊥
 
   lack-nil : (w : World) (d : ℕ) → Lack w d []
@@ -283,7 +283,7 @@ module _ (o : Session) (fit : Fit o) where
   pub within-five : (cs : List Call) (w : World) (d : ℕ) → IdleLine o w 0 d → Base o w → w .receiver .ended ≡ false
       → Okays o (alarmStands (w .receiver .phase)) d (course w cs) → some isLost (course w cs) ≡ false
       → (before these behind : List Period) → group (course w cs) .periods ≡ before ++ (these ++ behind) → 5 ≤ length these
-      → EachPeriod (Undisturbed (o .k)) these → brings isEnd before ≡ false → brings brought these ≡ true
+      → All (Undisturbed (o .k)) these → brings isEnd before ≡ false → brings brought these ≡ true
   within-five cs w d g base en ok nl before these behind e five un be =
       ⊎-elim (λ y. y)
       (λ y.

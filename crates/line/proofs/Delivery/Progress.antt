@@ -2,10 +2,11 @@
 -- that is at most 5. Assumes nothing.
 use mathlib.Core.Path.{_≡_, refl}
 use mathlib.Core.Logic.{_⊎_, inl, inr, ⊎-elim}
-use mathlib.Core.Bool.{Bool, true, _||_}
+use mathlib.Core.Bool.{Bool, true, false, _||_}
 use Prim.Native.Nat.{ℕ, _+_, _*_, _≤_, _<_}
 use native.Mathlib.Omega.{arith}
-use Rattle.line.specs.Delivery.{news}
+use lib.Dec.{eqb}
+use Rattle.line.specs.Receiving.{EventKind, eventKind, withLength}
 use Rattle.line.specs.declared.sender.Next.{Next}
 use Rattle.line.specs.declared.sender.Next.the-variants.{Sync, Older, Newer}
 use Rattle.line.specs.declared.receiver.Event.{Event}
@@ -14,9 +15,16 @@ use Rattle.line.proofs.Delivery.Ends.{Ends, LineBlock, sync, item, Same
 use Rattle.line.proofs.Delivery.Ends as D
 use Rattle.line.proofs.Delivery.Invariant.{zero-or-one, send-keeps, read-keeps}
 
+-- the end, and the end with this length
+abbrev pub ending : EventKind → Bool
+ending v = withLength false (λ M. true) (v .length)
+
+abbrev pub endingWith : ℕ → EventKind → Bool
+endingWith L v = withLength false (λ M. eqb M L) (v .length)
+
 -- a new block or the end
 abbrev pub isNews : Event → Bool
-isNews e = news e .new || news e .end
+isNews e = eventKind e .new || ending (eventKind e)
 
 abbrev pub rank : Ends → Next → ℕ
 rank s Sync = 3

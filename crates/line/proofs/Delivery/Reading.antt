@@ -3,6 +3,7 @@ use mathlib.Core.Path.{_≡_, refl, ap, sym}
 use mathlib.Core.Logic.{_⊎_, inl, inr, ⊎-elim}
 use mathlib.Core.Bool.{Bool, true, false, _||_, false≢true}
 use mathlib.Core.List.{[]}
+use mathlib.Core.Option.{Option, none, some}
 use Prim.Native.Nat.{ℕ, _+_, _≤_, _<_}
 use native.Mathlib.Omega.{arith}
 use lib.ListN.{length, take}
@@ -11,8 +12,7 @@ use borrow.Author.Tests.{eqb-true, leb-true, leb-false, lt-ltb}
 use Rattle.crc.specs.Bits.{bit, bitsOf}
 use Rattle.block.specs.Lengths.{blockLength}
 use Rattle.block.proofs.Truth.{or-true, or-false, or-no, or-yes}
-use Rattle.line.specs.Receiving.{arrayBytes, Rule, unfinished, standing, found, sync-block, check-fails, accepts, previous, out-of-sequence, ends, wrong-length, ends-again, anything-else, meaning, lastBad, blank, well, badly, alarmed, after, heldBits, heldInRange}
-use Rattle.line.specs.Delivery.{news}
+use Rattle.line.specs.Receiving.{arrayBytes, Rule, unfinished, standing, found, sync-block, check-fails, accepts, previous, out-of-sequence, ends, wrong-length, ends-again, anything-else, meaning, EventKind, eventKind, lastBad, blank, well, badly, alarmed, after, heldBits, heldInRange}
 use Rattle.line.specs.declared.sender.Sender.{Sender}
 use Rattle.line.specs.declared.receiver.Receiver.{Receiver}
 use Rattle.line.specs.declared.receiver.Phase.{Phase}
@@ -23,6 +23,7 @@ use Rattle.line.proofs.Delivery.Ends as D
 use Rattle.line.proofs.Delivery.Holding.{length-noBytes}
 use Rattle.line.proofs.Delivery.Judging as J
 use Rattle.line.proofs.Delivery.Judging.{Unharmed}
+use Rattle.line.proofs.Delivery.Progress.{ending}
 use Rattle.line.proofs.Delivery.State.{Session, N, inSearch, alarmStands, Held}
 use Rattle.line.proofs.Delivery.State as S
 
@@ -43,24 +44,25 @@ endsBlock ends-again = true
 endsBlock anything-else = true
 
 -- what it leaves: nothing held, and the items and the end as its event says
-pub record After (r t : Receiver) (stores new end alarm : Bool) : Type 0 where
+pub record After (r t : Receiver) (stores : Bool) (v : EventKind) : Type 0 where
   pub setup : t .setup ≡ r .setup
   pub array : length (t .bits) ≡ arrayBytes
   pub held : t .held ≡ 0
   pub row : t .row < lastBad
   pub taken : t .taken ≡ bit stores + r .taken
-  pub ended : t .ended ≡ (r .ended || end)
-  pub alarms : alarmStands (t .phase) ≡ alarm
-  pub stored : stores ≡ new
+  pub ended : t .ended ≡ (r .ended || ending v)
+  pub alarms : alarmStands (t .phase) ≡ v .alarm
+  pub stored : stores ≡ v .new
 
-abbrev AfterRule : Receiver → Rule → Type 0
-AfterRule r x = After r (after r x) (meaning x .stores) (news (meaning x .event) .new) (news (meaning x .event) .end)
-    (news (meaning x .event) .alarm)
+-- nothing, or an alarm
+abbrev only : Bool → EventKind
+only alarm = record { new = false; alarm = alarm; length = none }
 
 module _ (r : Receiver) where
-  blank-after : (row : ℕ) (back : Bool) (taken : ℕ) (ended : Bool) (phase : Phase) (stores end : Bool) → row < lastBad
-      → taken ≡ bit stores + r .taken → ended ≡ (r .ended || end)
-      → After r (blank r row back taken ended phase) stores stores end (alarmStands phase)
+  blank-after : (row : ℕ) (back : Bool) (taken : ℕ) (ended : Bool) (phase : Phase) (stores : Bool) (end : Option ℕ)
+      → let v : EventKind = record { new = stores; alarm = alarmStands phase; length = end } in
+      row < lastBad → taken ≡ bit stores + r .taken → ended ≡ (r .ended || ending v)
+      → After r (blank r row back taken ended phase) stores v
   blank-after row back taken ended phase stores end h t e =
       record {
         setup = refl;
@@ -76,26 +78,26 @@ module _ (r : Receiver) where
   same-end : r .ended ≡ (r .ended || false)
   same-end = sym (or-no (r .ended))
 
-  well-after : After r (well r (r .taken) (r .ended)) false false false false
-  well-after = blank-after 0 false (r .taken) (r .ended) P.InStep false false (omega arith) (omega arith) same-end
+  well-after : After r (well r (r .taken) (r .ended)) false (only false)
+  well-after = blank-after 0 false (r .taken) (r .ended) P.InStep false none (omega arith) (omega arith) same-end
 
-  alarm-after : (alarm : Phase) → After r (alarmed r alarm) false false false (alarmStands alarm)
-  alarm-after alarm = blank-after 0 true (r .taken) (r .ended) alarm false false (omega arith) (omega arith) same-end
+  alarm-after : (alarm : Phase) → After r (alarmed r alarm) false (only (alarmStands alarm))
+  alarm-after alarm = blank-after 0 true (r .taken) (r .ended) alarm false none (omega arith) (omega arith) same-end
 
-  badly-after : (search : Bool) → (search ≡ false → r .row + 1 < lastBad) → After r (badly r search) false false false false
-  badly-after true h = blank-after 0 true (r .taken) (r .ended) P.Search false false (omega arith) (omega arith) same-end
-  badly-after false h = blank-after (r .row + 1) true (r .taken) (r .ended) P.InStep false false (h refl) (omega arith) same-end
+  badly-after : (search : Bool) → (search ≡ false → r .row + 1 < lastBad) → After r (badly r search) false (only false)
+  badly-after true h = blank-after 0 true (r .taken) (r .ended) P.Search false none (omega arith) (omega arith) same-end
+  badly-after false h = blank-after (r .row + 1) true (r .taken) (r .ended) P.InStep false none (h refl) (omega arith) same-end
 
-  pub after-is : (x : Rule) → endsBlock x ≡ true → AfterRule r x
+  pub after-is : (x : Rule) → endsBlock x ≡ true → After r (after r x) (meaning x .stores) (eventKind (meaning x .event))
   after-is unfinished e = absurd (false≢true e)
   after-is (standing alarm) e = absurd (false≢true e)
   after-is found e = well-after
   after-is sync-block e = well-after
   after-is check-fails e = badly-after (leb lastBad (r .row + 1)) (leb-false lastBad (r .row + 1))
-  after-is accepts e = blank-after 0 false (r .taken + 1) (r .ended) P.InStep true false (omega arith) (omega arith) same-end
+  after-is accepts e = blank-after 0 false (r .taken + 1) (r .ended) P.InStep true none (omega arith) (omega arith) same-end
   after-is previous e = well-after
   after-is out-of-sequence e = alarm-after P.SequenceAlarm
-  after-is (ends L) e = blank-after 0 false (r .taken) true P.InStep false true (omega arith) (omega arith) (sym (or-yes (r .ended)))
+  after-is (ends L) e = blank-after 0 false (r .taken) true P.InStep false (some L) (omega arith) (omega arith) (sym (or-yes (r .ended)))
   after-is wrong-length e = alarm-after P.LengthAlarm
   after-is ends-again e = well-after
   after-is anything-else e =

@@ -12,9 +12,9 @@ use Rattle.block.specs.Block.{syncBlock}
 use Rattle.block.proofs.Truth.{and-no}
 use Rattle.line.specs.Order.{longestOrder, mostItems, validLength, itemCount, itemBits}
 use Rattle.line.specs.Sending.{Block, synchronising, item}
-use Rattle.line.specs.Receiving.{Rule, found, sync-block, check-fails, ends, anything-else, meaning, after, judge}
+use Rattle.line.specs.Receiving.{Rule, found, sync-block, check-fails, ends, anything-else, meaning, eventKind, after, judge}
 use Rattle.line.specs.Course.{World}
-use Rattle.line.specs.Delivery.{isItem, reportsEnd}
+use Rattle.line.specs.Delivery.{isItem}
 use Rattle.line.specs.declared.receiver.Receiver.{Receiver}
 use Rattle.line.specs.declared.receiver.Phase.the-variants as P
 use Rattle.line.specs.declared.receiver.Event.the-variants as E
@@ -22,6 +22,7 @@ use Rattle.line.proofs.Items.{itemCount-fits}
 use Rattle.line.proofs.Delivery.Ends.{LineBlock, Reads, During}
 use Rattle.line.proofs.Delivery.Ends as D
 use Rattle.line.proofs.Delivery.Invariant.{neighbour}
+use Rattle.line.proofs.Delivery.Progress.{endingWith}
 use Rattle.line.proofs.Delivery.Judging as J
 use Rattle.line.proofs.Delivery.Judging.{Unharmed, Judged, judged, judge-item, judge-fails, judge-sync}
 use Rattle.line.proofs.Delivery.Reading.{endsBlock, same-sender, well-in-step, unharmed-reads, fails-reads, other-reads}
@@ -37,7 +38,7 @@ few o fit = itemCount-fits (o .k) (o .L) (fit .known)
 
 -- its rule ends the block with a passing check, reports no length but L, and stores no item but item r
 unharmed-facts : {k L r : ℕ} {ended : Bool} {i : ℕ} {x : Rule} → Unharmed k L r ended i x
-    → (endsBlock x ≡ true) × (meaning x .checked ≡ true) × ((M : ℕ) → reportsEnd M (meaning x .event) ≡ true → M ≡ L)
+    → (endsBlock x ≡ true) × (meaning x .checked ≡ true) × ((M : ℕ) → endingWith M (eventKind (meaning x .event)) ≡ true → M ≡ L)
     × (meaning x .stores ≡ true → (i ≡ r) × (i < itemCount k L))
 unharmed-facts (J.expected-item h e m) = (refl, refl, λ M n. absurd (false≢true n), λ n. (m, h))
 unharmed-facts (J.last-item h e m) = (refl, refl, λ M n. absurd (false≢true n), λ n. absurd (false≢true n))
@@ -70,7 +71,7 @@ module _ (o : Session) (fit : Fit o) (w : World) (l d : ℕ) (copy : Bits) (f : 
   pub record Ruling (x : Rule) : Type 0 where
     pub ends-block : endsBlock x ≡ true
     pub reads : ReadBy x (danger-left x) f
-    pub length : (M : ℕ) → reportsEnd M (meaning x .event) ≡ true → M ≡ o .L
+    pub length : (M : ℕ) → endingWith M (eventKind (meaning x .event)) ≡ true → M ≡ o .L
     pub takes : meaning x .stores ≡ true
         → (i : ℕ) × (copy ≡ itemBits (o .k) (o .L) (o .content) i) × (i ≡ r .taken) × (i < N o)
     pub clean : f ≡ LineBlock.sync → copy ≡ syncBlock (o .k) → meaning x .event ≡ E.Sync

@@ -14,7 +14,7 @@ use Rattle.line.specs.Order.{longestOrder, itemCount, filled, itemBits}
 use Rattle.line.specs.Sending.{Block, synchronising, item, lastRun}
 use Rattle.line.specs.Receiving.{arrayBytes, lastBad, heldBits, latest, heldInRange}
 use Rattle.line.specs.Course.{World, Entry}
-use Rattle.line.specs.Delivery.{OnLine, SameOrder, SameStore, Admitted, NotWhole, SyncAtLast, SyncNotData, OnlyRefused, isNew, isEnd, isAlarm, isLost, isGood, hears, eventOf, reportsEnd}
+use Rattle.line.specs.Delivery.{OnLine, SameOrder, SameStore, Admitted, NotWhole, SyncAtLast, SyncNotData, OnlyRefused, isNew, isEnd, isAlarm, isLost, isGood, reportsEnd}
 use Rattle.line.specs.declared.sender.Sender.{Sender}
 use Rattle.line.specs.declared.receiver.Receiver.{Receiver}
 use Rattle.line.specs.declared.receiver.Phase.{Phase}
@@ -159,7 +159,7 @@ pub record Told (o : Session) (w : World) (l : ℕ) (e : Entry) (w′ : World) :
   pub base : Base o w′
   pub taken : w′ .receiver .taken ≡ bit (isNew e) + w .receiver .taken
   pub ended : w′ .receiver .ended ≡ (w .receiver .ended || isEnd e)
-  pub length : (M : ℕ) → hears (λ y. reportsEnd M (eventOf y)) e ≡ true → M ≡ o .L
+  pub length : (M : ℕ) → reportsEnd M e ≡ true → M ≡ o .L
   pub alarm : alarmStands (w′ .receiver .phase) ≡ (alarmStands (w .receiver .phase) || isAlarm e)
   pub alarm-lost : isAlarm e ≡ true → l ≡ 1
   pub refusal : OnlyRefused e

@@ -13,7 +13,7 @@ use Rattle.block.proofs.Truth.{or-false, or-no, bit-false}
 use Rattle.line.specs.Sending.{item}
 use Rattle.line.specs.Receiving.{Reading}
 use Rattle.line.specs.Course.{World, Call, Entry, receive-refused, receiveEntry, receiveAfter, course}
-use Rattle.line.specs.Delivery.{some, isNew, isEnd, isAlarm, isLost, Period, group, usedBits, Undisturbed, EachPeriod, brings}
+use Rattle.line.specs.Delivery.{some, isNew, isEnd, isAlarm, isLost, Period, group, usedBits, Undisturbed, All, brings}
 use Rattle.line.specs.declared.sender.Next.{Next}
 use Rattle.line.specs.declared.sender.Next.the-variants.{Newer}
 use Rattle.line.proofs.Delivery.Ends.{Ends, LineBlock, Sends, Idle}
@@ -83,7 +83,7 @@ module _ (o : Session) (fit : Fit o) where
   Short w d limit es =
       Base o w → Between o w d limit ⊎ During o w d limit es → Okays o (alarmStands (w .receiver .phase)) d es
       → some isLost es ≡ false → (ps behind : List Period) → group es .periods ≡ ps ++ behind
-      → EachPeriod (Undisturbed (o .k)) ps → some brought (group es .loose) ≡ false → brings brought ps ≡ false → length ps < limit
+      → All (Undisturbed (o .k)) ps → some brought (group es .loose) ≡ false → brings brought ps ≡ false → length ps < limit
 
   abbrev pub Shorts : List Call → Type 0
   Shorts cs = (w : World) (d limit : ℕ) → Short w d limit (course w cs)
@@ -132,7 +132,7 @@ module _ (o : Session) (fit : Fit o) where
       -- with no block on the line
       hear-between : ReceiveAnswered (w .receiver) lent count (done y) → Base o w → Between o w d limit
           → Okays o (alarmStands (w .receiver .phase)) d (x ∷ course w′ cs) → some isLost (course w′ cs) ≡ false
-          → (ps behind : List Period) → group (course w′ cs) .periods ≡ ps ++ behind → EachPeriod (Undisturbed (o .k)) ps
+          → (ps behind : List Period) → group (course w′ cs) .periods ≡ ps ++ behind → All (Undisturbed (o .k)) ps
           → brought x || some brought (group (course w′ cs) .loose) ≡ false → brings brought ps ≡ false → length ps < limit
       hear-between a base g ok nl ps behind e un q b =
           let z = idle-hears o fit w 0 d (g .line) base lent count store (done y) a (ok .0) in
@@ -196,7 +196,7 @@ module _ (o : Session) (fit : Fit o) where
 
       hear-during : ReceiveAnswered (w .receiver) lent count (done y) → Base o w → During o w d limit (x ∷ course w′ cs)
           → Okays o (alarmStands (w .receiver .phase)) d (x ∷ course w′ cs) → some isLost (course w′ cs) ≡ false
-          → (ps behind : List Period) → group (course w′ cs) .periods ≡ ps ++ behind → EachPeriod (Undisturbed (o .k)) ps
+          → (ps behind : List Period) → group (course w′ cs) .periods ≡ ps ++ behind → All (Undisturbed (o .k)) ps
           → brought x || some brought (group (course w′ cs) .loose) ≡ false → brings brought ps ≡ false → length ps < limit
       hear-during a base g ok nl ps behind e un q b =
           let z = busy-hears o fit w 0 d (g .copy) (g .line-block) (g .line) base lent count store (done y) a (ok .0) in

@@ -1,8 +1,9 @@
 -- Demand 3 holds. Assumes nothing.
 use mathlib.Core.Path.{_≡_, refl, ap, sym, _∙_, subst, subst₂}
 use mathlib.Core.Logic.{_⊎_, inl, inr, ⊎-elim}
-use mathlib.Core.Bool.{Bool, true, false, _||_, not}
+use mathlib.Core.Bool.{Bool, true, false, _||_, not, false≢true}
 use mathlib.Core.List.{List, [], _∷_, _++_}
+use mathlib.Core.Option.{Option}
 use native.Mathlib.Omega.{arith}
 use native.Mathlib.Nat.{zero-mul}
 use Prim.Native.Nat.{ℕ, _*_, _≤_}
@@ -18,14 +19,12 @@ use Rattle.block.proofs.Truth.{cond-case, or-true, or-yes, bit-true}
 use Rattle.line.specs.LoopTime.{loopTime}
 use Rattle.line.specs.Order.{longestOrder, filled, orderBits}
 use Rattle.line.specs.Sending.{freshSender, unless-refused, openSender}
-use Rattle.line.specs.Receiving.{freshReceiver, openedReceiver, openingAnswer, OpenReceiver}
-use Rattle.line.specs.Course.{Call, World, opened, Entry, send-refused, receive-refused, sent, heard, course, final}
-use Rattle.line.specs.Delivery.{some, news, hears, eventOf, isEnd, isLost, reportsEnd, accepted, Period, group, EachPeriod, Undisturbed, brings, Assumptions, Guarantees, Openings, Delivery}
+use Rattle.line.specs.Receiving.{withLength, freshReceiver, openedReceiver, openingAnswer, OpenReceiver}
+use Rattle.line.specs.Course.{Call, World, opened, Heard, Entry, send-refused, receive-refused, sent, heard, onHeard, course, final}
+use Rattle.line.specs.Delivery.{All, some, kindOf, isEnd, isLost, reportsEnd, accepted, Period, group, Undisturbed, brings, Assumptions, Guarantees, Openings, Delivery}
 use Rattle.line.specs.declared.sender.Sender.{Sender}
 use Rattle.line.specs.declared.sender.Opened.the-variants as SenderOpened
 use Rattle.line.specs.declared.receiver.Receiver.{Receiver}
-use Rattle.line.specs.declared.receiver.Event.{Event}
-use Rattle.line.specs.declared.receiver.Event.the-variants as E
 use Rattle.line.specs.declared.receiver.Opened as ReceiverOpened
 use Rattle.line.specs.declared.receiver.Opening.the-variants as Opening
 use Rattle.line.proofs.Items.{length-orderBits}
@@ -138,21 +137,20 @@ module _ (o : Session) where
 
 -- ---- the end reported
 
-reported-ends : (M : ℕ) (v : Event) → reportsEnd M v ≡ true → news v .end ≡ true
-reported-ends M E.None h = h
-reported-ends M E.Sync h = h
-reported-ends M E.Bad h = h
-reported-ends M E.Accepted h = h
-reported-ends M E.Previous h = h
-reported-ends M E.SequenceAlarm h = h
-reported-ends M E.LengthAlarm h = h
-reported-ends M (E.Ended L) h = refl
+-- a test of what was heard holds of no entry but a receiving call that is not refused
+pub by-heard : (P : Entry → Type 0) (f : Heard → Bool) → ((y : Heard) → f y ≡ true → P (heard y))
+    → (e : Entry) → onHeard false f e ≡ true → P e
+by-heard P f h (send-refused n) q = absurd (false≢true q)
+by-heard P f h (receive-refused n) q = absurd (false≢true q)
+by-heard P f h (sent x) q = absurd (false≢true q)
+by-heard P f h (heard y) q = h y q
 
-entry-ends : (M : ℕ) (e : Entry) → hears (λ y. reportsEnd M (eventOf y)) e ≡ true → isEnd e ≡ true
-entry-ends M (send-refused n) h = h
-entry-ends M (receive-refused n) h = h
-entry-ends M (sent x) h = h
-entry-ends M (heard y) h = reported-ends M (eventOf y) h
+length-ends : (f : ℕ → Bool) (l : Option ℕ) → withLength false f l ≡ true → withLength false (λ M. true) l ≡ true
+length-ends f Option.none h = h
+length-ends f (Option.some M) h = refl
+
+entry-ends : (M : ℕ) (e : Entry) → reportsEnd M e ≡ true → isEnd e ≡ true
+entry-ends M = by-heard (λ e. isEnd e ≡ true) _ (λ y. length-ends _ (kindOf y .length))
 
 some-implies : (f g : Entry → Bool) → ((e : Entry) → f e ≡ true → g e ≡ true) → (es : List Entry) → some f es ≡ true → some g es ≡ true
 some-implies f g h [] q = q
@@ -169,7 +167,7 @@ basic-of o w l d h = ⊎-elim (λ g. (g .idle .basic, g .idle .all)) (λ g. (g .
 abbrev pub FivePeriods : ℕ → List Entry → Type 0
 FivePeriods k es =
     some isLost es ≡ false → (before these behind : List Period) → group es .periods ≡ before ++ (these ++ behind)
-    → 5 ≤ length these → EachPeriod (Undisturbed k) these → brings isEnd before ≡ false → brings brought these ≡ true
+    → 5 ≤ length these → All (Undisturbed k) these → brings isEnd before ≡ false → brings brought these ≡ true
 
 module _ (o : Session) (fit : Fit o) (calls : List Call) (w : World) (base : Base o w) (idle : IdleLine o w 0 0)
     (none : w .receiver .taken ≡ 0) (still : w .receiver .ended ≡ false) (quiet : alarmStands (w .receiver .phase) ≡ false) where

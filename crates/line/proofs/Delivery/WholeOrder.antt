@@ -1,54 +1,42 @@
 -- What a layer above takes from demand 3: with the end reported, the store begins with the order. Assumes nothing.
 use mathlib.Core.Path.{_≡_, refl, ap, ap₂, sym, _∙_}
 use mathlib.Core.Logic.{⊎-elim}
-use mathlib.Core.Bool.{Bool, true, _||_, false≢true}
+use mathlib.Core.Bool.{Bool, true, false, _||_, false≢true}
 use mathlib.Core.List.{List, [], _∷_}
+use mathlib.Core.Option.{Option}
 use native.Mathlib.Omega.{arith}
 use Prim.Native.Nat.{ℕ, zero, suc, _-_, _*_, _≤_, _<_}
+use lib.Dec.{eqb}
 use lib.ListN.{length, take, getD}
 use lib.Seq.{take-at, take-take}
 use borrow.Author.Tests.{eq-eqb}
 use Rattle.crc.specs.Bits.{Bits, bitsOf, bytesOf, zeros}
 use Rattle.crc.proofs.Bytes.{length-bitsOf, take-bitsOf, bytesOf-bitsOf}
 use Rattle.line.specs.Order.{itemCount, filled, orderBits}
-use Rattle.line.specs.Course.{Call, World, opened, Entry, send-refused, receive-refused, sent, heard, course, final}
-use Rattle.line.specs.Delivery.{some, news, hears, eventOf, isEnd, reportsEnd, accepted, Assumptions, Guarantees, Openings}
+use Rattle.line.specs.Receiving.{withLength}
+use Rattle.line.specs.Course.{Call, World, opened, Entry, course, final}
+use Rattle.line.specs.Delivery.{some, kindOf, isEnd, reportsEnd, accepted, Assumptions, Guarantees, Openings}
 use Rattle.line.specs.declared.sender.Sender.{Sender}
 use Rattle.line.specs.declared.receiver.Opened as ReceiverOpened
-use Rattle.line.specs.declared.receiver.Event.{Event}
-use Rattle.line.specs.declared.receiver.Event.the-variants as E
 use Rattle.block.proofs.Lengths.{length-facts}
 use Rattle.block.proofs.Truth.{or-true, or-yes}
 use Rattle.line.proofs.Items.{itemCount-holds, length-orderBits}
-use Rattle.line.proofs.Delivery.Theorem.{opened-well, guaranteed}
+use Rattle.line.proofs.Delivery.Theorem.{by-heard, opened-well, guaranteed}
 
 -- the end reported is reported with some length
-event-ends : (v : Event) → news v .end ≡ true → (M : ℕ) × (reportsEnd M v ≡ true)
-event-ends E.None h = absurd (false≢true h)
-event-ends E.Sync h = absurd (false≢true h)
-event-ends E.Bad h = absurd (false≢true h)
-event-ends E.Accepted h = absurd (false≢true h)
-event-ends E.Previous h = absurd (false≢true h)
-event-ends E.SequenceAlarm h = absurd (false≢true h)
-event-ends E.LengthAlarm h = absurd (false≢true h)
-event-ends (E.Ended L) h = (L, eq-eqb L L refl)
+length-reported : (l : Option ℕ) → withLength false (λ M. true) l ≡ true → (L : ℕ) × (withLength false (λ M. eqb M L) l ≡ true)
+length-reported Option.none h = absurd (false≢true h)
+length-reported (Option.some M) h = (M, eq-eqb M M refl)
 
--- the end reported with this length
-abbrev Reports : ℕ → Entry → Bool
-Reports M e = hears (λ y. reportsEnd M (eventOf y)) e
+entry-reports : (e : Entry) → isEnd e ≡ true → (L : ℕ) × (reportsEnd L e ≡ true)
+entry-reports = by-heard (λ e. (L : ℕ) × (reportsEnd L e ≡ true)) _ (λ y. length-reported (kindOf y .length))
 
-entry-reports : (e : Entry) → isEnd e ≡ true → (M : ℕ) × (Reports M e ≡ true)
-entry-reports (send-refused n) h = absurd (false≢true h)
-entry-reports (receive-refused n) h = absurd (false≢true h)
-entry-reports (sent x) h = absurd (false≢true h)
-entry-reports (heard y) h = event-ends (eventOf y) h
-
-pub some-reports : (es : List Entry) → some isEnd es ≡ true → (M : ℕ) × (some (hears (λ y. reportsEnd M (eventOf y))) es ≡ true)
+pub some-reports : (es : List Entry) → some isEnd es ≡ true → (L : ℕ) × (some (reportsEnd L) es ≡ true)
 some-reports [] h = absurd (false≢true h)
 some-reports (e ∷ es) h =
     ⊎-elim
-    (λ a. let z = entry-reports e a in (z .0, ap (λ (b : Bool). b || some (Reports (z .0)) es) (z .1)))
-    (λ a. let z = some-reports es a in (z .0, ap (λ (b : Bool). Reports (z .0) e || b) (z .1) ∙ or-yes (Reports (z .0) e)))
+    (λ a. let z = entry-reports e a in (z .0, ap (λ (b : Bool). b || some (reportsEnd (z .0)) es) (z .1)))
+    (λ a. let z = some-reports es a in (z .0, ap (λ (b : Bool). reportsEnd (z .0) e || b) (z .1) ∙ or-yes (reportsEnd (z .0) e)))
     (or-true (isEnd e) (some isEnd es) h)
 
 -- the order's bits are the first of its items'

@@ -1,11 +1,9 @@
 -- `report`: a length comes with the end alone. Assumes nothing.
 use mathlib.Core.Path.{_≡_, refl, sym, ap}
 use mathlib.Core.List.{[], _∷_}
-use mathlib.Core.Logic.{⊎-elim}
 use Prim.Native.Nat.{ℕ}
-use native.Mathlib.Omega.{arith}
 use denote.Enum.Declared.{tagOf}
-use types.Run.{OneOf}
+use types.Run.{OneOf, miss}
 use Rattle.line.specs.declared.receiver.Event.{Event}
 use Rattle.line.specs.declared.receiver.Event.the-variants as E
 use Rattle.line.proofs.receiver.Event.{the-type}
@@ -22,13 +20,7 @@ no-length len E.Accepted t = refl
 no-length len E.Previous t = refl
 no-length len E.SequenceAlarm t = refl
 no-length len E.LengthAlarm t = refl
-no-length len (E.Ended L) t =
-    ⊎-elim (λ z. absurd (omega arith))
-    (λ h. ⊎-elim (λ z. absurd (omega arith))
-    (λ h. ⊎-elim (λ z. absurd (omega arith))
-    (λ h. ⊎-elim (λ z. absurd (omega arith))
-    (λ h. ⊎-elim (λ z. absurd (omega arith)) (λ h. ⊎-elim (λ z. absurd (omega arith)) (λ z. absurd (omega arith)) h) h) h) h) h)
-    t
+no-length len (E.Ended L) t = absurd (miss (0 ∷ 1 ∷ 2 ∷ 3 ∷ 4 ∷ 5 ∷ 6 ∷ []) 7 tt t)
 
 enum-known-event : tie.Need-enum-known-event
 enum-known-event c = search needs
