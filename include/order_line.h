@@ -139,19 +139,22 @@ uint8_t order_line_open_receiver(size_t k, uint8_t *state, size_t state_bytes);
  * multiple of k. bits may be 0: nothing changes, and a standing alarm is reported.
  * Refused: SPOILED, SHORT (line has fewer than `bits` bits; or a block would be accepted and the store cannot hold it: then
  * no bit is used, and the call may be made again with a longer store).
+ * ORDER_LINE_IS_EVENT(answer) says whether what was returned is an event; if not, it is a refusal.
  */
 uint8_t order_line_receive(uint8_t *state, size_t state_bytes, const uint8_t *line, size_t line_bytes, size_t bits,
                            uint8_t *store, size_t store_bytes, size_t *used, size_t *length);
 
-/* The events; their numbers are this library's own, above those of the refusals. */
-#define ORDER_LINE_EVENT_NONE 16           /* all bits were used without an event */
-#define ORDER_LINE_EVENT_SYNC 17           /* a synchronising block, or its last 16 bits in search */
-#define ORDER_LINE_EVENT_BAD 18            /* the check failed, or the block fits nowhere */
-#define ORDER_LINE_EVENT_ACCEPTED 19       /* the next data item: its data are in the store */
-#define ORDER_LINE_EVENT_PREVIOUS 20       /* the item before, or the end again: nothing stored */
-#define ORDER_LINE_EVENT_SEQUENCE_ALARM 21 /* an item was missed; stands until a receiver is opened anew */
-#define ORDER_LINE_EVENT_LENGTH_ALARM 22   /* an end block with another length; stands likewise */
-#define ORDER_LINE_EVENT_ENDED 23          /* the end: the whole order is in the store, and its length is reported */
+/* The events; their numbers are this library's own. Refusals stay below 64, in every later version too. */
+#define ORDER_LINE_EVENT_NONE 64           /* all bits were used without an event */
+#define ORDER_LINE_EVENT_SYNC 65           /* a synchronising block, or its last 16 bits in search */
+#define ORDER_LINE_EVENT_BAD 66            /* the check failed, or the block fits nowhere */
+#define ORDER_LINE_EVENT_ACCEPTED 67       /* the next data item: its data are in the store */
+#define ORDER_LINE_EVENT_PREVIOUS 68       /* the item before, or the end again: nothing stored */
+#define ORDER_LINE_EVENT_SEQUENCE_ALARM 69 /* an item was missed; stands until a receiver is opened anew */
+#define ORDER_LINE_EVENT_LENGTH_ALARM 70   /* an end block with another length; stands likewise */
+#define ORDER_LINE_EVENT_ENDED 71          /* the end: the whole order is in the store, and its length is reported */
+
+#define ORDER_LINE_IS_EVENT(answer) ((answer) >= ORDER_LINE_EVENT_NONE)
 
 /*
  * The return bit that the machine now sends back: 0, or 1 to ask for a repeat. Refused: SPOILED.

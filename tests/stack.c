@@ -90,7 +90,7 @@ static bool session(size_t most, size_t *sending, size_t *receiving)
             for (size_t i = 0; i < bits; i++)
                 line[i / 8] |= (uint8_t)((block[(at + i) / 8] >> (7 - (at + i) % 8) & 1) << (7 - i % 8));
             deepen(receiving, receive);
-            if (answer < ORDER_LINE_EVENT_NONE || used != bits)
+            if (!ORDER_LINE_IS_EVENT(answer) || used != bits)
                 return false;
         }
     }

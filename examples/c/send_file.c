@@ -25,7 +25,7 @@
 #define BLOCK_BYTES ORDER_LINE_BLOCK_BYTES(3840) /* room for a block of any k */
 #define STORE_BYTES 33120                        /* the longest order filled up to whole items of any k */
 
-#define EVENTS (ORDER_LINE_EVENT_ENDED + 1)
+#define EVENTS (ORDER_LINE_EVENT_ENDED - ORDER_LINE_EVENT_NONE + 1)
 
 /* ---- the office: the sending end ---- */
 
@@ -87,7 +87,7 @@ struct machine {
     uint8_t alarm;      /* the alarm that stands, or 0 */
     uint8_t refusal;    /* the refusal that stopped the machine, or 0 */
     uint8_t return_bit; /* what the return channel is held at */
-    unsigned long events[EVENTS];
+    unsigned long events[EVENTS]; /* how often each came, from ORDER_LINE_EVENT_NONE on */
 };
 
 static uint8_t machine_open(struct machine *machine, size_t k)
@@ -121,12 +121,10 @@ static void machine_on_event(struct machine *machine, uint8_t event)
             return; /* reported again at each call */
         machine->alarm = event;
         break;
-    default: /* a refusal: with these buffers it means that the state's bytes were spoiled */
-        machine->refusal = event;
-        machine->return_bit = 1;
+    default: /* there is no other event */
         return;
     }
-    machine->events[event]++;
+    machine->events[event - ORDER_LINE_EVENT_NONE]++;
     machine->return_bit = order_line_return_bit(machine->state, sizeof machine->state);
 }
 
@@ -138,10 +136,15 @@ static void machine_on_bits(struct machine *machine, uint8_t byte, size_t bits)
 {
     while (bits > 0 && machine->refusal == 0) {
         size_t used = 0;
-        uint8_t event = order_line_receive(machine->state, sizeof machine->state, &byte, 1, bits, machine->store,
-                                           sizeof machine->store, &used, &machine->length);
+        uint8_t answer = order_line_receive(machine->state, sizeof machine->state, &byte, 1, bits, machine->store,
+                                            sizeof machine->store, &used, &machine->length);
 
-        machine_on_event(machine, event);
+        if (ORDER_LINE_IS_EVENT(answer)) {
+            machine_on_event(machine, answer);
+        } else { /* with these buffers a refusal means that the state's bytes were spoiled */
+            machine->refusal = answer;
+            machine->return_bit = 1;
+        }
         byte = (uint8_t)(byte << used);
         bits -= used;
     }
@@ -225,15 +228,21 @@ static uint8_t run_period(struct office *office, struct machine *machine, struct
     return 0;
 }
 
-static void print_summary(const struct office *office, const unsigned long *events, unsigned long periods, size_t k)
+static unsigned long times(const struct machine *machine, uint8_t event)
+{
+    return machine->events[event - ORDER_LINE_EVENT_NONE];
+}
+
+static void print_summary(const struct office *office, const struct machine *machine, unsigned long periods, size_t k)
 {
     printf("%lu bytes, blocks of %lu data bits: %lu periods, %lu synchronising, %lu cancelled, %lu repeats\n",
            (unsigned long)office->order_bytes, (unsigned long)k, periods, office->synchronising, office->cancelled,
            office->repeats);
     printf("events: %lu sync, %lu bad, %lu accepted, %lu previous, %lu ended, %lu alarms\n",
-           events[ORDER_LINE_EVENT_SYNC], events[ORDER_LINE_EVENT_BAD], events[ORDER_LINE_EVENT_ACCEPTED],
-           events[ORDER_LINE_EVENT_PREVIOUS], events[ORDER_LINE_EVENT_ENDED],
-           events[ORDER_LINE_EVENT_SEQUENCE_ALARM] + events[ORDER_LINE_EVENT_LENGTH_ALARM]);
+           times(machine, ORDER_LINE_EVENT_SYNC), times(machine, ORDER_LINE_EVENT_BAD),
+           times(machine, ORDER_LINE_EVENT_ACCEPTED), times(machine, ORDER_LINE_EVENT_PREVIOUS),
+           times(machine, ORDER_LINE_EVENT_ENDED),
+           times(machine, ORDER_LINE_EVENT_SEQUENCE_ALARM) + times(machine, ORDER_LINE_EVENT_LENGTH_ALARM));
 }
 
 /* Whether the order arrived; says in words if not. */
@@ -269,7 +278,7 @@ static int run_session(struct office *office, struct machine *machine, size_t k)
         fprintf(stderr, "refused %u\n", (unsigned)refusal);
         return 2;
     }
-    print_summary(office, machine->events, noise.period, k);
+    print_summary(office, machine, noise.period, k);
     if (!arrived_whole(office, machine, rest)) {
         puts("did not arrive whole");
         return 1;

@@ -1,6 +1,7 @@
 //! The linked library's interface a second time: the ends' states in lent bytes, answers as
 //! numbers. The layouts and the numbers are those that `include/order_line.h` gives.
 
+use crate::reference::block::Read;
 use crate::reference::receiver::{Alarm, Event, Received, Receiver, HOLD_BYTES};
 use crate::reference::refusal::{Refusal, SPOILED};
 use crate::reference::sender::{Next, Sender, Sent};
@@ -15,8 +16,19 @@ pub const GOING_ON: u8 = 0;
 pub const FINISHED: u8 = 1;
 pub const GAVE_UP: u8 = 2;
 
-/// The least of the events' numbers; below it stand the refusals.
-pub const EVENT_NONE: u8 = 16;
+/// The events' numbers; those of the refusals stay below them.
+pub const EVENT_NONE: u8 = 64;
+const EVENT_SYNC: u8 = 65;
+const EVENT_BAD: u8 = 66;
+pub const EVENT_ACCEPTED: u8 = 67;
+const EVENT_PREVIOUS: u8 = 68;
+const EVENT_SEQUENCE_ALARM: u8 = 69;
+const EVENT_LENGTH_ALARM: u8 = 70;
+const EVENT_ENDED: u8 = 71;
+
+/// Answers of reading a block; a passed one has its service bits added.
+const PASSED: u16 = 0x100;
+const FAILED: u16 = 0x200;
 
 /// The marks of a sending call's answer; an item's number stands above them.
 const SENT: u32 = 0x100;
@@ -117,6 +129,17 @@ pub fn store_receiver(receiver: &Receiver, bytes: &mut [u8]) {
     bytes[HEAD_BYTES..RECEIVER_BYTES].copy_from_slice(&receiver.array);
 }
 
+/// What the answer of reading a block says.
+#[inline]
+pub fn read(number: u16) -> Read {
+    match number {
+        ..PASSED => Read::Refused(number as Refusal),
+        PASSED..FAILED => Read::Passed((number - PASSED) as u8),
+        FAILED => Read::Failed,
+        _ => panic!("{number:x} is no answer of reading a block"),
+    }
+}
+
 /// The answer of a sending call.
 pub fn sent_word(sent: Sent) -> u32 {
     let mark = |set, value| if set { value } else { 0 };
@@ -155,14 +178,20 @@ pub fn sent(word: u32) -> Sent {
 fn event_number(event: Event) -> u8 {
     match event {
         Event::None => EVENT_NONE,
-        Event::Sync => 17,
-        Event::Bad => 18,
-        Event::Accepted => 19,
-        Event::Previous => 20,
-        Event::SequenceAlarm => 21,
-        Event::LengthAlarm => 22,
-        Event::Ended(_) => 23,
+        Event::Sync => EVENT_SYNC,
+        Event::Bad => EVENT_BAD,
+        Event::Accepted => EVENT_ACCEPTED,
+        Event::Previous => EVENT_PREVIOUS,
+        Event::SequenceAlarm => EVENT_SEQUENCE_ALARM,
+        Event::LengthAlarm => EVENT_LENGTH_ALARM,
+        Event::Ended(_) => EVENT_ENDED,
     }
+}
+
+/// Whether a receiving call's answer is an event's number, not a refusal's.
+#[inline]
+pub fn is_event(number: u8) -> bool {
+    number >= EVENT_NONE
 }
 
 /// Where a receiving call writes, beside its answer: the number of bits used, unless it is
@@ -177,13 +206,13 @@ pub struct Counts {
 pub fn received(number: u8, counts: Counts) -> Received {
     let event = match number {
         EVENT_NONE => Event::None,
-        17 => Event::Sync,
-        18 => Event::Bad,
-        19 => Event::Accepted,
-        20 => Event::Previous,
-        21 => Event::SequenceAlarm,
-        22 => Event::LengthAlarm,
-        23 => Event::Ended(counts.length),
+        EVENT_SYNC => Event::Sync,
+        EVENT_BAD => Event::Bad,
+        EVENT_ACCEPTED => Event::Accepted,
+        EVENT_PREVIOUS => Event::Previous,
+        EVENT_SEQUENCE_ALARM => Event::SequenceAlarm,
+        EVENT_LENGTH_ALARM => Event::LengthAlarm,
+        EVENT_ENDED => Event::Ended(counts.length),
         refusal => return Received::Refused(refusal),
     };
     let used = counts.used;
@@ -263,7 +292,7 @@ mod tests {
         for answer in items.chain([Sent::Synchronising, Sent::Refused(8)]) {
             assert_eq!(sent(sent_word(answer)), answer);
         }
-        for number in 16..=23 {
+        for number in EVENT_NONE..=EVENT_ENDED {
             let counts = Counts { used: 5, length: 9 };
             let Received::Heard { event, used: 5 } = received(number, counts) else {
                 panic!("{number}");

@@ -34,16 +34,16 @@ pub record OpenReceiverCall (k : ℕ) (state : List ℕ) (result : ℕ) (state�
 
 -- ---- a receiving call
 
--- the events' numbers are our own: document 01 gives them none
+-- the events' numbers are our own, since document 01 gives them none; refusals stay below 64
 abbrev pub eventNumber : Event → ℕ
-eventNumber E.None = 16
-eventNumber E.Sync = 17
-eventNumber E.Bad = 18
-eventNumber E.Accepted = 19
-eventNumber E.Previous = 20
-eventNumber E.SequenceAlarm = 21
-eventNumber E.LengthAlarm = 22
-eventNumber (E.Ended L) = 23
+eventNumber E.None = 64
+eventNumber E.Sync = 65
+eventNumber E.Bad = 66
+eventNumber E.Accepted = 67
+eventNumber E.Previous = 68
+eventNumber E.SequenceAlarm = 69
+eventNumber E.LengthAlarm = 70
+eventNumber (E.Ended L) = 71
 
 -- the length that comes with the end; without it, the number stays
 abbrev pub eventLength : ℕ → Event → ℕ

@@ -12,22 +12,22 @@ use line::receiver::Opening;
 use line::receiver::Received;
 use line::receiver::Receiver;
 
-// The events' numbers, above those of the refusals.
-pub const NONE: u8 = 16;
+// The events' numbers; refusals stay below 64.
+pub const NONE: u8 = 64;
 
-pub const SYNC: u8 = 17;
+pub const SYNC: u8 = 65;
 
-pub const BAD: u8 = 18;
+pub const BAD: u8 = 66;
 
-pub const ACCEPTED: u8 = 19;
+pub const ACCEPTED: u8 = 67;
 
-pub const PREVIOUS: u8 = 20;
+pub const PREVIOUS: u8 = 68;
 
-pub const SEQUENCE_ALARM: u8 = 21;
+pub const SEQUENCE_ALARM: u8 = 69;
 
-pub const LENGTH_ALARM: u8 = 22;
+pub const LENGTH_ALARM: u8 = 70;
 
-pub const ENDED: u8 = 23;
+pub const ENDED: u8 = 71;
 
 #[no_mangle]
 pub extern "C" fn order_line_open_receiver(k: usize, state: &mut [u8]) -> u8

@@ -10,7 +10,7 @@
 //! 3 for receiving by the table-driven sibling in place. It prints the number of calls of a pass.
 
 use order_line_tests::calls::{Blocks, Line, ReceivingEnd, Reference, SendingEnd, TableDriven};
-use order_line_tests::interface::{sent, store_receiver, store_sender, Counts, EVENT_NONE};
+use order_line_tests::interface::{is_event, sent, store_receiver, store_sender, Counts};
 use order_line_tests::interface::{RECEIVER_BYTES, SENDER_BYTES};
 use order_line_tests::link::Library;
 use order_line_tests::reference::bits::{pack, unpack};
@@ -227,7 +227,7 @@ impl Receives for Library {
     fn receive(&self, state: &mut Self::State, line: Line, store: &mut [u8]) -> usize {
         let mut counts = Counts { used: 0, length: 0 };
         let number = ReceivingEnd::receive(self, state, line, store, &mut counts);
-        assert!(number >= EVENT_NONE, "refused {number}");
+        assert!(is_event(number), "refused {number}");
         counts.used
     }
 }

@@ -2,8 +2,11 @@
 
 use super::{any_bytes, receiver, sender, Tally};
 use crate::calls::{Blocks, Line, LoopTimes, Opening, ReceivingEnd, Reference, SendingEnd};
-use crate::interface::{Counts, RECEIVER_BYTES, SENDER_BYTES};
+use crate::interface::{is_event, sent, Counts, EVENT_ACCEPTED, EVENT_NONE};
+use crate::interface::{FINISHED, GAVE_UP, RECEIVER_BYTES, SENDER_BYTES};
 use crate::reference::block::Read;
+use crate::reference::refusal::SHORT;
+use crate::reference::sender::Sent;
 use crate::rng::Rng;
 
 #[derive(Clone, Copy, Debug, PartialEq, Eq)]
@@ -79,18 +82,19 @@ impl SendingEnd for Faulty {
 
     fn send(&self, state: &mut [u8], order: &[u8], reading: bool, block: &mut [u8]) -> u32 {
         if self.0 == Fault::ShortState && state.len() < SENDER_BYTES {
-            return 6;
+            return u32::from(SHORT);
         }
         self.narrow(&[13, 15], state);
         let word = Reference.send(state, order, reading, block);
-        self.spoil_state(word < 16, SENDER_BYTES, state);
-        self.spoil_data(word < 16, block);
+        let refused = matches!(sent(word), Sent::Refused(_));
+        self.spoil_state(refused, SENDER_BYTES, state);
+        self.spoil_data(refused, block);
         word
     }
 
     fn sender_rest(&self, state: &[u8]) -> u8 {
         match Reference.sender_rest(state) {
-            2 if self.0 == Fault::Rest => 1,
+            GAVE_UP if self.0 == Fault::Rest => FINISHED,
             answer => answer,
         }
     }
@@ -103,18 +107,21 @@ impl ReceivingEnd for Faulty {
 
     fn receive(&self, state: &mut [u8], line: Line, store: &mut [u8], counts: &mut Counts) -> u8 {
         if self.0 == Fault::ShortState && state.len() < RECEIVER_BYTES {
-            return 6;
+            return SHORT;
         }
         self.narrow(&[13, 14], state);
         let searching = state.get(15) == Some(&0);
         let back = state.get(13).copied();
         let number = Reference.receive(state, line, store, counts);
-        self.spoil_state(number < 16, RECEIVER_BYTES, state);
-        self.spoil_data(number != 19, store);
+        let refused = !is_event(number);
+        self.spoil_state(refused, RECEIVER_BYTES, state);
+        self.spoil_data(number != EVENT_ACCEPTED, store);
         match self.0 {
-            Fault::RefusedCount if number < 16 => counts.used = 0,
+            Fault::RefusedCount if refused => counts.used = 0,
             Fault::LengthAlways => counts.length = 0,
-            Fault::ReturnBit if searching && number == 16 => state[13] = back.unwrap_or(0),
+            Fault::ReturnBit if searching && number == EVENT_NONE => {
+                state[13] = back.unwrap_or(0);
+            }
             _ => {}
         }
         number

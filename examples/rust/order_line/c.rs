@@ -1,0 +1,64 @@
+//! The functions of `include/order_line.h`, in its order: a slice passes as a pointer and then its number of bytes.
+//!
+//! No compiler holds these declarations against the library, so they stand once: `order_line.rs` beside this folder and
+//! `tests/src/link.rs`, which compares every function with the second implementation, both call through them.
+
+extern "C" {
+    pub fn order_line_loop_time(k: usize, speed: u32, loop_ms: u32) -> u8;
+
+    pub fn order_line_build_block(
+        k: usize,
+        service: u8,
+        payload: *const u8,
+        payload_bytes: usize,
+        block: *mut u8,
+        block_bytes: usize,
+    ) -> u8;
+
+    pub fn order_line_read_block(
+        k: usize,
+        block: *const u8,
+        block_bytes: usize,
+        payload: *mut u8,
+        payload_bytes: usize,
+    ) -> u16;
+
+    pub fn order_line_open_sender(
+        k: usize,
+        speed: u32,
+        loop_ms: u32,
+        length: usize,
+        order: *const u8,
+        order_bytes: usize,
+        state: *mut u8,
+        state_bytes: usize,
+    ) -> u8;
+
+    pub fn order_line_send(
+        state: *mut u8,
+        state_bytes: usize,
+        order: *const u8,
+        order_bytes: usize,
+        reading: bool,
+        block: *mut u8,
+        block_bytes: usize,
+    ) -> u32;
+
+    pub fn order_line_sender_rest(state: *const u8, state_bytes: usize) -> u8;
+
+    pub fn order_line_open_receiver(k: usize, state: *mut u8, state_bytes: usize) -> u8;
+
+    pub fn order_line_receive(
+        state: *mut u8,
+        state_bytes: usize,
+        line: *const u8,
+        line_bytes: usize,
+        bits: usize,
+        store: *mut u8,
+        store_bytes: usize,
+        used: *mut usize,
+        length: *mut usize,
+    ) -> u8;
+
+    pub fn order_line_return_bit(state: *const u8, state_bytes: usize) -> u8;
+}
