@@ -17,10 +17,10 @@ use Rattle.line.specs.Receiving as S
 use Rattle.line.specs.Receiving.{meaning, standing, stands, Reading, idleRule, idle, reading, readings, lastBad, heldInRange, receiverInRange, judgeStore, receive, reported, receiveState, receiveStore, Receive}
 use Rattle.line.specs.Code.ReceiveSteps.{stepped, handedBack, Handed}
 use Rattle.line.specs.declared.receiver.Receiver.{Receiver}
-use Rattle.line.specs.declared.receiver.Phase.{Phase}
-use Rattle.line.specs.declared.receiver.Phase.the-variants as P
-use Rattle.line.specs.declared.receiver.Event.{Event}
-use Rattle.line.specs.declared.receiver.Received.the-variants as R
+use Rattle.line.specs.declared.receiving.Phase.{Phase}
+use Rattle.line.specs.declared.receiving.Phase.the-variants as P
+use Rattle.line.specs.declared.receiving.Event.{Event}
+use Rattle.line.specs.declared.receiving.Received.the-variants as R
 use Rattle.line.specs.declared.receiver.Step.{Step}
 use Rattle.line.proofs.Handing.{handed-plain}
 use Rattle.line.proofs.Searching.{search-stores}

@@ -27,8 +27,8 @@ use Rattle.block.proofs.Refusals.{check-done, move-done}
 use Rattle.line.specs.Receiving.{lastBad, badly, Rule, sync-block, check-fails, accepts, meaning, endRule, serviceRule, looksSync, judge, stops, Reading, storeAt}
 use Rattle.line.specs.Code.ReceiveSteps.{ruleOf, stepped, handedBack, judged, Handed}
 use Rattle.line.specs.declared.receiver.Receiver.{Receiver}
-use Rattle.line.specs.declared.receiver.Event.the-variants as E
-use Rattle.line.specs.declared.receiver.Received.the-variants as R
+use Rattle.line.specs.declared.receiving.Event.the-variants as E
+use Rattle.line.specs.declared.receiving.Received.the-variants as R
 use Rattle.line.specs.declared.receiver.Step.{Step}
 use Rattle.line.specs.declared.rules.Rule as D
 use Rattle.line.specs.declared.rules.Rule.the-variants as C

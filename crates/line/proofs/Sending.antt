@@ -10,6 +10,7 @@ use borrow.Author.Tests.{leb-true, ltb-false, eqb-false, le-leb, not-false}
 use lib.Dec.{eqb, leb, ltb}
 use lib.ListN.{length}
 use Rattle.block.specs.Answer as A
+use Rattle.line.specs.Refusals as Refusals
 use Rattle.block.specs.Answer.{Answer, refused, done, refuseIf}
 use Rattle.block.specs.Lengths.{isLength, blockLength}
 use Rattle.block.specs.Calls.{tooShort}
@@ -91,8 +92,8 @@ pub opened : (k speed loop-ms L : ℕ) (order : List ℕ) (s : Sender) → openS
 unfolding openSender validLength
 opened k speed loop-ms L order s e =
     let p = passed-refusal (loopTime k speed loop-ms) _ s e in
-    let q = passed-test (eqb L 0) A.empty _ s (p .1) in
-    let r = passed-test (ltb longestOrder L) A.long _ s (q .1) in
+    let q = passed-test (eqb L 0) Refusals.empty _ s (p .1) in
+    let r = passed-test (ltb longestOrder L) Refusals.long _ s (q .1) in
     let t = passed-test (tooShort order L) A.short _ s (r .1) in
     let n = eqb-false L 0 (q .0) in
     let one : 1 ≤ L = omega arith in
@@ -126,8 +127,8 @@ pub record Sendable (s : Sender) (order : List ℕ) (reading : Bool) (slice : Li
   pub room : blockLength (s .setup .k) ≤ 8 * length slice
   pub block : transmit s (s .next) reading .block ≡ b
 
-at-rest-or-short : (r t : Bool) (b : Block) (n : ℕ) → refuseIf r A.rest (refuseIf t A.short (done b)) ≡ refused n
-    → ((n ≡ A.rest) × (r ≡ true)) ⊎ ((n ≡ A.short) × (t ≡ true))
+at-rest-or-short : (r t : Bool) (b : Block) (n : ℕ) → refuseIf r Refusals.rest (refuseIf t A.short (done b)) ≡ refused n
+    → ((n ≡ Refusals.rest) × (r ≡ true)) ⊎ ((n ≡ A.short) × (t ≡ true))
 at-rest-or-short true t b n e = inl (cc, refl)
 at-rest-or-short false true b n e = inr (cc, refl)
 at-rest-or-short false false b n e = absurd (let z : _≡_ {A = ℕ} 0 1 = cc in omega arith)
@@ -137,7 +138,7 @@ module _ (s : Sender) (order : List ℕ) (reading : Bool) (slice : List ℕ) whe
   unfolding send
   sendable b e =
       let p = passed-test (not (senderInRange s)) A.spoiled _ b e in
-      let q = passed-test (s .finished || gaveUp s) A.rest _ b (p .1) in
+      let q = passed-test (s .finished || gaveUp s) Refusals.rest _ b (p .1) in
       let r = passed-test (tooShort order (s .setup .length) || tooShort slice (blockLength (s .setup .k))) A.short _ b (q .1) in
       let still = or-false (s .finished) (gaveUp s) (q .0) in
       let long = or-false (tooShort order (s .setup .length)) (tooShort slice (blockLength (s .setup .k))) (r .0) in
@@ -153,7 +154,7 @@ module _ (s : Sender) (order : List ℕ) (reading : Bool) (slice : List ℕ) whe
 
   -- on a state in range, a refusal is for a sender at rest or for a short slice
   pub send-refusals : senderInRange s ≡ true → (n : ℕ) → send s order reading slice ≡ refused n
-      → ((n ≡ A.rest) × (s .finished || gaveUp s ≡ true))
+      → ((n ≡ Refusals.rest) × (s .finished || gaveUp s ≡ true))
       ⊎ ((n ≡ A.short) × (tooShort order (s .setup .length) || tooShort slice (blockLength (s .setup .k)) ≡ true))
   unfolding send
   send-refusals h n e =
@@ -203,7 +204,7 @@ module _ (k speed loop-ms L : ℕ) (order : List ℕ) (s t : Sender) (o : OpenSe
     (calls : SendCalls s t) (lent : List ℕ) (reading : Bool) (slice : List ℕ) (result : Step) (slice′ : List ℕ)
     (p : Send t lent reading slice result slice′) where
   pub send-refused-only : (n : ℕ) → result .answer ≡ W.Refused n
-      → ((n ≡ A.rest) × (t .finished || gaveUp t ≡ true))
+      → ((n ≡ Refusals.rest) × (t .finished || gaveUp t ≡ true))
       ⊎ ((n ≡ A.short) × (tooShort lent (t .setup .length) || tooShort slice (blockLength (t .setup .k)) ≡ true))
   send-refused-only n e =
       send-refusals t lent reading slice (calls-in-range calls (opened-in-range k speed loop-ms L order s o)) n
@@ -239,7 +240,7 @@ module _ (s : Sender) (order : List ℕ) (reading : Bool) (slice : List ℕ) whe
   spoiled-call h = simp h
 
   module _ (h : senderInRange s ≡ true) where
-    pub rest-call : s .finished || gaveUp s ≡ true → send s order reading slice ≡ refused A.rest
+    pub rest-call : s .finished || gaveUp s ≡ true → send s order reading slice ≡ refused Refusals.rest
     unfolding send
     rest-call r = simp (h, r)
 

@@ -12,7 +12,7 @@ use Rattle.block.specs.Lengths.{blockLength}
 use Rattle.line.specs.Receiving.{arrayBytes, unfinished, heldBits, overwrite, holding, missing, finishedRow, Reading, inStep}
 use Rattle.line.specs.Code.ReceiveSteps.{stepped, judged, Handed}
 use Rattle.line.specs.declared.receiver.Receiver.{Receiver}
-use Rattle.line.specs.declared.receiver.Event.the-variants as E
+use Rattle.line.specs.declared.receiving.Event.the-variants as E
 use Rattle.line.specs.declared.receiver.Step.{Step}
 use Rattle.line.proofs.Handing.{handed-plain}
 

@@ -9,6 +9,7 @@ use lib.ListN.{length, take, drop}
 use Rattle.crc.specs.Bits.{Bits, bitsOf, xorBits}
 use Rattle.crc.specs.Damage.{Damage}
 use Rattle.block.specs.Answer as A
+use Rattle.line.specs.Refusals as Refusals
 use Rattle.block.specs.Lengths.{blockLength}
 use Rattle.line.specs.Order.{itemCount, filled, orderBits}
 use Rattle.line.specs.Sending.{Block, synchronising, item, OpenSender, gaveUp}
@@ -18,8 +19,8 @@ use Rattle.line.specs.declared.sender.Sender.{Sender}
 use Rattle.line.specs.declared.sender.Opened.{Opened}
 use Rattle.line.specs.declared.sender.Opened.the-variants as SenderOpened
 use Rattle.line.specs.declared.receiver.Receiver.{Receiver}
-use Rattle.line.specs.declared.receiver.Event.{Event}
-use Rattle.line.specs.declared.receiver.Event.the-variants as E
+use Rattle.line.specs.declared.receiving.Event.{Event}
+use Rattle.line.specs.declared.receiving.Event.the-variants as E
 use Rattle.line.specs.declared.receiver.Opened as ReceiverOpened
 use Rattle.line.specs.declared.receiver.Opening.the-variants as Opening
 
@@ -170,7 +171,7 @@ enough = 6
 
 -- a sending call is refused only for a short slice or at rest, a receiving call only for a short slice
 abbrev pub OnlyRefused : Entry → Type 0
-OnlyRefused (send-refused n) = (n ≡ A.short) ⊎ (n ≡ A.rest)
+OnlyRefused (send-refused n) = (n ≡ A.short) ⊎ (n ≡ Refusals.rest)
 OnlyRefused (receive-refused n) = n ≡ A.short
 OnlyRefused (sent x) = Unit {0}
 OnlyRefused (heard y) = Unit {0}

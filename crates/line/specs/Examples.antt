@@ -6,7 +6,7 @@ use Prim.Native.Nat.{ℕ}
 use lib.Dec.{eqb}
 use Rattle.crc.specs.Bits.{binary}
 use Rattle.crc.specs.Check.{check}
-use Rattle.block.specs.Answer as A
+use Rattle.line.specs.Refusals as Refusals
 use Rattle.block.specs.Answer.{Answer, refused, done}
 use Rattle.line.specs.LoopTime.{loopTime}
 use Rattle.line.specs.Order.{itemCount}
@@ -31,8 +31,8 @@ examples =
     ∷ items 240 241 2
     ∷ items 240 262144 1093
     ∷ loop 240 1200 127 (done tt)
-    ∷ loop 240 1200 128 (refused A.loop-time)
-    ∷ loop 240 4800 0 (refused A.loop-time)
+    ∷ loop 240 1200 128 (refused Refusals.loop-time)
+    ∷ loop 240 4800 0 (refused Refusals.loop-time)
     ∷ []
 
 abbrev pub sameVerdict : Answer (Unit {0}) → Answer (Unit {0}) → Bool

@@ -1,5 +1,6 @@
--- Document 01 in its order, a receiving call in place and in pieces, demand 3, the examples that are proved, and what the
--- private functions promise.
+-- The refusals' numbers, document 01 in its order, a receiving call in place and in pieces, demand 3, the examples that
+-- are proved, and what the private functions ask and promise.
+pub mod Refusals
 pub mod LoopTime
 pub mod Order
 pub mod Sending

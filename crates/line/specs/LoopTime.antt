@@ -5,6 +5,7 @@ use mathlib.Core.List.{List, [], _∷_}
 use Prim.Native.Nat.{ℕ, _+_, _-_, _*_, _/_}
 use lib.Dec.{leb, ltb}
 use Rattle.block.specs.Answer as A
+use Rattle.line.specs.Refusals as Refusals
 use Rattle.block.specs.Answer.{Answer, refused, done, refuseIf}
 use Rattle.block.specs.Lengths.{isLength, blockLength, among}
 use Rattle.line.specs.declared.loop_time.LoopTime.{LoopTime}
@@ -37,8 +38,8 @@ longestLoop k speed = blockTime k speed - 90
 unfoldable pub loopTime : ℕ → ℕ → ℕ → Answer (Unit {0})
 loopTime k speed loop-ms =
     refuseIf (not (isLength k)) A.block
-    (refuseIf (not (isSpeed speed)) A.speed
-    (refuseIf (not (hasEntry k speed) || ltb (longestLoop k speed) loop-ms) A.loop-time (done tt)))
+    (refuseIf (not (isSpeed speed)) Refusals.speed
+    (refuseIf (not (hasEntry k speed) || ltb (longestLoop k speed) loop-ms) Refusals.loop-time (done tt)))
 
 abbrev pub loopAnswer : LoopTime → Answer (Unit {0})
 loopAnswer W.Allowed = done tt

@@ -14,12 +14,12 @@ use Rattle.block.specs.Block.{serviceOf, payloadOf, Verdict, passed, failed, ve
 use Rattle.block.specs.Calls.{tooShort}
 use Rattle.line.specs.Order.{mostItems, validLength, itemCount, letter, isLetter, endService, version}
 use Rattle.line.specs.declared.receiver.Receiver.{Receiver}
-use Rattle.line.specs.declared.receiver.Phase.{Phase}
-use Rattle.line.specs.declared.receiver.Phase.the-variants as P
-use Rattle.line.specs.declared.receiver.Event.{Event}
-use Rattle.line.specs.declared.receiver.Event.the-variants as E
-use Rattle.line.specs.declared.receiver.Received.{Received}
-use Rattle.line.specs.declared.receiver.Received.the-variants as R
+use Rattle.line.specs.declared.receiving.Phase.{Phase}
+use Rattle.line.specs.declared.receiving.Phase.the-variants as P
+use Rattle.line.specs.declared.receiving.Event.{Event}
+use Rattle.line.specs.declared.receiving.Event.the-variants as E
+use Rattle.line.specs.declared.receiving.Received.{Received}
+use Rattle.line.specs.declared.receiving.Received.the-variants as R
 use Rattle.line.specs.declared.receiver.Step.{Step}
 use Rattle.line.specs.declared.receiver.Opening.{Opening}
 use Rattle.line.specs.declared.receiver.Opening.the-variants as O

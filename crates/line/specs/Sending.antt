@@ -6,6 +6,7 @@ use Prim.Native.Nat.{ℕ, _+_, _-_}
 use lib.Dec.{eqb, leb, ltb}
 use Rattle.crc.specs.Bits.{Bits}
 use Rattle.block.specs.Answer as A
+use Rattle.line.specs.Refusals as Refusals
 use Rattle.block.specs.Answer.{Answer, refused, done, refuseIf}
 use Rattle.block.specs.Lengths.{isLength, blockLength, blockBytes}
 use Rattle.block.specs.Block.{syncBlock, cancelled}
@@ -36,8 +37,8 @@ unless-refused (done a) next = next
 unfoldable pub openSender : ℕ → ℕ → ℕ → ℕ → List ℕ → Answer Sender
 openSender k speed loop-ms L order =
     unless-refused (loopTime k speed loop-ms)
-    (refuseIf (eqb L 0) A.empty
-    (refuseIf (ltb longestOrder L) A.long
+    (refuseIf (eqb L 0) Refusals.empty
+    (refuseIf (ltb longestOrder L) Refusals.long
     (refuseIf (tooShort order L) A.short (done (freshSender k L)))))
 
 abbrev pub openedAnswer : Opened → Answer Sender
@@ -124,7 +125,7 @@ gaveUp s = eqb (s .run) lastRun
 unfoldable pub send : Sender → List ℕ → Bool → List ℕ → Answer Block
 send s order reading slice =
     refuseIf (not (senderInRange s)) A.spoiled
-    (refuseIf (s .finished || gaveUp s) A.rest
+    (refuseIf (s .finished || gaveUp s) Refusals.rest
     (refuseIf (tooShort order (s .setup .length) || tooShort slice (blockLength (s .setup .k))) A.short
     (done (transmit s (s .next) reading .block))))
 

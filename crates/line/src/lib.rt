@@ -4,6 +4,7 @@ mod hold;
 pub mod loop_time;
 mod order;
 pub mod receiver;
+pub mod receiving;
 mod rules;
 pub mod sender;
 mod window;

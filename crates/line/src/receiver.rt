@@ -3,21 +3,9 @@ ghost use mathlib.Core.Path.{_≡_};
 ghost use Rattle.line.specs.Receiving.{OpenReceiver, freshReceiver, Receive};
 ghost use Rattle.line.specs.ReceivingInPlace.{whole};
 use crate::head::Head;
-
-// The bytes of the array that holds one unfinished block.
-pub const ARRAY_SIZE: usize = 483;
-
-pub enum Phase {
-    Search,
-    InStep,
-    SequenceAlarm,
-    LengthAlarm,
-}
-
-// What opening fixes: the data bits of a block.
-pub struct Setup {
-    pub k: usize,
-}
+use crate::receiving::Phase;
+use crate::receiving::Received;
+use crate::receiving::Setup;
 
 pub struct Receiver {
     pub setup: Setup,
@@ -33,23 +21,6 @@ pub struct Receiver {
     // The end was taken.
     pub ended: bool,
     pub phase: Phase,
-}
-
-pub enum Event {
-    None,
-    Sync,
-    Bad,
-    Accepted,
-    Previous,
-    SequenceAlarm,
-    LengthAlarm,
-    // With the order's length in bits.
-    Ended(usize),
-}
-
-pub enum Received {
-    Used { event: Event, bits: usize },
-    Refused(u8),
 }
 
 pub struct Step {

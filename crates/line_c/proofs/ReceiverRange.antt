@@ -19,8 +19,8 @@ use Rattle.block.proofs.Truth.{cond-case}
 use Rattle.block.proofs.Refusals.{passed-test}
 use Rattle.line.specs.Receiving.{arrayBytes, noBytes, freshReceiver, openReceiver, Rule, unfinished, standing, found, sync-block, check-fails, accepts, previous, out-of-sequence, ends, wrong-length, ends-again, anything-else, meaning, judge, blank, lastBad, badly, after, heldBits, Reading, latest, isSequence, search, stands, holding, missing, finishedRow, inStep, reading, readings, heldInRange, receiverInRange, receive}
 use Rattle.line.specs.declared.receiver.Receiver.{Receiver}
-use Rattle.line.specs.declared.receiver.Phase.{Phase}
-use Rattle.line.specs.declared.receiver.Phase.the-variants as P
+use Rattle.line.specs.declared.receiving.Phase.{Phase}
+use Rattle.line.specs.declared.receiving.Phase.the-variants as P
 use Rattle.line.proofs.Calling.{InRange, in-range, held-search}
 use Rattle.line_c.specs.State.{ReceiverFits}
 

@@ -21,8 +21,8 @@ use Rattle.line.specs.Sending.{openSender, Block, senderInRange, send, sendStat
 use Rattle.line_c.specs.SenderCalls.{senderOver, judgeState, openSenderIn, openedBytes, OpenSenderCall, SendCall}
 use Rattle.line.specs.Receiving.{arrayBytes, openReceiver, freshReceiver, Reading, receiverInRange, receive}
 use Rattle.line.specs.declared.receiver.Receiver.{Receiver}
-use Rattle.line.specs.declared.receiver.Phase.{Phase}
-use Rattle.line.specs.declared.receiver.Phase.the-variants as P
+use Rattle.line.specs.declared.receiving.Phase.{Phase}
+use Rattle.line.specs.declared.receiving.Phase.the-variants as P
 use Rattle.line_c.specs.ReceiverCalls.{receiverOver, openReceiverIn, openedReceiver, OpenReceiverCall, ReceiveCall}
 use Rattle.line_c.proofs.ReceiverRange as R
 use Rattle.line_c.proofs.ReceiverRange.{receiver-fits}

@@ -9,8 +9,8 @@ use Rattle.block.specs.Answer as A
 use Rattle.block.specs.Answer.{Answer, refused, done}
 use Rattle.line.specs.Receiving.{eventKind, withLength, openReceiver, freshReceiver, Reading, receiverInRange, receive, receiveStore, Report, reported}
 use Rattle.line.specs.declared.receiver.Receiver.{Receiver}
-use Rattle.line.specs.declared.receiver.Event.{Event}
-use Rattle.line.specs.declared.receiver.Event.the-variants as E
+use Rattle.line.specs.declared.receiving.Event.{Event}
+use Rattle.line.specs.declared.receiving.Event.the-variants as E
 use Rattle.line_c.specs.State.{flagByte, receiverSize, receiverOf, receiverBytes}
 use Rattle.line_c.specs.BlockCalls.{refusal}
 use Rattle.line_c.specs.SenderCalls.{judgeState}

@@ -12,8 +12,8 @@ use Rattle.line.specs.declared.sender.Sender.{Sender}
 use Rattle.line.specs.declared.sender.Next.{Next}
 use Rattle.line.specs.declared.sender.Next.the-variants as N
 use Rattle.line.specs.declared.receiver.Receiver.{Receiver}
-use Rattle.line.specs.declared.receiver.Phase.{Phase}
-use Rattle.line.specs.declared.receiver.Phase.the-variants as P
+use Rattle.line.specs.declared.receiving.Phase.{Phase}
+use Rattle.line.specs.declared.receiving.Phase.the-variants as P
 
 -- ---- numbers, flags and enums
 

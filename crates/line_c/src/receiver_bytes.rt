@@ -12,10 +12,10 @@ use crate::layout::load_word;
 use crate::layout::store_head;
 use crate::layout::wide;
 use line::head::Head;
-use line::receiver::ARRAY_SIZE;
-use line::receiver::Phase;
 use line::receiver::Receiver;
-use line::receiver::Setup;
+use line::receiving::ARRAY_SIZE;
+use line::receiving::Phase;
+use line::receiving::Setup;
 
 pub(crate) const RECEIVER_SIZE: usize = HEAD_SIZE + ARRAY_SIZE;
 

@@ -7,10 +7,10 @@ use crate::receiver_bytes::holds_receiver;
 use crate::receiver_bytes::load_head;
 use crate::receiver_bytes::put_head;
 use crate::receiver_bytes::store_receiver;
-use line::receiver::Event;
 use line::receiver::Opening;
-use line::receiver::Received;
 use line::receiver::Receiver;
+use line::receiving::Event;
+use line::receiving::Received;
 
 // The events' numbers; refusals stay below 64.
 pub const NONE: u8 = 64;

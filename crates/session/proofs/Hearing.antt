@@ -9,10 +9,10 @@ use Rattle.crc.specs.Bits.{Bits, bitsOf, bytesOf, zeros}
 use Rattle.crc.proofs.Bytes.{length-bitsOf, length-bytesOf, bitsOf-bytesOf, bytesOf-zeros}
 use Rattle.block.specs.Answer.{Answer, refused, done}
 use Rattle.line.specs.Receiving.{Reading, Report, meaning, receive, receiveStore, reported, Receive}
-use Rattle.line.specs.declared.receiver.Received.the-variants as R
+use Rattle.line.specs.declared.receiving.Received.the-variants as R
 use Rattle.line.specs.declared.receiver.Step.{Step}
 use Rattle.line.specs.declared.receiver.Receiver.{Receiver}
-use Rattle.line.specs.declared.receiver.Event.{Event}
+use Rattle.line.specs.declared.receiving.Event.{Event}
 use Rattle.session.specs.Period.{lineBytes, invertFirst, arriving, Lent, disturbed, later, Hearing, hearing, answered, hear, heardCourse}
 use Rattle.line.specs.declared.sender.Sender.{Sender}
 use Rattle.session.specs.declared.period.Block.{Block}

@@ -15,7 +15,7 @@ use Rattle.line.specs.Sending.{send, sendState, sendBytes, sentBits, sentAnswer
 use Rattle.line.specs.declared.sender.Sender.{Sender}
 use Rattle.line.specs.declared.sender.Step.{Step}
 use Rattle.line.specs.declared.receiver.Receiver.{Receiver}
-use Rattle.line.specs.declared.receiver.Event.the-variants as E
+use Rattle.line.specs.declared.receiving.Event.the-variants as E
 use Rattle.session.specs.Period.{readingOf, lineBytes, Lent, arriving, hear, shownBlock, shownReading, shownSending, Course, heardCourse, period}
 use Rattle.session.specs.declared.period.Block.{Block}
 use Rattle.session.specs.declared.period.Kind.{Kind}

@@ -21,8 +21,8 @@ use Rattle.block.proofs.Truth.{either, cond-case, and-right}
 use Rattle.line.specs.Order.{mostItems}
 use Rattle.line.specs.Receiving.{Reading, latest, isSequence, search, missing, inStep, reading, readings, heldBits, heldInRange, receiverInRange, lastBad, meaning, receive}
 use Rattle.line.specs.declared.receiver.Receiver.{Receiver}
-use Rattle.line.specs.declared.receiver.Phase.{Phase}
-use Rattle.line.specs.declared.receiver.Phase.the-variants as P
+use Rattle.line.specs.declared.receiving.Phase.{Phase}
+use Rattle.line.specs.declared.receiving.Phase.the-variants as P
 
 abbrev Uses : ℕ → ℕ → ℕ → Type 0
 Uses before count used = (before < used) × (used ≤ before + count)

@@ -14,8 +14,8 @@ use Rattle.line.specs.Sending.{send, sendState, sentBits}
 use Rattle.line.specs.Receiving.{Reading, meaning, receive, receiveStore}
 use Rattle.line.specs.declared.sender.Sender.{Sender}
 use Rattle.line.specs.declared.receiver.Receiver.{Receiver}
-use Rattle.line.specs.declared.receiver.Event.{Event}
-use Rattle.line.specs.declared.receiver.Event.the-variants as E
+use Rattle.line.specs.declared.receiving.Event.{Event}
+use Rattle.line.specs.declared.receiving.Event.the-variants as E
 use Rattle.session.specs.declared.period.Block.{Block}
 use Rattle.session.specs.declared.period.Block.the-variants as B
 use Rattle.session.specs.declared.period.Heard.{Heard}

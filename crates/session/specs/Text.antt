@@ -7,8 +7,8 @@ use Prim.Native.Char.{code}
 use Prim.Native.String as S
 use lib.Dec.{ltb}
 use lib.ListN.{length, take, drop, replicate}
-use Rattle.line.specs.declared.receiver.Event.{Event}
-use Rattle.line.specs.declared.receiver.Event.the-variants as E
+use Rattle.line.specs.declared.receiving.Event.{Event}
+use Rattle.line.specs.declared.receiving.Event.the-variants as E
 use Rattle.session.specs.declared.period.Block.{Block}
 use Rattle.session.specs.declared.period.Block.the-variants as B
 use Rattle.session.specs.declared.period.Line.{Line}

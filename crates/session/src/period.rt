@@ -7,14 +7,12 @@ ghost use Rattle.line.specs.Sending.{sentAnswer};
 ghost use Rattle.session.specs.Period as P;
 ghost use Rattle.session.specs.Period.{Lent, readingOf, arriving, disturbed, later, ifUsed, shownSending, heardCourse, RunPeriod};
 use crate::shift::drop_bits;
-use line::receiver::Event;
-use line::receiver::Received;
+use block::OVERHEAD;
 use line::receiver::Receiver;
+use line::receiving::Event;
+use line::receiving::Received;
 use line::sender::Sender;
 use line::sender::Sent;
-
-// The bits of a block besides its data.
-const OVERHEAD: usize = 20;
 
 // A line of the input: t, f, d.
 pub enum Kind {

@@ -8,7 +8,7 @@ use crate::period::Block;
 use crate::period::Line;
 use crate::period::Outcome;
 use crate::period::Reading;
-use line::receiver::Event;
+use line::receiving::Event;
 
 // The longest line has 62 bytes.
 pub struct Text {

@@ -14,9 +14,9 @@ use Rattle.block.specs.Block.{blockBits, verdict, syncBlock, syncSequence}
 use Rattle.line.specs.Order.{validLength, itemCount, letter, letterA, letterB, letterC, isLetter, endPayload, endService}
 use Rattle.line.specs.Receiving.{freshReceiver, noBytes, Rule, found, sync-block, check-fails, accepts, previous, out-of-sequence, ends, wrong-length, ends-again, anything-else, unfinished, standing, place, endRule, serviceRule, looksSync, judge, blank, Reading, idle, searching, inStep, readings, receiverInRange, receive}
 use Rattle.line.specs.declared.receiver.Receiver.{Receiver}
-use Rattle.line.specs.declared.receiver.Phase.{Phase}
-use Rattle.line.specs.declared.receiver.Phase.the-variants as P
-use Rattle.line.specs.declared.receiver.Event.the-variants as E
+use Rattle.line.specs.declared.receiving.Phase.{Phase}
+use Rattle.line.specs.declared.receiving.Phase.the-variants as P
+use Rattle.line.specs.declared.receiving.Event.the-variants as E
 use Rattle.line.proofs.Delivery.Holding.{length-noBytes}
 use Rattle.line.proofs.Delivery.BitByBit.{bitByBit, Waiting, bit-by-bit}
 

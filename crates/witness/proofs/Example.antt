@@ -7,7 +7,7 @@ use Prim.Native.Nat.{ℕ}
 use lib.ListN.{replicate}
 use Rattle.crc.specs.Bits.{Bits, binary, number, bitsOf, bytesOf, xorBits, parity}
 use Rattle.crc.specs.Check.{remainder, passes, check}
-use Rattle.block.specs.Answer as A
+use Rattle.line.specs.Refusals as Refusals
 use Rattle.block.specs.Lengths.{isLength}
 use Rattle.block.specs.Block.{blockBits, verdict, syncBlock, cancelled}
 use Rattle.line.specs.Order.{validLength, itemCount, letter, isLetter, orderBits, filled, endPayload, itemService, itemPayload, itemBits}
@@ -17,12 +17,12 @@ use Rattle.line.specs.Receiving.{freshReceiver, openReceiver, noBytes, place, e
 use Rattle.line.specs.Course.{sending, World, opened, course, final}
 use Rattle.line.specs.Delivery.{Assumptions, Openings, Delivered, Delivery}
 use Rattle.line.specs.declared.sender.Next.the-variants.{Sync, Older, Newer}
-use Rattle.line.specs.declared.receiver.Event.the-variants as E
+use Rattle.line.specs.declared.receiving.Event.the-variants as E
 use Rattle.line.specs.declared.receiver.Opened.{Opened}
 use Rattle.line.specs.declared.receiver.Opening.the-variants as Opening
 use Rattle.line.proofs.Delivery.Answers.{runs}
 use Rattle.line.proofs.Delivery.Theorem.{delivery}
-use Rattle.line.specs.declared.receiver.Phase.the-variants as P
+use Rattle.line.specs.declared.receiving.Phase.the-variants as P
 use Rattle.witness.proofs.Tally.{refuses, tallied, Row, Rows, Goes, allCalls, allTally, lastWorld, walk, goes-meets}
 use Rattle.witness.proofs.Periods.{sender, well, between, plain}
 
@@ -56,7 +56,7 @@ rows =
     (sender 8 2 0 false Newer true) (well 1 true)
     ∷ (record {
       calls = sending order false (replicate 33 0) [] ∷ [];
-      tally = tallied true true false false (refuses A.rest ∷ []);
+      tally = tallied true true false false (refuses Refusals.rest ∷ []);
       world = between (sender 8 2 0 false Newer true) (well 1 true) stored (item 2 true true false);
     })
     ∷ []

@@ -12,8 +12,8 @@ use Rattle.line.specs.Receiving.{freshReceiver, noBytes, place, endRule, servic
 use Rattle.line.specs.Course.{course}
 use Rattle.line.specs.Delivery.{Assumptions}
 use Rattle.line.specs.declared.sender.Next.the-variants.{Sync, Older, Newer}
-use Rattle.line.specs.declared.receiver.Event.the-variants as E
-use Rattle.line.specs.declared.receiver.Phase.the-variants as P
+use Rattle.line.specs.declared.receiving.Event.the-variants as E
+use Rattle.line.specs.declared.receiving.Phase.the-variants as P
 use Rattle.witness.proofs.Tally.{Row, Rows, Goes, allCalls, allTally, lastWorld, walk, goes-meets}
 use Rattle.witness.proofs.Periods.{sender, receiver, well, bad, period, plain, damaged}
 use Rattle.witness.proofs.TwoItems.{order, content, block, first, one, two, w₀}

@@ -14,7 +14,7 @@ use Rattle.line.specs.Sending.{synchronising, item, freshSender, senderInRange,
 use Rattle.line.specs.Receiving.{freshReceiver, noBytes, place, endRule, serviceRule, looksSync, judge, inStep, readings, receiverInRange, receive, storeAt}
 use Rattle.line.specs.Course.{World, opened, course, final}
 use Rattle.line.specs.declared.sender.Next.the-variants.{Sync, Older, Newer}
-use Rattle.line.specs.declared.receiver.Event.the-variants as E
+use Rattle.line.specs.declared.receiving.Event.the-variants as E
 use Rattle.line.proofs.Delivery.Spacing.{BetweenLosses}
 use Rattle.witness.proofs.Meets.{OtherClauses}
 use Rattle.witness.proofs.Tally.{Row, Rows, Goes, allCalls, allTally, lastWorld, walk, goes-otherwise}

@@ -13,7 +13,7 @@ use Rattle.line.specs.Order.{letter, letterA, letterB, isLetter}
 use Rattle.line.specs.Receiving.{freshReceiver, noBytes, found, accepts, place, serviceRule, looksSync, judge, blank, inStep, readings, receiverInRange, receive, storeAt}
 use Rattle.line.specs.Pieces.{Piece, call, Pieces}
 use Rattle.line.specs.declared.receiver.Receiver.{Receiver}
-use Rattle.line.specs.declared.receiver.Phase.the-variants as P
+use Rattle.line.specs.declared.receiving.Phase.the-variants as P
 use Rattle.line.proofs.Delivery.Holding.{length-noBytes}
 use Rattle.line.proofs.Pieces.{pieces}
 

@@ -8,7 +8,7 @@ use Rattle.crc.specs.Bits.{Bits}
 use Rattle.line.specs.Sending.{Block}
 use Rattle.line.specs.Course.{Call, World, Entry, send-refused, receive-refused, sent, heard, course, final}
 use Rattle.line.specs.Delivery.{some, eventOf, isAlarm, Assumptions}
-use Rattle.line.specs.declared.receiver.Event.{Event}
+use Rattle.line.specs.declared.receiving.Event.{Event}
 use Rattle.line.proofs.Delivery.Prefixes.{course-append, final-append}
 use Rattle.line.proofs.Delivery.Spacing.{spaced, pendsAll, spaced-append, pendsAll-append, BetweenLosses, between-spaced}
 use Rattle.witness.proofs.Meets.{sameBits, entryMeets, eachMeets, OtherClauses, others-meet, meets}

@@ -15,8 +15,8 @@ use Rattle.line.specs.declared.sender.Sent.{Sent}
 use Rattle.line.specs.declared.sender.Sent.the-variants as W
 use Rattle.line.specs.declared.receiver.Receiver.{Receiver}
 use Rattle.line.specs.declared.receiver.Step as ReceiverStep
-use Rattle.line.specs.declared.receiver.Received.{Received}
-use Rattle.line.specs.declared.receiver.Received.the-variants as R
+use Rattle.line.specs.declared.receiving.Received.{Received}
+use Rattle.line.specs.declared.receiving.Received.the-variants as R
 
 -- ---- the states that the course hands on are those that the calls hand back
 

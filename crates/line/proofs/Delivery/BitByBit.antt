@@ -14,8 +14,8 @@ use Rattle.block.proofs.Lengths.{length-facts}
 use Rattle.line.specs.Order.{mostItems}
 use Rattle.line.specs.Receiving.{arrayBytes, lastBad, Rule, unfinished, standing, found, sync-block, check-fails, accepts, previous, out-of-sequence, ends, wrong-length, ends-again, anything-else, meaning, judge, after, heldBits, Reading, stops, holding, missing, inStep, readings, heldInRange, receiverInRange, judgeStore, receive, receiveState}
 use Rattle.line.specs.declared.receiver.Receiver.{Receiver}
-use Rattle.line.specs.declared.receiver.Phase.{Phase}
-use Rattle.line.specs.declared.receiver.Phase.the-variants as P
+use Rattle.line.specs.declared.receiving.Phase.{Phase}
+use Rattle.line.specs.declared.receiving.Phase.the-variants as P
 use Rattle.line.proofs.Delivery.Judging.{Judged, as-sync, fails, as-data, as-other, judged}
 use Rattle.line.proofs.Delivery.Holding.{length-holding, heldBits-holding}
 

@@ -18,10 +18,10 @@ use Rattle.line.specs.Receiving.{arrayBytes, lastBad, Rule, unfinished, 
 use Rattle.line.specs.Course.{World, receiveEntry, receiveAfter}
 use Rattle.line.specs.Delivery.{isItem}
 use Rattle.line.specs.declared.receiver.Receiver.{Receiver}
-use Rattle.line.specs.declared.receiver.Setup.{Setup}
-use Rattle.line.specs.declared.receiver.Phase.{Phase}
-use Rattle.line.specs.declared.receiver.Phase.the-variants as P
-use Rattle.line.specs.declared.receiver.Event.the-variants as E
+use Rattle.line.specs.declared.receiving.Setup.{Setup}
+use Rattle.line.specs.declared.receiving.Phase.{Phase}
+use Rattle.line.specs.declared.receiving.Phase.the-variants as P
+use Rattle.line.specs.declared.receiving.Event.the-variants as E
 use Rattle.line.proofs.Items.{payload-itemBits}
 use Rattle.line.proofs.Delivery.Ends.{Ends, LineBlock, Reads, Busy}
 use Rattle.line.proofs.Delivery.Ends as D

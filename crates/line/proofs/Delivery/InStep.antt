@@ -16,9 +16,9 @@ use Rattle.block.proofs.Truth.{cond-case}
 use Rattle.line.specs.Receiving.{Rule, unfinished, meaning, judge, Reading, stops, search, holding, missing, finishedRow, inStep, heldInRange}
 use Rattle.line.specs.Course.{World}
 use Rattle.line.specs.declared.receiver.Receiver.{Receiver}
-use Rattle.line.specs.declared.receiver.Phase.{Phase}
-use Rattle.line.specs.declared.receiver.Phase.the-variants as P
-use Rattle.line.specs.declared.receiver.Event.the-variants as E
+use Rattle.line.specs.declared.receiving.Phase.{Phase}
+use Rattle.line.specs.declared.receiving.Phase.the-variants as P
+use Rattle.line.specs.declared.receiving.Event.the-variants as E
 use Rattle.line.proofs.Delivery.Ends.{LineBlock}
 use Rattle.line.proofs.Delivery.Ends as D
 use Rattle.line.proofs.Delivery.Holding.{length-heldBits, length-holding, heldBits-holding}

@@ -5,7 +5,7 @@ use Prim.Native.Nat.{ℕ, zero, suc, _+_, _*_, _≤_, _<_}
 use native.Mathlib.Omega.{arith}
 use Rattle.line.specs.declared.sender.Next.{Next}
 use Rattle.line.specs.declared.sender.Next.the-variants.{Sync, Older, Newer}
-use Rattle.line.specs.declared.receiver.Event.{Event}
+use Rattle.line.specs.declared.receiving.Event.{Event}
 use Rattle.line.proofs.Delivery.Ends.{Ends, isNewer, isSync, LineBlock, sync, item, SameReceiver, SameSender, Sends, Reads, Basic, Between, During, FromPair, syncing, below, last, cancelled, Alarmed, Idle, Busy, Neighbour}
 use Rattle.line.proofs.Delivery.Ends as D
 

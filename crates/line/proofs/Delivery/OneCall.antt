@@ -12,6 +12,7 @@ use Rattle.crc.specs.Bits.{Bits, bit, bitsOf, xorBits}
 use Rattle.crc.specs.Damage.{Damage}
 use Rattle.crc.proofs.Bytes.{length-bitsOf}
 use Rattle.block.specs.Answer as A
+use Rattle.line.specs.Refusals as Refusals
 use Rattle.block.specs.Answer.{Answer, refused, done}
 use Rattle.block.specs.Lengths.{isLength, blockLength}
 use Rattle.block.specs.Calls.{tooShort}
@@ -36,7 +37,7 @@ use Rattle.line.proofs.Delivery.State.{Session, N, Fit, alarmStands, en
 -- ---- how a call is answered, its state in range
 
 pub data SendAnswered (s : Sender) (reading : Bool) : Answer Block → Type 0 where
-  refuses : {n : ℕ} → (n ≡ A.short) ⊎ (n ≡ A.rest) → SendAnswered s reading (refused n)
+  refuses : {n : ℕ} → (n ≡ A.short) ⊎ (n ≡ Refusals.rest) → SendAnswered s reading (refused n)
   begins : s .finished ≡ false → gaveUp s ≡ false → SendAnswered s reading (done (transmit s (s .next) reading .block))
 
 pub data ReceiveAnswered (r : Receiver) (lent : Bits) (count : ℕ) : Answer Reading → Type 0 where

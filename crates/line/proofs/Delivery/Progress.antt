@@ -9,8 +9,8 @@ use lib.Dec.{eqb}
 use Rattle.line.specs.Receiving.{EventKind, eventKind, withLength}
 use Rattle.line.specs.declared.sender.Next.{Next}
 use Rattle.line.specs.declared.sender.Next.the-variants.{Sync, Older, Newer}
-use Rattle.line.specs.declared.receiver.Event.{Event}
-use Rattle.line.specs.declared.receiver.Event.the-variants as E
+use Rattle.line.specs.declared.receiving.Event.{Event}
+use Rattle.line.specs.declared.receiving.Event.the-variants as E
 use Rattle.line.proofs.Delivery.Ends.{Ends, LineBlock, sync, item, SameSender, Sends, Reads, Between, Idle, Busy, NotWhole}
 use Rattle.line.proofs.Delivery.Ends as D
 use Rattle.line.proofs.Delivery.Invariant.{zero-or-one, send-keeps, read-keeps}

@@ -15,9 +15,9 @@ use Rattle.block.proofs.Truth.{or-true, or-false, or-no, or-yes}
 use Rattle.line.specs.Receiving.{arrayBytes, Rule, unfinished, standing, found, sync-block, check-fails, accepts, previous, out-of-sequence, ends, wrong-length, ends-again, anything-else, meaning, EventKind, eventKind, lastBad, blank, well, badly, alarmed, after, heldBits, heldInRange}
 use Rattle.line.specs.declared.sender.Sender.{Sender}
 use Rattle.line.specs.declared.receiver.Receiver.{Receiver}
-use Rattle.line.specs.declared.receiver.Phase.{Phase}
-use Rattle.line.specs.declared.receiver.Phase.the-variants as P
-use Rattle.line.specs.declared.receiver.Event.the-variants as E
+use Rattle.line.specs.declared.receiving.Phase.{Phase}
+use Rattle.line.specs.declared.receiving.Phase.the-variants as P
+use Rattle.line.specs.declared.receiving.Event.the-variants as E
 use Rattle.line.proofs.Delivery.Ends.{LineBlock, Reads, SameSender, NotWhole}
 use Rattle.line.proofs.Delivery.Ends as D
 use Rattle.line.proofs.Delivery.Holding.{length-noBytes}

@@ -16,8 +16,8 @@ use Rattle.line.specs.Receiving.{Rule, found, sync-block, check-fails, e
 use Rattle.line.specs.Course.{World}
 use Rattle.line.specs.Delivery.{isItem}
 use Rattle.line.specs.declared.receiver.Receiver.{Receiver}
-use Rattle.line.specs.declared.receiver.Phase.the-variants as P
-use Rattle.line.specs.declared.receiver.Event.the-variants as E
+use Rattle.line.specs.declared.receiving.Phase.the-variants as P
+use Rattle.line.specs.declared.receiving.Event.the-variants as E
 use Rattle.line.proofs.Items.{itemCount-fits}
 use Rattle.line.proofs.Delivery.Ends.{LineBlock, Reads, During}
 use Rattle.line.proofs.Delivery.Ends as D

@@ -13,10 +13,10 @@ use Rattle.block.proofs.Truth.{cond-case}
 use Rattle.line.specs.Receiving.{standing, Reading, search, stands, stood, reading, idleRule, idle, readings}
 use Rattle.line.specs.Course.{World}
 use Rattle.line.specs.declared.receiver.Receiver.{Receiver}
-use Rattle.line.specs.declared.receiver.Phase.{Phase}
-use Rattle.line.specs.declared.receiver.Phase.the-variants as P
-use Rattle.line.specs.declared.receiver.Event.{Event}
-use Rattle.line.specs.declared.receiver.Event.the-variants as E
+use Rattle.line.specs.declared.receiving.Phase.{Phase}
+use Rattle.line.specs.declared.receiving.Phase.the-variants as P
+use Rattle.line.specs.declared.receiving.Event.{Event}
+use Rattle.line.specs.declared.receiving.Event.the-variants as E
 use Rattle.line.proofs.Delivery.Ends.{LineBlock, Busy}
 use Rattle.line.proofs.Delivery.Ends as D
 use Rattle.line.proofs.Delivery.Reading.{same-sender}

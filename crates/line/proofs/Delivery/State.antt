@@ -17,10 +17,10 @@ use Rattle.line.specs.Course.{World, Entry}
 use Rattle.line.specs.Delivery.{OnLine, SameOrder, SameStore, Admitted, NotWhole, SyncAtLast, SyncNotData, OnlyRefused, isNew, isEnd, isAlarm, isLost, isGood, reportsEnd}
 use Rattle.line.specs.declared.sender.Sender.{Sender}
 use Rattle.line.specs.declared.receiver.Receiver.{Receiver}
-use Rattle.line.specs.declared.receiver.Phase.{Phase}
-use Rattle.line.specs.declared.receiver.Phase.the-variants as P
-use Rattle.line.specs.declared.receiver.Event.{Event}
-use Rattle.line.specs.declared.receiver.Event.the-variants as E
+use Rattle.line.specs.declared.receiving.Phase.{Phase}
+use Rattle.line.specs.declared.receiving.Phase.the-variants as P
+use Rattle.line.specs.declared.receiving.Event.{Event}
+use Rattle.line.specs.declared.receiving.Event.the-variants as E
 use Rattle.line.proofs.Delivery.Ends.{Ends, LineBlock, Sends, Reads, Idle, Busy}
 use Rattle.line.proofs.Delivery.Ends as D
 use Rattle.line.proofs.Delivery.Progress.{isNews}

@@ -12,6 +12,7 @@ use lib.ListN.{length, take, drop}
 use borrow.Author.Tests.{eqb-false, ltb-false, not-false}
 use Rattle.crc.specs.Bits.{bit, bitsOf}
 use Rattle.block.specs.Answer as A
+use Rattle.line.specs.Refusals as Refusals
 use Rattle.block.specs.Answer.{Answer, refused, done, refuseIf}
 use Rattle.block.specs.Lengths.{isLength}
 use Rattle.block.specs.Calls.{tooShort}
@@ -65,11 +66,11 @@ known k speed loop-ms =
 
 opens-untimed : (k L : ℕ) (order : List ℕ) → isLength k ≡ true
     → Opens k L order
-    (refuseIf (eqb L 0) A.empty
-    (refuseIf (ltb longestOrder L) A.long (refuseIf (tooShort order L) A.short (done (freshSender k L)))))
+    (refuseIf (eqb L 0) Refusals.empty
+    (refuseIf (ltb longestOrder L) Refusals.long (refuseIf (tooShort order L) A.short (done (freshSender k L)))))
 opens-untimed k L order g =
-    cond-case (Opens k L order) (eqb L 0) (λ e. not-opened k L order A.empty)
-    (λ b. cond-case (Opens k L order) (ltb longestOrder L) (λ e. not-opened k L order A.long)
+    cond-case (Opens k L order) (eqb L 0) (λ e. not-opened k L order Refusals.empty)
+    (λ b. cond-case (Opens k L order) (ltb longestOrder L) (λ e. not-opened k L order Refusals.long)
     (λ c. cond-case (Opens k L order) (tooShort order L) (λ e. not-opened k L order A.short)
     (λ d s q.
     let n = eqb-false L 0 b in

@@ -14,10 +14,10 @@ use Rattle.line.specs.Order.{mostItems}
 use Rattle.line.specs.Receiving.{arrayBytes, lastBad, Rule, standing, meaning, heldBits, Reading, searching, search, holding, missing, finishedRow, inStep, stands, stood, reading, idleRule, idle, readings, heldInRange, receiverInRange}
 use Rattle.line.specs.Pieces.{addUsed}
 use Rattle.line.specs.declared.receiver.Receiver.{Receiver}
-use Rattle.line.specs.declared.receiver.Phase.{Phase}
-use Rattle.line.specs.declared.receiver.Phase.the-variants as P
-use Rattle.line.specs.declared.receiver.Event.{Event}
-use Rattle.line.specs.declared.receiver.Event.the-variants as E
+use Rattle.line.specs.declared.receiving.Phase.{Phase}
+use Rattle.line.specs.declared.receiving.Phase.the-variants as P
+use Rattle.line.specs.declared.receiving.Event.{Event}
+use Rattle.line.specs.declared.receiving.Event.the-variants as E
 use Rattle.line.proofs.Stepping.{held-on, step-on, step-done}
 use Rattle.line.proofs.Calling.{InRange, held-search, readings-some}
 use Rattle.block.proofs.Truth.{either}

@@ -8,9 +8,9 @@ use lib.ListN.{length}
 use Rattle.crc.specs.Bits.{Bits, binary}
 use Rattle.block.specs.Lengths.{isLength, blockLength}
 use Rattle.line.specs.declared.receiver.Receiver.{Receiver}
-use Rattle.line.specs.declared.receiver.Event.{Event}
+use Rattle.line.specs.declared.receiving.Event.{Event}
 use Rattle.line.specs.declared.receiver.Step.{Step}
-use Rattle.line.specs.declared.receiver.Received.the-variants as R
+use Rattle.line.specs.declared.receiving.Received.the-variants as R
 use Rattle.line.specs.declared.head.Head.{Head}
 use Rattle.line.specs.declared.head.HeadStep.{HeadStep}
 use Rattle.line.specs.declared.window.Window.{Window}

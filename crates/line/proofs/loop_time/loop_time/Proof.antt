@@ -6,7 +6,7 @@ use mathlib.Core.Bool.{true, false}
 use Prim.Native.Nat.{ℕ, _<_, _≤_}
 use lib.Dec.{ltb}
 use lib.ListN.{getD}
-use Rattle.block.specs.Answer as A
+use Rattle.line.specs.Refusals as Refusals
 use Rattle.block.specs.Answer.{refused, done, refuseIf}
 use Rattle.block.specs.Lengths.{lengths, isLength}
 use Rattle.line.specs.Code.Table.{place}
@@ -44,7 +44,7 @@ module _ (speed column : ℕ) (e : column ≡ place speed speeds) where
 module _ (k row speed column loop-ms : ℕ) (e : row ≡ place k lengths) (f : column ≡ place speed speeds) (h : row < 4)
     (g : column < 6) where
   no-entry : false ≡ hasEntry (getD lengths row 0) (getD speeds column 0)
-      → refused A.loop-time ≡ loopTime k speed loop-ms
+      → refused Refusals.loop-time ≡ loopTime k speed loop-ms
   unfolding loopTime
   no-entry n =
       let m : hasEntry k speed ≡ false = sym (rw (at-length k row e h, at-speed speed column f g) at n) in
@@ -52,7 +52,7 @@ module _ (k row speed column loop-ms : ℕ) (e : row ≡ place k lengths) (f : c
 
   judged : true ≡ hasEntry (getD lengths row 0) (getD speeds column 0) → (limit : ℕ)
       → limit ≡ longestLoop (getD lengths row 0) (getD speeds column 0)
-      → refuseIf (ltb limit loop-ms) A.loop-time (done tt) ≡ loopTime k speed loop-ms
+      → refuseIf (ltb limit loop-ms) Refusals.loop-time (done tt) ≡ loopTime k speed loop-ms
   unfolding loopTime
   judged n limit l =
       let m : hasEntry k speed ≡ true = sym (rw (at-length k row e h, at-speed speed column f g) at n) in
@@ -102,7 +102,7 @@ longest-loop-requires c κs = search needs
 
 -- the answer where there is an entry
 after : (c : tie.After-longest-loop)
-    → refuseIf (ltb (c .longest-loop .result) (c .before .before .before .before .before .before .before .args .loop-ms)) A.loop-time (done tt)
+    → refuseIf (ltb (c .longest-loop .result) (c .before .before .before .before .before .before .before .args .loop-ms)) Refusals.loop-time (done tt)
     ≡ loopTime (c .before .before .before .before .before .before .before .args .k) (c .before .before .before .before .before .before .before .args .speed)
     (c .before .before .before .before .before .before .before .args .loop-ms)
 after c =

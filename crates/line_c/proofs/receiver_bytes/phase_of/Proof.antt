@@ -1,7 +1,7 @@
 -- `phase_of`: a number above 2 is none of 0, 1 and 2. Assumes nothing.
 use mathlib.Core.Path.{_≡_, refl}
 use Prim.Native.Nat.{ℕ, zero, suc}
-use Rattle.line.specs.declared.receiver.Phase.the-variants as P
+use Rattle.line.specs.declared.receiving.Phase.the-variants as P
 use Rattle.line_c.specs.State.{phaseOf}
 use borrow.Author.Needs.{needs}
 use Rattle.line_c.proofs.receiver_bytes.phase_of.Statement.{statement}

@@ -16,7 +16,7 @@ use Rattle.line.specs.Code.ReceiveSteps.{stepWith}
 use Rattle.line.specs.declared.head.Head.{Head}
 use Rattle.line.specs.declared.head.HeadStep.{HeadStep}
 use Rattle.line.specs.declared.receiver.Receiver.{Receiver}
-use Rattle.line.specs.declared.receiver.Event.{Event}
+use Rattle.line.specs.declared.receiving.Event.{Event}
 use Rattle.line.proofs.InPlace.{by-value}
 use Rattle.line_c.specs.State.{headSize, receiverSize, holdsReceiver, receiverIn, receiverOf, receiverHead, receiverBytes}
 use Rattle.line_c.specs.ReceiverCalls.{receiverOver, eventNumber, eventLength, reportNumber, reportUsed, reportLength, receivedState, ReceiveCall}

@@ -4,9 +4,9 @@ use mathlib.Core.List.{[], _∷_}
 use Prim.Native.Nat.{ℕ}
 use denote.Enum.Declared.{tagOf}
 use types.Run.{OneOf, miss}
-use Rattle.line.specs.declared.receiver.Event.{Event}
-use Rattle.line.specs.declared.receiver.Event.the-variants as E
-use Rattle.line.proofs.receiver.Event.{the-type}
+use Rattle.line.specs.declared.receiving.Event.{Event}
+use Rattle.line.specs.declared.receiving.Event.the-variants as E
+use Rattle.line.proofs.receiving.Event.{the-type}
 use Rattle.line_c.specs.ReceiverCalls.{eventNumber, eventLength}
 use borrow.Author.Needs.{needs}
 use Rattle.line_c.proofs.receiver_calls.report.Statement.{statement}

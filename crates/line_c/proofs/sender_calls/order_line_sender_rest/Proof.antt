@@ -11,6 +11,7 @@ use denote.Enum.Declared.{tagOf}
 use types.Run.{OneOf}
 use lib.Dec.{eqb}
 use Rattle.block.specs.Answer as A
+use Rattle.line.specs.Refusals as Refusals
 use Rattle.block.specs.Answer.{Answer, refused, done, refuseIf}
 use Rattle.block.specs.Lengths.{blockLength}
 use Rattle.block.specs.Calls.{tooShort}
@@ -28,11 +29,11 @@ use Rattle.line_c.proofs.sender_calls.order_line_sender_rest.Tie as tie
 
 -- the number that an answer comes to
 abbrev restAfter : Bool → Answer Block → ℕ
-restAfter finished (refused n) = cond (eqb n A.spoiled) A.spoiled (cond (eqb n A.rest) (cond finished 1 2) 0)
+restAfter finished (refused n) = cond (eqb n A.spoiled) A.spoiled (cond (eqb n Refusals.rest) (cond finished 1 2) 0)
 restAfter finished (done b) = 0
 
 rest-tests : (range finished gave-up short : Bool) (b : Block)
-    → restAfter finished (refuseIf (not range) A.spoiled (refuseIf (finished || gave-up) A.rest (refuseIf short A.short (done b))))
+    → restAfter finished (refuseIf (not range) A.spoiled (refuseIf (finished || gave-up) Refusals.rest (refuseIf short A.short (done b))))
     ≡ cond range (cond finished 1 (cond gave-up 2 0)) A.spoiled
 rest-tests false finished gave-up short b = refl
 rest-tests true true gave-up short b = refl

@@ -4,7 +4,7 @@ use native.Mathlib.Omega.{arith}
 use lib.ListN.{length, take}
 use Rattle.crc.specs.Bits.{bitsOf}
 use Rattle.crc.proofs.Bytes.{length-bytesOf}
-use Rattle.line.specs.declared.receiver.Event.the-variants as E
+use Rattle.line.specs.declared.receiving.Event.the-variants as E
 use Rattle.session.specs.Period.{lineBytes, arriving, hear}
 use Rattle.session.proofs.Hearing.{arrives, refused-period, event-period}
 use borrow.Author.Needs.{needs}

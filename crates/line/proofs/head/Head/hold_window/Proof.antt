@@ -8,7 +8,7 @@ use lib.ListN.{length, drop, set}
 use Rattle.crc.specs.Bits.{bytesOf}
 use Rattle.crc.proofs.Rows.{length-binary}
 use Rattle.line.specs.Code.ReceiveSteps.{windowBits, stepped}
-use Rattle.line.specs.declared.receiver.Event.the-variants as E
+use Rattle.line.specs.declared.receiving.Event.the-variants as E
 use Rattle.line.proofs.Searching.{window-stored}
 use borrow.Author.Needs.{needs}
 use Rattle.line.proofs.head.Head.hold_window.Statement.{statement}

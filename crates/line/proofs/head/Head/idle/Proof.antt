@@ -6,9 +6,9 @@ use native.Mathlib.Omega.{arith}
 use types.Run.{OneOf}
 use denote.Enum.Declared.{tagOf}
 use Rattle.line.specs.Receiving.{unfinished, idleRule}
-use Rattle.line.specs.declared.receiver.Phase.{Phase}
-use Rattle.line.specs.declared.receiver.Phase.the-variants.{Search, InStep, SequenceAlarm, LengthAlarm}
-use Rattle.line.proofs.receiver.Phase.{the-type}
+use Rattle.line.specs.declared.receiving.Phase.{Phase}
+use Rattle.line.specs.declared.receiving.Phase.the-variants.{Search, InStep, SequenceAlarm, LengthAlarm}
+use Rattle.line.proofs.receiving.Phase.{the-type}
 use borrow.Author.Needs.{needs}
 use Rattle.line.proofs.head.Head.idle.Statement.{statement}
 use Rattle.line.proofs.head.Head.idle.Tie as tie

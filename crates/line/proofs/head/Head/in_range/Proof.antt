@@ -12,9 +12,9 @@ use denote.Enum.Declared.{tagOf}
 use Rattle.block.specs.Lengths.{isLength, blockLength}
 use Rattle.block.proofs.Lengths.{length-facts}
 use Rattle.line.specs.Receiving.{heldInRange, receiverInRange}
-use Rattle.line.specs.declared.receiver.Phase.{Phase}
-use Rattle.line.specs.declared.receiver.Phase.the-variants.{Search, InStep, SequenceAlarm, LengthAlarm}
-use Rattle.line.proofs.receiver.Phase.{the-type}
+use Rattle.line.specs.declared.receiving.Phase.{Phase}
+use Rattle.line.specs.declared.receiving.Phase.the-variants.{Search, InStep, SequenceAlarm, LengthAlarm}
+use Rattle.line.proofs.receiving.Phase.{the-type}
 use borrow.Author.Needs.{needs}
 use Rattle.line.proofs.head.Head.in_range.Statement.{statement}
 use Rattle.line.proofs.head.Head.in_range.Tie as tie

@@ -7,6 +7,7 @@ use mathlib.Core.List.{List}
 use Prim.Native.Nat.{ℕ, _≤_}
 use lib.Dec.{ltb}
 use Rattle.block.specs.Answer as A
+use Rattle.line.specs.Refusals as Refusals
 use Rattle.block.specs.Answer.{refused, done, refuseIf}
 use Rattle.block.specs.Calls.{tooShort}
 use Rattle.line.specs.LoopTime.{loopTime, loopAnswer}
@@ -21,12 +22,12 @@ module _ (k speed loop-ms L : ℕ) (order : List ℕ) where
   loop-refused n e = rw (← e)
 
   module _ (e : done tt ≡ loopTime k speed loop-ms) where
-    empty : L ≡ 0 → refused A.empty ≡ openSender k speed loop-ms L order
+    empty : L ≡ 0 → refused Refusals.empty ≡ openSender k speed loop-ms L order
     unfolding openSender
     empty z = rw (← e) (simp (eq-eqb L 0 z))
 
     module _ (n : L ≡ 0 → ⊥) where
-      long : ltb longestOrder L ≡ true → refused A.long ≡ openSender k speed loop-ms L order
+      long : ltb longestOrder L ≡ true → refused Refusals.long ≡ openSender k speed loop-ms L order
       unfolding openSender
       long h = rw (← e) (simp (ne-eqb L 0 n, h))
 

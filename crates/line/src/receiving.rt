@@ -1,0 +1,33 @@
+// What both forms of the receiving end are made of: the phase, what opening fixes, the events and the answer.
+
+// The bytes of the array that holds one unfinished block.
+pub const ARRAY_SIZE: usize = 483;
+
+pub enum Phase {
+    Search,
+    InStep,
+    SequenceAlarm,
+    LengthAlarm,
+}
+
+// What opening fixes: the data bits of a block.
+pub struct Setup {
+    pub k: usize,
+}
+
+pub enum Event {
+    None,
+    Sync,
+    Bad,
+    Accepted,
+    Previous,
+    SequenceAlarm,
+    LengthAlarm,
+    // With the order's length in bits.
+    Ended(usize),
+}
+
+pub enum Received {
+    Used { event: Event, bits: usize },
+    Refused(u8),
+}
