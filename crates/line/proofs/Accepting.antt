@@ -1,11 +1,13 @@
 -- Laws of accepting a block: where its data go, in whole bytes, and the room for them. Assumes nothing.
 use mathlib.Core.Path.{_≡_, sym, ap, _∙_}
-use mathlib.Core.Bool.{true, false}
+use mathlib.Core.Bool.{true, false, not}
 use mathlib.Core.List.{List, [], _++_, append-nil}
+use mathlib.Core.Logic.{⊎-elim}
 use Prim.Native.Nat.{ℕ, _+_, _*_, _/_, _≤_, _<_}
 use native.Mathlib.Nat.{mul-le-mul}
 use native.Mathlib.Omega.{arith}
-use borrow.Author.Tests.{lt-ltb, le-ltb}
+use borrow.Author.Tests.{ltb-true, ltb-false, lt-leb, le-leb}
+use lib.Dec.{leb}
 use lib.ListN.{length, take, drop, getD, length-drop, drop-of-length-le}
 use lib.Seq.{length-take-le}
 use Rattle.crc.specs.Bits.{Bits, bitsOf, bytesOf}
@@ -13,6 +15,7 @@ use Rattle.crc.proofs.Bytes.{length-bytesOf, bytesOf-lt}
 use Rattle.block.specs.Lengths.{isLength}
 use Rattle.block.specs.Calls.{tooShort}
 use Rattle.block.proofs.Lengths.{length-facts, length-bytes}
+use Rattle.block.proofs.Truth.{either}
 use Rattle.line.specs.Order.{mostItems}
 use Rattle.line.specs.Receiving.{storeAt}
 use Rattle.line.proofs.Building.{item-byte}
@@ -23,18 +26,24 @@ module _ (k taken : ℕ) (known : isLength k ≡ true) where
   start-lt h = let f = length-facts k known in mul-le-mul {m₂ = 480} h (omega arith)
 
   module _ (store : List ℕ) where
-    -- the test in whole bytes
-    pub room : taken * (k / 8) + k / 8 ≤ length store → tooShort store (taken * k + k) ≡ false
-    room h =
+    pub room : tooShort store (taken * k + k) ≡ false → taken * (k / 8) + k / 8 ≤ length store
+    room e =
         let i = item-byte taken k known in
         let f = length-bytes k known in
-        le-ltb (8 * length store) (taken * k + k) (omega arith)
+        let h = ltb-false (8 * length store) (taken * k + k) e in
+        omega arith
 
-    pub no-room : length store < taken * (k / 8) + k / 8 → tooShort store (taken * k + k) ≡ true
-    no-room h =
+    -- the test in whole bytes
+    pub room-test : leb (taken * (k / 8) + k / 8) (length store) ≡ not (tooShort store (taken * k + k))
+    room-test =
         let i = item-byte taken k known in
         let f = length-bytes k known in
-        lt-ltb (8 * length store) (taken * k + k) (omega arith)
+        ⊎-elim
+        (λ (e : tooShort store (taken * k + k) ≡ true).
+        let h = ltb-true (8 * length store) (taken * k + k) e in
+        lt-leb (taken * (k / 8) + k / 8) (length store) (omega arith) ∙ sym (ap not e))
+        (λ (e : tooShort store (taken * k + k) ≡ false). le-leb (taken * (k / 8) + k / 8) (length store) (room e) ∙ sym (ap not e))
+        (either (tooShort store (taken * k + k)))
 
     -- the part of the store that is lent for the data, put back
     module _ (n : ℕ) (part : List ℕ) where

@@ -1,12 +1,14 @@
 // The receiving end in place: a state's array is lent, its other fields, the head, are handed over and back.
 ghost use mathlib.Core.Path.{_≡_};
-ghost use mathlib.Core.Bool.{true, _||_};
+ghost use mathlib.Core.Bool.{true, false, not, _||_};
 ghost use mathlib.Core.List.{List, [], _++_};
 ghost use Prim.Native.Nat.{ℕ, _+_, _*_, _≤_, _<_};
 ghost use lib.Dec.{leb};
 ghost use lib.ListN.{length, take};
 ghost use Rattle.crc.specs.Bits.{bitsOf};
-ghost use Rattle.block.specs.Lengths.{blockLength};
+ghost use Rattle.block.specs.Lengths.{isLength, blockLength};
+ghost use Rattle.block.specs.Calls.{tooShort};
+ghost use Rattle.line.specs.Order.{mostItems};
 ghost use Rattle.line.specs.Receiving as S;
 ghost use Rattle.line.specs.Receiving.{arrayBytes, noBytes, receiverInRange};
 ghost use Rattle.line.specs.ReceivingInPlace.{whole, ReceiveInPlace};
@@ -202,18 +204,23 @@ impl Head {
         }
     }
 
-    // Rule 3: room in the store, the data straight to their place, the state after.
+    // Whether the store has room for the next item.
+    fn has_room(self, store: &[u8]) -> bool
+        requires { ⌜ (isLength (self .setup .k) ≡ true) × (self .taken ≤ mostItems) ⌝ }
+        ensures { λ r. ⌜ r ≡ not (tooShort (now (store .entry)) (self .taken * self .setup .k + self .setup .k)) ⌝ }
+    {
+        let m = self.setup.k / 8;
+        self.taken * m + m <= store.len()
+    }
+
+    // Rule 3: the data straight to their place in the store, which has room, and the state after.
     fn store_item(self, array: &mut [u8], row: &[u8], used: usize, store: &mut [u8]) -> HeadStep
-        requires { ⌜ FinishedBlock self (now array) (now row) ⌝ }
+        requires { ⌜ (FinishedBlock self (now array) (now row)) × (tooShort (now store) (self .taken * self .setup .k + self .setup .k) ≡ false) ⌝ }
         ensures { λ r. ⌜ Handed (whole self (now (array .entry))) (now (store .entry)) (S.stops (whole self (now (array .entry))) S.accepts (take (blockLength (self .setup .k)) (bitsOf (now (row .entry)))) used) (stepWith r (now (array .exit))) (now (store .exit)) ⌝ }
     {
         let m = self.setup.k / 8;
         let start = self.taken * m;
-        let end = start + m;
-        if store.len() < end {
-            return self.refused(block::SHORT);
-        }
-        block::move_data(m, row, &mut store[start..end]);
+        block::move_data(m, row, &mut store[start..start + m]);
         self.stop(array, Rule::Accepts, used)
     }
 
@@ -234,7 +241,12 @@ impl Head {
         };
         let rule = service_rule(k, taken, ended, service, row);
         match rule {
-            Rule::Accepts => self.store_item(array, row, used, store),
+            Rule::Accepts => {
+                if !self.has_room(store) {
+                    return self.refused(block::SHORT);
+                }
+                self.store_item(array, row, used, store)
+            }
             _ => self.stop(array, rule, used),
         }
     }

@@ -1,13 +1,18 @@
 -- `Head::judge` meets its contract: rule 1, the check, which refuses nothing here, and the rules of what passes.
 -- Assumes nothing.
 use mathlib.Core.Path.{_≡_, refl, sym, ap, _∙_}
+use mathlib.Core.Bool.{true, false}
+use Prim.Native.Nat.{_+_, _*_}
+use borrow.Author.Tests.{not-true, not-false}
 use lib.ListN.{take}
 use Rattle.crc.specs.Bits.{Bits, bitsOf}
 use Rattle.block.specs.Lengths.{blockLength}
+use Rattle.block.specs.Calls.{tooShort}
 use Rattle.line.specs.Receiving.{sync-block, check-fails, judge}
 use Rattle.line.specs.ReceivingInPlace.{whole}
-use Rattle.line.specs.Code.ReceiveSteps.{ruleOf}
-use Rattle.line.proofs.Handing.{handed-bad, stores-nothing, handed-rule, handed-accepts, rule-sync, rule-failed, rule-passed, check-passes, check-not-passed}
+use Rattle.line.specs.Code.ReceiveSteps.{ruleOf, stepWith}
+use Rattle.line.specs.declared.head.HeadStep.{HeadStep}
+use Rattle.line.proofs.Handing.{handed-bad, stores-nothing, handed-rule, handed-short, handed-accepts, rule-sync, rule-failed, rule-passed, check-passes, check-not-passed}
 use borrow.Author.Needs.{needs}
 use Rattle.line.proofs.head.Head.judge.Statement.{statement}
 use Rattle.line.proofs.head.Head.judge.Tie as tie
@@ -72,29 +77,51 @@ service-rule-requires c κs = search needs
 enum-told : tie.Need-enum-told
 enum-told c = search needs
 
-store-item-requires : tie.Need-store-item-requires
-store-item-requires c κs = search needs
+has-room-requires : tie.Need-has-room-requires
+has-room-requires c κs = search needs
 
-stop-requires : tie.Need-stop-requires
-stop-requires c κs = search needs
+refused-requires : tie.Need-refused-requires
+refused-requires c κs = search needs
 
 same-length-3 : tie.Need-same-length-3
 same-length-3 c = search needs
 
-same-length-4 : tie.Need-same-length-4
-same-length-4 c = search needs
-
 returns-3 : tie.Need-returns-3
 returns-3 c =
-    let i = c .before .before .before .before in
-    let t = i .before .before .before in
-    handed-accepts _ _ _ _ _ _ (ap ruleOf (sym (t .enum-told .given .1)) ∙ passed-rule (t .before .before)) (i .store-item .ensures)
+    let h = c .before .before in
+    let t = h .before .before in
+    let a = start (t .before .before) .args in
+    let short : tooShort (a .store .now) (a .self .taken * a .self .setup .k + a .self .setup .k) ≡ true =
+    not-false _ (sym (h .has-room .ensures) ∙ not-true _ (c .before .if2 .taken)) in
+    handed-accepts _ _ _ _ _ _ (ap ruleOf (sym (t .enum-told .given .1)) ∙ passed-rule (t .before .before))
+    (handed-short (whole (a .self) (a .array .now)) _ _ _ _ short (ap (λ (r : HeadStep). stepWith r (a .array .now)) (c .refused .ensures)))
+
+store-item-requires : tie.Need-store-item-requires
+store-item-requires c κs =
+    let h = c .before .before .before in
+    let a = start (h .before .before .before .before) in
+    (a .pre, not-true _ (sym (h .has-room .ensures) ∙ not-false _ (c .before .before .if2 .left)))
+
+stop-requires : tie.Need-stop-requires
+stop-requires c κs = search needs
+
+same-length-4 : tie.Need-same-length-4
+same-length-4 c = search needs
 
 same-length-5 : tie.Need-same-length-5
 same-length-5 c = search needs
 
 returns-4 : tie.Need-returns-4
 returns-4 c =
+    let i = c .before .before .before .before in
+    let t = i .before .before .before .before .before .before in
+    handed-accepts _ _ _ _ _ _ (ap ruleOf (sym (t .enum-told .given .1)) ∙ passed-rule (t .before .before)) (i .store-item .ensures)
+
+same-length-6 : tie.Need-same-length-6
+same-length-6 c = search needs
+
+returns-5 : tie.Need-returns-5
+returns-5 c =
     let m = c .before .before .before .before in
     handed-rule _ _ _ _ _ _ (passed-rule (m .before)) (stores-nothing (m .before .service-rule .result) (m .match2 .keys2)) (c .before .before .stop .ensures)
 
@@ -113,10 +140,14 @@ judge-spec =
     returns-2
     service-rule-requires
     enum-told
+    has-room-requires
+    refused-requires
+    same-length-3
+    returns-3
     store-item-requires
     stop-requires
-    same-length-3
     same-length-4
-    returns-3
     same-length-5
-    returns-4)
+    returns-4
+    same-length-6
+    returns-5)

@@ -1,6 +1,6 @@
--- `Head::store_item` lends the data's place in the store, if there is room. Assumes nothing.
+-- `Head::store_item` lends the data's place in the store. Assumes nothing.
 use mathlib.Core.Path.{_≡_, ap, _∙_}
-use mathlib.Core.Bool.{true}
+use mathlib.Core.Bool.{true, false}
 use mathlib.Core.List.{List, [], _++_}
 use Prim.Native.Nat.{ℕ, _+_, _-_, _*_, _/_, _≤_, _<_}
 use native.Mathlib.Omega.{arith}
@@ -9,29 +9,31 @@ use lib.Seq.{take-all, length-take-le}
 use Rattle.crc.specs.Bits.{Bits, bitsOf, bytesOf}
 use Rattle.block.specs.Lengths.{isLength, blockLength}
 use Rattle.block.specs.Block.{payloadOf}
-use Rattle.block.specs.Calls.{MoveData}
+use Rattle.block.specs.Calls.{tooShort, MoveData}
 use Rattle.block.specs.declared.Built.{Built}
 use Rattle.block.proofs.Lengths.{length-facts, length-bytes}
 use Rattle.line.specs.Receiving.{accepts, stops}
 use Rattle.line.specs.ReceivingInPlace.{whole}
-use Rattle.line.specs.Code.ReceiveSteps.{stepWith, handedBack, Handed}
-use Rattle.line.specs.declared.head.HeadStep.{HeadStep}
+use Rattle.line.specs.Code.ReceiveSteps.{handedBack, Handed}
 use Rattle.line.specs.declared.receiver.Receiver.{Receiver}
 use Rattle.line.specs.declared.receiver.Step.{Step}
-use Rattle.line.proofs.Accepting.{start-lt, room, no-room, put-back, accepted-store}
-use Rattle.line.proofs.Handing.{handed-short, handed-stored, length-data, data-moved}
+use Rattle.line.proofs.Accepting.{start-lt, room, put-back, accepted-store}
+use Rattle.line.proofs.Handing.{handed-stored, length-data, data-moved}
 use borrow.Author.Needs.{needs}
 use Rattle.line.proofs.head.Head.store_item.Statement.{statement}
 use Rattle.line.proofs.head.Head.store_item.Tie as tie
 
 module _ (s : Receiver) (known : isLength (s .setup .k) ≡ true) (slice store : List ℕ) (used : ℕ)
     (h : blockLength (s .setup .k) ≤ 8 * length slice) (bytes : (i : ℕ) → getD store i 0 < 256)
-    (fits : s .taken * (s .setup .k / 8) + s .setup .k / 8 ≤ length store) where
+    (held : tooShort store (s .taken * s .setup .k + s .setup .k) ≡ false) where
   abbrev k : ℕ
   k = s .setup .k
 
   abbrev start : ℕ
   start = s .taken * (k / 8)
+
+  fits : start + k / 8 ≤ length store
+  fits = room k (s .taken) known store held
 
   abbrev row : Bits
   row = take (blockLength k) (bitsOf slice)
@@ -47,7 +49,7 @@ module _ (s : Receiver) (known : isLength (s .setup .k) ≡ true) (slice store :
   lent = take n (drop start store)
 
   wide : k / 8 ≤ length lent
-  wide = omega (arith, same, length-take-le n (drop start store) (omega (arith, same, length-drop start store)))
+  wide = omega (arith, same, fits, length-take-le n (drop start store) (omega (arith, same, fits, length-drop start store)))
 
   all-data : take (8 * (k / 8)) (payloadOf k row) ≡ payloadOf k row
   all-data = take-all (8 * (k / 8)) (payloadOf k row) (omega (arith, length-bytes k known, length-data k known slice h))
@@ -55,7 +57,7 @@ module _ (s : Receiver) (known : isLength (s .setup .k) ≡ true) (slice store :
   stored : (answer : Built) (part : List ℕ) → MoveData (k / 8) slice lent answer part → (r : Step) → r ≡ handedBack (stops s accepts [] used)
       → Handed s store (stops s accepts row used) r (put-back k (s .taken) known store n part)
   stored answer part p r e =
-      handed-stored s row used store r _ (room k (s .taken) known store fits)
+      handed-stored s row used store r _ held
       (accepted-store k (s .taken) known store n part _ same (length-data k known slice h) fits bytes
       (data-moved k known slice h (k / 8) (omega (arith, length-bytes k known)) lent wide answer part p
       ∙ ap (λ (d : Bits). bytesOf (k / 8) d ++ drop (k / 8) lent) all-data))
@@ -64,25 +66,15 @@ module _ (s : Receiver) (known : isLength (s .setup .k) ≡ true) (slice store :
 mul-start : tie.Need-mul-start
 mul-start c =
     let a = c .before .before .before .before .before in
-    let h = start-lt (a .args .self .setup .k) (a .args .self .taken) (a .pre .ready .known) (a .pre .ready .items) in
+    let h = start-lt (a .args .self .setup .k) (a .args .self .taken) (a .pre .0 .ready .known) (a .pre .0 .ready .items) in
     omega arith
 
-add-end : tie.Need-add-end
-add-end c =
+add-move-data : tie.Need-add-move-data
+add-move-data c =
     let a = c .before .before .before .before .before in
-    let h = start-lt (a .args .self .setup .k) (a .args .self .taken) (a .pre .ready .known) (a .pre .ready .items) in
-    let f = length-facts (a .args .self .setup .k) (a .pre .ready .known) in
+    let h = start-lt (a .args .self .setup .k) (a .args .self .taken) (a .pre .0 .ready .known) (a .pre .0 .ready .items) in
+    let f = length-facts (a .args .self .setup .k) (a .pre .0 .ready .known) in
     omega arith
-
-refused-requires : tie.Need-refused-requires
-refused-requires c κs = search needs
-
-returns : tie.Need-returns
-returns c =
-    let a = c .before .before .before .before .before .before .before in
-    handed-short (whole (a .args .self) (a .args .array .now)) _ (a .args .used) (a .args .store .now) _
-    (no-room (a .args .self .setup .k) (a .args .self .taken) (a .pre .ready .known) (a .args .store .now) (c .before .if1 .taken))
-    (ap (λ (r : HeadStep). stepWith r (a .args .array .now)) (c .refused .ensures))
 
 sub-move-data : tie.Need-sub-move-data
 sub-move-data c = search needs
@@ -91,7 +83,9 @@ part-move-data-start : tie.Need-part-move-data-start
 part-move-data-start c = search needs
 
 part-move-data-end : tie.Need-part-move-data-end
-part-move-data-end c = search needs
+part-move-data-end c =
+    let a = c .before .before .before .before .before in
+    room (a .args .self .setup .k) (a .args .self .taken) (a .pre .0 .ready .known) (a .args .store .now) (a .pre .1)
 
 move-data-requires : tie.Need-move-data-requires
 move-data-requires c κs = search needs
@@ -105,22 +99,20 @@ same-length c = search needs
 same-length-2 : tie.Need-same-length-2
 same-length-2 c = search needs
 
-returns-2 : tie.Need-returns-2
-returns-2 c =
+returns : tie.Need-returns
+returns c =
     let m = c .before .before .before .before .before .before in
-    let l = m .before .before .before in
+    let l = m .before .before in
     let a = l .before .before .before .before .before in
-    stored (whole (a .args .self) (a .args .array .now)) (a .pre .ready .known) (a .args .row .now) (a .args .store .now) (a .args .used) (a .pre .held)
-    (λ i. l .before .before .slice-known2 .given i .fits) (m .before .before .if1 .left) _ _ (m .move-data .ensures) _ (c .before .before .stop .ensures)
+    stored (whole (a .args .self) (a .args .array .now)) (a .pre .0 .ready .known) (a .args .row .now) (a .args .store .now) (a .args .used) (a .pre .0 .held)
+    (λ i. l .before .before .slice-known2 .given i .fits) (a .pre .1) _ _ (m .move-data .ensures) _ (c .before .before .stop .ensures)
 
 pub store-item-spec : {M : Type 1} → statement M
 store-item-spec =
     tie.close
     (tie.spec
     mul-start
-    add-end
-    refused-requires
-    returns
+    add-move-data
     sub-move-data
     part-move-data-start
     part-move-data-end
@@ -128,4 +120,4 @@ store-item-spec =
     stop-requires
     same-length
     same-length-2
-    returns-2)
+    returns)
