@@ -14,7 +14,7 @@ use Rattle.block.specs.Calls.{tooShort}
 use Rattle.block.proofs.Truth.{and-left, and-right}
 use Rattle.line.specs.Order.{mostItems}
 use Rattle.line.specs.Receiving as S
-use Rattle.line.specs.Receiving.{meaning, standing, stands, Reading, idleRule, idle, reading, readings, lastBad, heldInRange, receiverInRange, judgeStore, receive, reported, receiveState, receiveStore, Receive}
+use Rattle.line.specs.Receiving.{meaning, standing, underAlarm, Reception, idleRule, idle, byPhase, reception, lastBad, heldInRange, receiverInRange, judgeStore, receive, reported, receiveState, receiveStore, Receive}
 use Rattle.line.specs.Code.ReceiveSteps.{stepped, handedBack, Handed}
 use Rattle.line.specs.declared.receiver.Receiver.{Receiver}
 use Rattle.line.specs.declared.receiving.Phase.{Phase}
@@ -29,7 +29,7 @@ use Rattle.line.proofs.Searching.{search-stores}
 
 pub record InRange (s : Receiver) : Type 0 where
   pub known : isLength (s .setup .k) ≡ true
-  pub row : s .row < lastBad
+  pub bad-row : s .«bad_row» < lastBad
   pub taken : s .taken ≤ mostItems
   pub held : heldInRange (s .phase) (blockLength (s .setup .k)) (s .held) ≡ true
 
@@ -37,14 +37,14 @@ pub in-range : (s : Receiver) → receiverInRange s ≡ true → InRange s
 unfolding receiverInRange
 in-range s e =
     let k : Bool = isLength (s .setup .k) in
-    let r : Bool = ltb (s .row) lastBad in
+    let r : Bool = ltb (s .«bad_row») lastBad in
     let t : Bool = leb (s .taken) mostItems in
     let h : Bool = heldInRange (s .phase) (blockLength (s .setup .k)) (s .held) in
     let a : k && r && t ≡ true = and-left (k && r && t) h e in
     let b : k && r ≡ true = and-left (k && r) t a in
     record {
       known = and-left k r b;
-      row = ltb-true (s .row) lastBad (and-right k r b);
+      bad-row = ltb-true (s .«bad_row») lastBad (and-right k r b);
       taken = leb-true (s .taken) mostItems (and-right (k && r) t a);
       held = and-right (k && r && t) h e;
     }
@@ -66,18 +66,18 @@ idle-stores P.SequenceAlarm = refl
 idle-stores P.LengthAlarm = refl
 
 module _ (s : Receiver) (store : List ℕ) (new : Bits) (count : ℕ) where
-  pub handed-idle : count ≡ 0 → (r : Step) → r ≡ handedBack (idle s) → Handed s store (readings s new count) r store
-  unfolding readings
+  pub handed-idle : count ≡ 0 → (r : Step) → r ≡ handedBack (idle s) → Handed s store (reception s new count) r store
+  unfolding reception
   handed-idle e r h = rw (eq-eqb count 0 e, h) (handed-plain s store (idle s) (idle-stores (s .phase)))
 
   module _ (n : count ≡ 0 → ⊥) where
-    pub readings-some : (p : Phase) → s .phase ≡ p → reading s p new ≡ readings s new count
-    unfolding readings
-    readings-some p e = sym (rw (ne-eqb count 0 n, e))
+    pub reception-some : (p : Phase) → s .phase ≡ p → byPhase s p new ≡ reception s new count
+    unfolding reception
+    reception-some p e = sym (rw (ne-eqb count 0 n, e))
 
-    pub handed-by : (p : Phase) → s .phase ≡ p → (r : Step) (store′ : List ℕ) → Handed s store (reading s p new) r store′
-        → Handed s store (readings s new count) r store′
-    handed-by p e r store′ h = subst (λ (x : Reading). Handed s store x r store′) (readings-some p e) h
+    pub handed-by : (p : Phase) → s .phase ≡ p → (r : Step) (store′ : List ℕ) → Handed s store (byPhase s p new) r store′
+        → Handed s store (reception s new count) r store′
+    handed-by p e r store′ h = subst (λ (x : Reception). Handed s store x r store′) (reception-some p e) h
 
 -- a search
 pub handed-search : (s : Receiver) (store : List ℕ) (window new : Bits) (used : ℕ) (r : Step) → r ≡ handedBack (S.search s window new used)
@@ -87,12 +87,12 @@ handed-search s store window new used r h =
     (handed-plain s store (S.search s window new used) (search-stores s window new used))
 
 -- a standing alarm
-pub handed-stands : (s : Receiver) (store : List ℕ) (alarm : Event) (count n : ℕ) → count ≡ n → (r : Step) → r ≡ stepped (stands s) alarm count
-    → Handed s store (record { rule = standing alarm; row = []; used = n; state = stands s }) r store
-handed-stands s store alarm count n e r h =
-    subst (λ (x : Step). Handed s store (record { rule = standing alarm; row = []; used = n; state = stands s }) x store)
-    (sym (h ∙ ap (stepped (stands s) alarm) e))
-    (handed-plain s store (record { rule = standing alarm; row = []; used = n; state = stands s }) refl)
+pub handed-under-alarm : (s : Receiver) (store : List ℕ) (alarm : Event) (count n : ℕ) → count ≡ n → (r : Step) → r ≡ stepped (underAlarm s) alarm count
+    → Handed s store (record { rule = standing alarm; row = []; used = n; state = underAlarm s }) r store
+handed-under-alarm s store alarm count n e r h =
+    subst (λ (x : Step). Handed s store (record { rule = standing alarm; row = []; used = n; state = underAlarm s }) x store)
+    (sym (h ∙ ap (stepped (underAlarm s) alarm) e))
+    (handed-plain s store (record { rule = standing alarm; row = []; used = n; state = underAlarm s }) refl)
 
 -- ---- the call
 
@@ -115,11 +115,11 @@ module _ (s : Receiver) (line : List ℕ) (count : ℕ) (store : List ℕ) where
     refuses-short t = refuses A.short (rw (e, t))
 
     module _ (t : tooShort line count ≡ false) where
-      goes : judgeStore s store (readings s (take count (bitsOf line)) count) ≡ receive s line count store
+      goes : judgeStore s store (reception s (take count (bitsOf line)) count) ≡ receive s line count store
       unfolding receive
       goes = sym (rw (e, t))
 
-      pub receives : (r : Step) (store′ : List ℕ) → Handed s store (readings s (take count (bitsOf line)) count) r store′
+      pub receives : (r : Step) (store′ : List ℕ) → Handed s store (reception s (take count (bitsOf line)) count) r store′
           → Receive s line count store r store′
       receives r store′ h =
           record {

@@ -24,7 +24,7 @@ use Rattle.block.specs.declared.Read.the-variants as B
 use Rattle.block.proofs.Read.{the-type}
 use Rattle.block.proofs.Lengths.{length-facts}
 use Rattle.block.proofs.Refusals.{check-done, move-done}
-use Rattle.line.specs.Receiving.{lastBad, badly, Rule, sync-block, check-fails, accepts, meaning, endRule, serviceRule, looksSync, judge, stops, Reading, storeAt}
+use Rattle.line.specs.Receiving.{lastBad, afterBad, Rule, sync-block, check-fails, accepts, meaning, endRule, serviceRule, looksSync, judge, stops, Reception, storeAt}
 use Rattle.line.specs.Code.ReceiveSteps.{ruleOf, stepped, handedBack, judged, Handed}
 use Rattle.line.specs.declared.receiver.Receiver.{Receiver}
 use Rattle.line.specs.declared.receiving.Event.the-variants as E
@@ -39,13 +39,13 @@ use Rattle.line.proofs.Moved.{whole-bytes}
 -- ---- the store
 
 -- a rule that stores nothing
-pub handed-plain : (s : Receiver) (store : List ℕ) (x : Reading) → meaning (x .rule) .stores ≡ false → Handed s store x (handedBack x) store
+pub handed-plain : (s : Receiver) (store : List ℕ) (x : Reception) → meaning (x .rule) .stores ≡ false → Handed s store x (handedBack x) store
 handed-plain s store x e = record { answers = rw e; state = rw e; writes = sym (simp e) }
 
 -- a block whose check fails is never a reason of itself to search
 pub handed-bad : (s : Receiver) (used : ℕ)
-    → stepped (badly s (leb lastBad (s .row + 1) || false)) E.Bad used ≡ handedBack (stops s check-fails [] used)
-handed-bad s used = ap (λ (t : Bool). stepped (badly s t) E.Bad used) (or-false (leb lastBad (s .row + 1)))
+    → stepped (afterBad s (leb lastBad (s .«bad_row» + 1) || false)) E.Bad used ≡ handedBack (stops s check-fails [] used)
+handed-bad s used = ap (λ (t : Bool). stepped (afterBad s t) E.Bad used) (or-false (leb lastBad (s .«bad_row» + 1)))
 
 -- every rule of the code but the first stores nothing
 pub stores-nothing : (r : D.Rule) → OneOf (1 ∷ 2 ∷ 3 ∷ 4 ∷ 5 ∷ 6 ∷ []) (tagOf code.the-type r) → meaning (ruleOf r) .stores ≡ false

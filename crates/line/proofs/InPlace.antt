@@ -6,7 +6,7 @@ use borrow.Author.Tests.{eq-eqb, ne-eqb}
 use lib.ListN.{length}
 use Rattle.block.specs.Answer as A
 use Rattle.line.specs.Receiving.{arrayBytes, receive, reported, receiveState, receiveStore, Receive}
-use Rattle.line.specs.ReceivingInPlace.{whole, receiveInPlace, ReceiveInPlace}
+use Rattle.line.specs.ReceivingInPlace.{withArray, receiveInPlace, ReceiveInPlace}
 use Rattle.line.specs.Code.ReceiveSteps.{stepWith, turnedAway}
 use Rattle.line.specs.declared.head.Head.{Head}
 use Rattle.line.specs.declared.head.HeadStep.{HeadStep}
@@ -20,22 +20,22 @@ module _ (h : Head) (array line : List ℕ) (count : ℕ) (store : List ℕ) whe
       record { answers = rw (e, t); state = rw (e, t); writes = rw t }
 
   module _ (n : length array ≡ arrayBytes) (r : HeadStep) (array′ store′ : List ℕ) where
-    same-call : receiveInPlace h array line count store ≡ receive (whole h array) line count store
+    same-call : receiveInPlace h array line count store ≡ receive (withArray h array) line count store
     unfolding receiveInPlace
     same-call = rw (eq-eqb (length array) arrayBytes n)
 
-    pub in-place : Receive (whole h array) line count store (stepWith r array′) store′ → ReceiveInPlace h array line count store r array′ store′
+    pub in-place : Receive (withArray h array) line count store (stepWith r array′) store′ → ReceiveInPlace h array line count store r array′ store′
     in-place p =
         record {
           answers = p .answers ∙ sym (ap reported same-call);
-          state = p .state ∙ sym (ap (receiveState (whole h array)) same-call);
-          writes = p .writes ∙ sym (ap (receiveStore (whole h array) store) same-call);
+          state = p .state ∙ sym (ap (receiveState (withArray h array)) same-call);
+          writes = p .writes ∙ sym (ap (receiveStore (withArray h array) store) same-call);
         }
 
-    pub by-value : ReceiveInPlace h array line count store r array′ store′ → Receive (whole h array) line count store (stepWith r array′) store′
+    pub by-value : ReceiveInPlace h array line count store r array′ store′ → Receive (withArray h array) line count store (stepWith r array′) store′
     by-value p =
         record {
           answers = p .answers ∙ ap reported same-call;
-          state = p .state ∙ ap (receiveState (whole h array)) same-call;
-          writes = p .writes ∙ ap (receiveStore (whole h array) store) same-call;
+          state = p .state ∙ ap (receiveState (withArray h array)) same-call;
+          writes = p .writes ∙ ap (receiveStore (withArray h array) store) same-call;
         }

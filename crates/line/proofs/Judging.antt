@@ -74,9 +74,9 @@ module _ (k r L : ℕ) where
   pub length-other : (itemCount k L ≡ r → ⊥) → lengthRule k r true L ≡ wrong-length
   length-other h = rw (ne-eqb (itemCount k L) r h, and-false (validLength L))
 
-  pub length-right : 1 ≤ L → L ≤ longestOrder → itemCount k L ≡ r → lengthRule k r true L ≡ ends L
+  pub length-valid : 1 ≤ L → L ≤ longestOrder → itemCount k L ≡ r → lengthRule k r true L ≡ ends L
   unfolding validLength
-  length-right h g e = rw (eq-eqb (itemCount k L) r e, le-leb 1 L h, le-leb L longestOrder g)
+  length-valid h g e = rw (eq-eqb (itemCount k L) r e, le-leb 1 L h, le-leb L longestOrder g)
 
   module _ (ended : Bool) (s : List ℕ) (h : 5 ≤ length s) (b : getD s 0 0 < 256) (open-end : ended ≡ false) (v : getD s 0 0 ≡ version)
       (l : L ≡ number (take 32 (drop 8 (bitsOf s)))) where

@@ -10,7 +10,7 @@ use lib.Seq.{take-append-le, drop-cons, drop-length, getD-take, length-take-le}
 use Rattle.crc.specs.Bits.{Bits, binary, bitsOf}
 use Rattle.crc.proofs.Rows.{length-binary}
 use Rattle.crc.proofs.Bytes.{length-bitsOf}
-use Rattle.line.specs.Receiving.{meaning, unfinished, found, stops, Reading, latest, isSequence, searching, search}
+use Rattle.line.specs.Receiving.{meaning, unfinished, sequence-found, stops, Reception, latest, isSequence, searching, search}
 use Rattle.line.specs.declared.receiver.Receiver.{Receiver}
 
 -- ---- the window in the array's first two bytes
@@ -42,15 +42,15 @@ module _ (s : Receiver) (line : List ℕ) (count : ℕ) (h : count ≤ 8 * lengt
     -- one bit more
     search-bit : (b : Bool) → used < count → b ≡ getD (bitsOf line) used false
         → search s window (drop used new) used
-        ≡ cond (isSequence (window ++ (b ∷ []))) (stops s found [] (suc used)) (search s (latest (window ++ (b ∷ []))) (drop (suc used) new) (suc used))
+        ≡ cond (isSequence (window ++ (b ∷ []))) (stops s sequence-found [] (suc used)) (search s (latest (window ++ (b ∷ []))) (drop (suc used) new) (suc used))
     search-bit b l e =
         let n : used < length new = omega (arith, length-new) in
         let f : getD new used false ≡ b = getD-take count (bitsOf line) used false l ∙ sym e in
         ap (λ (bs : Bits). search s window bs used) (drop-cons new used false n ∙ ap (λ (x : Bool). x ∷ drop (suc used) new) f)
 
     module _ (b : Bool) (l : used < count) (e : b ≡ getD (bitsOf line) used false) where
-      pub search-found : isSequence (window ++ (b ∷ [])) ≡ true → stops s found [] (used + 1) ≡ search s window (drop used new) used
-      search-found t = ap (λ (n : ℕ). stops s found [] n) (add-one used) ∙ sym (search-bit b l e ∙ rw t)
+      pub search-found : isSequence (window ++ (b ∷ [])) ≡ true → stops s sequence-found [] (used + 1) ≡ search s window (drop used new) used
+      search-found t = ap (λ (n : ℕ). stops s sequence-found [] n) (add-one used) ∙ sym (search-bit b l e ∙ rw t)
 
       pub search-on : isSequence (window ++ (b ∷ [])) ≡ false → (window′ : Bits) → window′ ≡ latest (window ++ (b ∷ []))
           → search s window′ (drop (used + 1) new) (used + 1) ≡ search s window (drop used new) used
@@ -68,6 +68,6 @@ pub search-stores : (s : Receiver) (window bs : Bits) (used : ℕ) → meaning (
 search-stores s window [] used = refl
 search-stores s window (b ∷ bs) used = by (isSequence (window ++ (b ∷ []))) (search s (latest (window ++ (b ∷ []))) bs (suc used)) (search-stores s (latest (window ++ (b ∷ []))) bs (suc used))
   where
-    by : (t : Bool) (x : Reading) → meaning (x .rule) .stores ≡ false → meaning (cond t (stops s found [] (suc used)) x .rule) .stores ≡ false
+    by : (t : Bool) (x : Reception) → meaning (x .rule) .stores ≡ false → meaning (cond t (stops s sequence-found [] (suc used)) x .rule) .stores ≡ false
     by true x e = refl
     by false x e = e

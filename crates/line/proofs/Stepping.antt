@@ -9,7 +9,7 @@ use lib.Seq.{take-at, take-take, take-append-le, length-take-le}
 use Rattle.crc.specs.Bits.{Bits, zeros, bitsOf, bytesOf}
 use Rattle.crc.proofs.Bytes.{length-bitsOf, bitsOf-bytesOf}
 use Rattle.block.specs.Lengths.{blockLength}
-use Rattle.line.specs.Receiving.{arrayBytes, unfinished, heldBits, overwrite, holding, missing, finishedRow, Reading, inStep}
+use Rattle.line.specs.Receiving.{arrayBytes, unfinished, heldBits, overwrite, holding, missing, finishedRow, Reception, inStep}
 use Rattle.line.specs.Code.ReceiveSteps.{stepped, judged, Handed}
 use Rattle.line.specs.declared.receiver.Receiver.{Receiver}
 use Rattle.line.specs.declared.receiving.Event.the-variants as E
@@ -50,7 +50,7 @@ module _ (array : List ℕ) (new : Bits) (held : ℕ) (h : held + length new ≤
       ∙ take-at front (drop (held + length new) (bitsOf array)) (held + length new) length-front
 
 -- no block is complete, ...
-abbrev pub held-on : Receiver → Bits → Reading
+abbrev pub held-on : Receiver → Bits → Reception
 held-on s new = record { rule = unfinished; row = []; used = length new; state = holding s new }
 
 module _ (s : Receiver) (new : Bits) where
@@ -71,7 +71,7 @@ module _ (s : Receiver) (new : Bits) where
           setup = s .setup;
           bits = array;
           held = s .held + n;
-          row = s .row;
+          «bad_row» = s .«bad_row»;
           back = s .back;
           taken = s .taken;
           ended = s .ended;
@@ -81,7 +81,7 @@ module _ (s : Receiver) (new : Bits) where
     pub in-step-more : (array : List ℕ) (n : ℕ) → array ≡ bytesOf arrayBytes (overwrite (s .held) new (bitsOf (s .bits))) → n ≡ length new
         → n < missing s → Handed s store (inStep s new) (held-with array n) store
     in-step-more array n e l h =
-        subst (λ (x : Reading). Handed s store x (held-with array n) store) (sym (step-on (subst (λ (k : ℕ). k < missing s) l h)))
+        subst (λ (x : Reception). Handed s store x (held-with array n) store) (sym (step-on (subst (λ (k : ℕ). k < missing s) l h)))
         (subst (λ (r : Step). Handed s store (held-on s new) r store) (sym (ap₂ held-with e l)) (handed-plain s store (held-on s new) refl))
 
 -- the row of a complete block: what was held and the missing bits of the line

@@ -11,7 +11,7 @@ use Rattle.line.specs.Order.{orderBits}
 use Rattle.line.specs.Sending as S
 use Rattle.line.specs.Sending.{Block, synchronising, transmit, send, sendState, sendBytes, plainBits, sentBits, sentAnswer, Send}
 use Rattle.line.specs.Receiving as R
-use Rattle.line.specs.Receiving.{Rule, Reading, Report, receive, receiveState, receiveStore, reported, receivedAnswer, Receive}
+use Rattle.line.specs.Receiving.{Rule, Reception, Report, receive, receiveState, receiveStore, reported, receivedAnswer, Receive}
 use Rattle.line.specs.declared.sender.Sender.{Sender}
 use Rattle.line.specs.declared.sender.Step as SenderStep
 use Rattle.line.specs.declared.receiver.Receiver.{Receiver}
@@ -106,7 +106,7 @@ sendAfter w reading arrives (done b) =
       left = arrives;
     }
 
-abbrev pub receiveEntry : World → Bits → List ℕ → Answer Reading → Entry
+abbrev pub receiveEntry : World → Bits → List ℕ → Answer Reception → Entry
 receiveEntry w lent store (refused n) = receive-refused n
 receiveEntry w lent store (done x) =
     heard
@@ -120,7 +120,7 @@ receiveEntry w lent store (done x) =
       kept = w .store;
     })
 
-abbrev pub receiveAfter : World → List ℕ → Answer Reading → World
+abbrev pub receiveAfter : World → List ℕ → Answer Reception → World
 receiveAfter w store (refused n) = w
 receiveAfter w store (done x) =
     record {
@@ -159,7 +159,7 @@ result w (sending order reading slice arrives) =
     let answer : Answer Block = send (w .sender) order reading slice in
     Result.sender answer (sendState (w .sender) reading answer) (sendBytes (w .sender) order slice answer)
 result w (receiving line count store) =
-    let answer : Answer Reading = receive (w .receiver) line count store in
+    let answer : Answer Reception = receive (w .receiver) line count store in
     Result.receiver (reported answer) (receiveState (w .receiver) answer) (receiveStore (w .receiver) store answer)
 
 abbrev pub results : World → List Call → List Result

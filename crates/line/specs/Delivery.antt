@@ -164,8 +164,8 @@ abbrev pub brings : (Entry → Bool) → List Period → Bool
 brings f = some (λ p. some f (p .calls))
 
 -- how many undisturbed periods in a row bring a new block or the end
-abbrev pub enough : ℕ
-enough = 6
+abbrev pub progressPeriods : ℕ
+progressPeriods = 6
 
 -- ---- what holds
 
@@ -180,11 +180,11 @@ OnlyRefused (heard y) = Unit {0}
 abbrev pub accepted : List Entry → ℕ
 accepted es = count isNew es
 
-pub record Guarantees (k L : ℕ) (content : Bits) (first : List ℕ) (es : List Entry) (w : World) : Type 0 where
+pub record Guarantees (k L : ℕ) (content : Bits) (initialStore : List ℕ) (es : List Entry) (w : World) : Type 0 where
   -- the store holds the beginning of the order, no block missing, doubled or moved, and the rest is as first lent
   pub items : accepted es ≤ itemCount k L
   pub stored : take (accepted es * k) (bitsOf (w .store)) ≡ take (accepted es * k) (filled k L content)
-  pub untouched : drop (accepted es * k) (bitsOf (w .store)) ≡ drop (accepted es * k) (bitsOf first)
+  pub untouched : drop (accepted es * k) (bitsOf (w .store)) ≡ drop (accepted es * k) (bitsOf initialStore)
   -- with the end reported, all of it, and the order's length
   pub ended : (M : ℕ) → some (reportsEnd M) es ≡ true → (accepted es ≡ itemCount k L) × (M ≡ L)
   -- an alarm only if a repeat request was lost before it
@@ -194,26 +194,26 @@ pub record Guarantees (k L : ℕ) (content : Bits) (first : List ℕ) (es : List
   pub finished : some isLost es ≡ false → w .sender .finished ≡ true → some isEnd es ≡ true
   -- and unless the sender gave up, six undisturbed periods in a row that begin before the end bring a new block or the end
   pub progress : some isLost es ≡ false → gaveUp (w .sender) ≡ false
-      → (before these behind : List Period) → group es .periods ≡ before ++ (these ++ behind) → length these ≡ enough
+      → (before these behind : List Period) → group es .periods ≡ before ++ (these ++ behind) → length these ≡ progressPeriods
       → All (Undisturbed k) these → brings isEnd before ≡ false → brings (λ e. isNew e || isEnd e) these ≡ true
   pub refusals : All OnlyRefused es
 
 -- Both ends have just been opened, neither refused, with the same k; the store has at least N times k bits.
-pub record Openings (k speed loop-ms L : ℕ) (order : List ℕ) (s : Sender) (o : ReceiverOpened.Opened) (first : List ℕ) : Type 0 where
+pub record Openings (k speed loop-ms L : ℕ) (order : List ℕ) (s : Sender) (o : ReceiverOpened.Opened) (initialStore : List ℕ) : Type 0 where
   pub sender : OpenSender k speed loop-ms L order (SenderOpened.Opened s)
   pub receiver : OpenReceiver k o
   pub not-refused : o .answer ≡ Opening.Opened
-  pub room : itemCount k L * k ≤ 8 * length first
+  pub room : itemCount k L * k ≤ 8 * length initialStore
 
 -- Each call answers as the course says; and where the course meets the assumptions, the guarantees hold of it.
-pub record Delivered (k L : ℕ) (content : Bits) (first : List ℕ) {s : Sender} {r : Receiver} {calls : List Call} (run : Run s r calls) : Type 0 where
-  pub answers : observed run ≡ results (opened s r first) calls
-  pub guarantees : Assumptions k content (course (opened s r first) calls)
-      → Guarantees k L content first (course (opened s r first) calls) (final (opened s r first) calls)
+pub record Delivered (k L : ℕ) (content : Bits) (initialStore : List ℕ) {s : Sender} {r : Receiver} {calls : List Call} (run : Run s r calls) : Type 0 where
+  pub answers : observed run ≡ results (opened s r initialStore) calls
+  pub guarantees : Assumptions k content (course (opened s r initialStore) calls)
+      → Guarantees k L content initialStore (course (opened s r initialStore) calls) (final (opened s r initialStore) calls)
 
 -- Demand 3: of every list of calls as it ran, from both openings on.
 unfoldable pub Delivery : Type 0
 Delivery =
-    (k speed loop-ms L : ℕ) (order : List ℕ) (s : Sender) (o : ReceiverOpened.Opened) (first : List ℕ)
-    → Openings k speed loop-ms L order s o first → (calls : List Call) (run : Run s (o .state) calls)
-    → Delivered k L (orderBits L order) first run
+    (k speed loop-ms L : ℕ) (order : List ℕ) (s : Sender) (o : ReceiverOpened.Opened) (initialStore : List ℕ)
+    → Openings k speed loop-ms L order s o initialStore → (calls : List Call) (run : Run s (o .state) calls)
+    → Delivered k L (orderBits L order) initialStore run

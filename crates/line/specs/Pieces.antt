@@ -8,7 +8,7 @@ use lib.ListN.{length, take}
 use Rattle.crc.specs.Bits.{Bits, bitsOf}
 use Rattle.block.specs.Answer.{Answer, refused, done}
 use Rattle.block.specs.Calls.{tooShort}
-use Rattle.line.specs.Receiving.{arrayBytes, meaning, Reading, receive, receiveStore}
+use Rattle.line.specs.Receiving.{arrayBytes, meaning, Reception, receive, receiveStore}
 use Rattle.line.specs.declared.receiver.Receiver.{Receiver}
 
 -- what a call is lent of the line: a slice, and the number of its bits
@@ -29,7 +29,7 @@ total (p ∷ ps) = p .count + total ps
 
 -- what is answered, and the store afterwards
 pub record Outcome : Type 0 where
-  pub answer : Answer Reading
+  pub answer : Answer Reception
   pub store : List ℕ
 
 abbrev pub call : Receiver → List ℕ → Piece → Outcome
@@ -38,15 +38,15 @@ call s store p =
     record { answer = answer; store = receiveStore s store answer }
 
 -- the bits used counted with those of the calls before
-abbrev pub addUsed : ℕ → Reading → Reading
+abbrev pub addUsed : ℕ → Reception → Reception
 addUsed before x = record { rule = x .rule; row = x .row; used = before + x .used; state = x .state }
 
-abbrev pub addUsedIfDone : ℕ → Answer Reading → Answer Reading
+abbrev pub addUsedIfDone : ℕ → Answer Reception → Answer Reception
 addUsedIfDone before (refused n) = refused n
 addUsedIfDone before (done x) = done (addUsed before x)
 
 -- the next call is made if all bits were used, and is given the state and the store as they were left
-abbrev pub nextCall : Answer Reading → List ℕ → Piece → Outcome
+abbrev pub nextCall : Answer Reception → List ℕ → Piece → Outcome
 nextCall (refused n) store p = record { answer = refused n; store = store }
 nextCall (done x) store p =
     let next = call (x .state) store p in

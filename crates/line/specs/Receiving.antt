@@ -31,17 +31,17 @@ use Rattle.line.specs.declared.receiver.Opened.{Opened}
 abbrev pub arrayBytes : ℕ
 arrayBytes = 483
 
-unfoldable pub noBytes : List ℕ
-noBytes = replicate arrayBytes 0
+unfoldable pub zeroArray : List ℕ
+zeroArray = replicate arrayBytes 0
 
 -- it starts in search with return bit 1
 unfoldable pub freshReceiver : ℕ → Receiver
 freshReceiver k =
     record {
       setup = record { k = k };
-      bits = noBytes;
+      bits = zeroArray;
       held = 0;
-      row = 0;
+      «bad_row» = 0;
       back = true;
       taken = 0;
       ended = false;
@@ -70,7 +70,7 @@ pub record OpenReceiver (k : ℕ) (result : Opened) : Type 0 where
 pub data Rule : Type 0 where
   unfinished : Rule  -- all bits were used without an event
   standing : Event → Rule  -- an alarm stood before the call
-  found : Rule  -- the search found its sequence
+  sequence-found : Rule  -- the search found its sequence
   sync-block : Rule  -- rule 1
   check-fails : Rule  -- rule 2
   accepts : Rule  -- rule 3
@@ -96,7 +96,7 @@ meant event uses-all stores data-or-end checked =
 abbrev pub meaning : Rule → Meaning
 meaning unfinished = meant E.None true false false false
 meaning (standing alarm) = meant alarm true false false false
-meaning found = meant E.Sync false false false false
+meaning sequence-found = meant E.Sync false false false false
 meaning sync-block = meant E.Sync false false false false
 meaning check-fails = meant E.Bad false false false false
 meaning accepts = meant E.Accepted false true true true
@@ -176,12 +176,12 @@ judge k r ended row = cond (looksSync k row) sync-block (verdictRule k r ended r
 -- ---- the state after an event: nothing held
 
 abbrev pub blank : Receiver → ℕ → Bool → ℕ → Bool → Phase → Receiver
-blank s row back taken ended phase =
+blank s bad-row back taken ended phase =
     record {
       setup = s .setup;
-      bits = noBytes;
+      bits = zeroArray;
       held = 0;
-      row = row;
+      «bad_row» = bad-row;
       back = back;
       taken = taken;
       ended = ended;
@@ -189,18 +189,18 @@ blank s row back taken ended phase =
     }
 
 -- in step with return 0, the row cleared
-abbrev pub well : Receiver → ℕ → Bool → Receiver
-well s taken ended = blank s 0 false taken ended P.InStep
+abbrev pub afterGood : Receiver → ℕ → Bool → Receiver
+afterGood s taken ended = blank s 0 false taken ended P.InStep
 
 -- the eighth bad in a row starts a search, and a search's start clears the row
 abbrev pub lastBad : ℕ
 lastBad = 8
 
 -- after a bad block with return 1: in search, or in step with one more in the row
-abbrev pub badly : Receiver → Bool → Receiver
-badly s search =
+abbrev pub afterBad : Receiver → Bool → Receiver
+afterBad s search =
     cond search (blank s 0 true (s .taken) (s .ended) P.Search)
-    (blank s (s .row + 1) true (s .taken) (s .ended) P.InStep)
+    (blank s (s .«bad_row» + 1) true (s .taken) (s .ended) P.InStep)
 
 abbrev pub alarmed : Receiver → Phase → Receiver
 alarmed s alarm = blank s 0 true (s .taken) (s .ended) alarm
@@ -208,16 +208,16 @@ alarmed s alarm = blank s 0 true (s .taken) (s .ended) alarm
 abbrev pub after : Receiver → Rule → Receiver
 after s unfinished = s
 after s (standing alarm) = s
-after s found = well s (s .taken) (s .ended)
-after s sync-block = well s (s .taken) (s .ended)
-after s check-fails = badly s (leb lastBad (s .row + 1))
-after s accepts = well s (s .taken + 1) (s .ended)
-after s previous = well s (s .taken) (s .ended)
+after s sequence-found = afterGood s (s .taken) (s .ended)
+after s sync-block = afterGood s (s .taken) (s .ended)
+after s check-fails = afterBad s (leb lastBad (s .«bad_row» + 1))
+after s accepts = afterGood s (s .taken + 1) (s .ended)
+after s previous = afterGood s (s .taken) (s .ended)
 after s out-of-sequence = alarmed s P.SequenceAlarm
-after s (ends L) = well s (s .taken) true
+after s (ends L) = afterGood s (s .taken) true
 after s wrong-length = alarmed s P.LengthAlarm
-after s ends-again = well s (s .taken) (s .ended)
-after s anything-else = badly s (leb lastBad (s .row + 1) || eqb (s .taken) 0)
+after s ends-again = afterGood s (s .taken) (s .ended)
+after s anything-else = afterBad s (leb lastBad (s .«bad_row» + 1) || eqb (s .taken) 0)
 
 -- ---- the bits of a call, up to the next event or to the last
 
@@ -225,13 +225,13 @@ abbrev pub heldBits : Receiver → Bits
 heldBits s = take (s .held) (bitsOf (s .bits))
 
 -- what a call reads: the rule, the row of n bits that it read if any, the bits used, and the state afterwards
-pub record Reading : Type 0 where
+pub record Reception : Type 0 where
   pub rule : Rule
   pub row : Bits
   pub used : ℕ
   pub state : Receiver
 
-abbrev pub stops : Receiver → Rule → Bits → ℕ → Reading
+abbrev pub stops : Receiver → Rule → Bits → ℕ → Reception
 stops s rule row used = record { rule = rule; row = row; used = used; state = after s rule }
 
 -- Search: the window is the latest 15 bits at most, received since the search began.
@@ -245,7 +245,7 @@ searching s window =
       setup = s .setup;
       bits = bytesOf 2 window ++ drop 2 (s .bits);
       held = length window;
-      row = s .row;
+      «bad_row» = s .«bad_row»;
       back = true;
       taken = s .taken;
       ended = s .ended;
@@ -255,10 +255,10 @@ searching s window =
 abbrev pub isSequence : Bits → Bool
 isSequence row = eqb (length row) 16 && eqb (number row) (number syncSequence)
 
-abbrev pub search : Receiver → Bits → Bits → ℕ → Reading
+abbrev pub search : Receiver → Bits → Bits → ℕ → Reception
 search s window [] used = record { rule = unfinished; row = []; used = used; state = searching s window }
 search s window (b ∷ bs) used =
-    cond (isSequence (window ++ (b ∷ []))) (stops s found [] (suc used))
+    cond (isSequence (window ++ (b ∷ []))) (stops s sequence-found [] (suc used))
     (search s (latest (window ++ (b ∷ []))) bs (suc used))
 
 -- In step: the new bits stand behind those held, and no other bit of the array changes.
@@ -271,7 +271,7 @@ holding s new =
       setup = s .setup;
       bits = bytesOf arrayBytes (overwrite (s .held) new (bitsOf (s .bits)));
       held = s .held + length new;
-      row = s .row;
+      «bad_row» = s .«bad_row»;
       back = s .back;
       taken = s .taken;
       ended = s .ended;
@@ -284,34 +284,34 @@ missing s = blockLength (s .setup .k) - s .held
 abbrev pub finishedRow : Receiver → Bits → Bits
 finishedRow s new = heldBits s ++ take (missing s) new
 
-unfoldable pub inStep : Receiver → Bits → Reading
+unfoldable pub inStep : Receiver → Bits → Reception
 inStep s new =
     cond (ltb (length new) (missing s))
     (record { rule = unfinished; row = []; used = length new; state = holding s new })
     (stops s (judge (s .setup .k) (s .taken) (s .ended) (finishedRow s new)) (finishedRow s new) (missing s))
 
 -- A standing alarm: return 1, the row cleared, all bits used.
-abbrev pub stands : Receiver → Receiver
-stands s =
+abbrev pub underAlarm : Receiver → Receiver
+underAlarm s =
     record {
       setup = s .setup;
       bits = s .bits;
       held = s .held;
-      row = 0;
+      «bad_row» = 0;
       back = true;
       taken = s .taken;
       ended = s .ended;
       phase = s .phase;
     }
 
-abbrev pub stood : Receiver → Event → ℕ → Reading
-stood s alarm used = record { rule = standing alarm; row = []; used = used; state = stands s }
+abbrev pub alarmReception : Receiver → Event → ℕ → Reception
+alarmReception s alarm used = record { rule = standing alarm; row = []; used = used; state = underAlarm s }
 
-abbrev pub reading : Receiver → Phase → Bits → Reading
-reading s P.Search new = search s (heldBits s) new 0
-reading s P.InStep new = inStep s new
-reading s P.SequenceAlarm new = stood s E.SequenceAlarm (length new)
-reading s P.LengthAlarm new = stood s E.LengthAlarm (length new)
+abbrev pub byPhase : Receiver → Phase → Bits → Reception
+byPhase s P.Search new = search s (heldBits s) new 0
+byPhase s P.InStep new = inStep s new
+byPhase s P.SequenceAlarm new = alarmReception s E.SequenceAlarm (length new)
+byPhase s P.LengthAlarm new = alarmReception s E.LengthAlarm (length new)
 
 -- 0 bits: nothing changed, but a standing alarm is reported
 abbrev pub idleRule : Phase → Rule
@@ -320,11 +320,11 @@ idleRule P.InStep = unfinished
 idleRule P.SequenceAlarm = standing E.SequenceAlarm
 idleRule P.LengthAlarm = standing E.LengthAlarm
 
-abbrev pub idle : Receiver → Reading
+abbrev pub idle : Receiver → Reception
 idle s = record { rule = idleRule (s .phase); row = []; used = 0; state = s }
 
-unfoldable pub readings : Receiver → Bits → ℕ → Reading
-readings s new count = cond (eqb count 0) (idle s) (reading s (s .phase) new)
+unfoldable pub reception : Receiver → Bits → ℕ → Reception
+reception s new count = cond (eqb count 0) (idle s) (byPhase s (s .phase) new)
 
 -- ---- a receiving call: 7, then 6
 
@@ -338,20 +338,20 @@ heldInRange P.LengthAlarm n held = ltb held n
 -- every field within its range
 unfoldable pub receiverInRange : Receiver → Bool
 receiverInRange s =
-    isLength (s .setup .k) && ltb (s .row) lastBad && leb (s .taken) mostItems
+    isLength (s .setup .k) && ltb (s .«bad_row») lastBad && leb (s .taken) mostItems
     && heldInRange (s .phase) (blockLength (s .setup .k)) (s .held)
 
 -- the store is judged only where a block would be accepted
-abbrev pub judgeStore : Receiver → List ℕ → Reading → Answer Reading
+abbrev pub judgeStore : Receiver → List ℕ → Reception → Answer Reception
 judgeStore s store x =
     refuseIf (meaning (x .rule) .stores && tooShort store (s .taken * s .setup .k + s .setup .k)) A.short (done x)
 
-unfoldable pub receive : Receiver → List ℕ → ℕ → List ℕ → Answer Reading
+unfoldable pub receive : Receiver → List ℕ → ℕ → List ℕ → Answer Reception
 receive s line count store =
     refuseIf (not (receiverInRange s)) A.spoiled
-    (refuseIf (tooShort line count) A.short (judgeStore s store (readings s (take count (bitsOf line)) count)))
+    (refuseIf (tooShort line count) A.short (judgeStore s store (reception s (take count (bitsOf line)) count)))
 
-abbrev pub receiveState : Receiver → Answer Reading → Receiver
+abbrev pub receiveState : Receiver → Answer Reception → Receiver
 receiveState s (refused n) = s
 receiveState s (done x) = x .state
 
@@ -359,7 +359,7 @@ receiveState s (done x) = x .state
 unfoldable pub storeAt : ℕ → Bits → List ℕ → List ℕ
 storeAt at payload store = bytesOf (length store) (overwrite at payload (bitsOf store))
 
-abbrev pub receiveStore : Receiver → List ℕ → Answer Reading → List ℕ
+abbrev pub receiveStore : Receiver → List ℕ → Answer Reception → List ℕ
 receiveStore s store (refused n) = store
 receiveStore s store (done x) =
     cond (meaning (x .rule) .stores) (storeAt (s .taken * s .setup .k) (payloadOf (s .setup .k) (x .row)) store) store
@@ -369,7 +369,7 @@ pub record Report : Type 0 where
   pub event : Event
   pub used : ℕ
 
-abbrev pub reported : Answer Reading → Answer Report
+abbrev pub reported : Answer Reception → Answer Report
 reported (refused n) = refused n
 reported (done x) = done (record { event = meaning (x .rule) .event; used = x .used })
 

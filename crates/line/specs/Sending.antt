@@ -61,8 +61,8 @@ pub record Transmission : Type 0 where
   pub block : Block
   pub state : Sender
 
-abbrev pub goesOn : Sender → Next → Sender
-goesOn s next =
+abbrev pub withNext : Sender → Next → Sender
+withNext s next =
     record { setup = s .setup; newer = s .newer; run = s .run; opening = s .opening; next = next; finished = s .finished }
 
 abbrev pub senderItems : Sender → ℕ
@@ -107,8 +107,8 @@ abbrev pub itemBlock : Sender → ℕ → Bool → Bool → Block
 itemBlock s i used cancelled = item i (not (isData (s .setup .k) (s .setup .length) i)) used cancelled
 
 unfoldable pub transmit : Sender → Next → Bool → Transmission
-transmit s Sync reading = record { block = synchronising; state = goesOn s Older }
-transmit s Older reading = record { block = itemBlock s (s .newer - 1) false false; state = goesOn s Newer }
+transmit s Sync reading = record { block = synchronising; state = withNext s Older }
+transmit s Older reading = record { block = itemBlock s (s .newer - 1) false false; state = withNext s Newer }
 transmit s Newer false = record { block = itemBlock s (s .newer) true false; state = confirmed s }
 transmit s Newer true = record { block = itemBlock s (s .newer) true true; state = repeated s }
 

@@ -10,8 +10,8 @@ ghost use Rattle.block.specs.Lengths.{isLength, blockLength};
 ghost use Rattle.block.specs.Calls.{tooShort};
 ghost use Rattle.line.specs.Order.{mostItems};
 ghost use Rattle.line.specs.Receiving as S;
-ghost use Rattle.line.specs.Receiving.{arrayBytes, noBytes, receiverInRange};
-ghost use Rattle.line.specs.ReceivingInPlace.{whole, ReceiveInPlace};
+ghost use Rattle.line.specs.Receiving.{arrayBytes, zeroArray, receiverInRange};
+ghost use Rattle.line.specs.ReceivingInPlace.{withArray, ReceiveInPlace};
 ghost use Rattle.line.specs.Code.ReceiveSteps.{WindowInRange, ReadyHead, FinishedBlock, windowBits, ruleOf, stepWith, stepped, handedBack, judged, turnedAway, Handed};
 use crate::hold::put_bits;
 use crate::order::MOST_ITEMS;
@@ -36,7 +36,7 @@ const LAST_BAD: usize = 8;
 pub struct Head {
     pub setup: Setup,
     pub held: usize,
-    pub row: usize,
+    pub bad_row: usize,
     pub back: bool,
     pub taken: usize,
     pub ended: bool,
@@ -50,7 +50,7 @@ pub struct HeadStep {
 
 fn clear(array: &mut [u8])
     requires { ⌜ length (now array) ≡ arrayBytes ⌝ }
-    ensures { λ _. ⌜ now (array .exit) ≡ noBytes ⌝ }
+    ensures { λ _. ⌜ now (array .exit) ≡ zeroArray ⌝ }
 {
     let mut i = 0;
     while i < ARRAY_SIZE {
@@ -75,13 +75,13 @@ fn copied(array: &[u8]) -> [u8; 483]
 impl Head {
     // Every field within its range.
     pub fn in_range(self) -> bool
-        ensures { λ r. ⌜ ((array : List ℕ) → r ≡ receiverInRange (whole self array)) ⌝ }
+        ensures { λ r. ⌜ ((array : List ℕ) → r ≡ receiverInRange (withArray self array)) ⌝ }
     {
         let k = self.setup.k;
         if !block::known_length(k) {
             return false;
         }
-        if LAST_BAD <= self.row {
+        if LAST_BAD <= self.bad_row {
             return false;
         }
         if MOST_ITEMS < self.taken {
@@ -106,7 +106,7 @@ impl Head {
     // This head after an event, with nothing held, and the event.
     fn after(self, array: &mut [u8], event: Event, used: usize) -> HeadStep
         requires { ⌜ length (now array) ≡ arrayBytes ⌝ }
-        ensures { λ r. ⌜ stepWith r (now (array .exit)) ≡ stepped (whole self noBytes) event used ⌝ }
+        ensures { λ r. ⌜ stepWith r (now (array .exit)) ≡ stepped (withArray self zeroArray) event used ⌝ }
     {
         clear(array);
         HeadStep {
@@ -116,7 +116,7 @@ impl Head {
     }
 
     // In step with return 0.
-    fn well(
+    fn after_good(
         self,
         array: &mut [u8],
         taken: usize,
@@ -125,11 +125,11 @@ impl Head {
         used: usize,
     ) -> HeadStep
         requires { ⌜ length (now array) ≡ arrayBytes ⌝ }
-        ensures { λ r. ⌜ stepWith r (now (array .exit)) ≡ stepped (S.well (whole self (now (array .entry))) taken ended) event used ⌝ }
+        ensures { λ r. ⌜ stepWith r (now (array .exit)) ≡ stepped (S.afterGood (withArray self (now (array .entry))) taken ended) event used ⌝ }
     {
         let next = Head {
             held: 0,
-            row: 0,
+            bad_row: 0,
             back: false,
             taken,
             ended,
@@ -142,11 +142,11 @@ impl Head {
     // With return 1, the row cleared: an alarm, or a search's start.
     fn return_one(self, array: &mut [u8], phase: Phase, event: Event, used: usize) -> HeadStep
         requires { ⌜ length (now array) ≡ arrayBytes ⌝ }
-        ensures { λ r. ⌜ stepWith r (now (array .exit)) ≡ stepped (S.alarmed (whole self (now (array .entry))) phase) event used ⌝ }
+        ensures { λ r. ⌜ stepWith r (now (array .exit)) ≡ stepped (S.alarmed (withArray self (now (array .entry))) phase) event used ⌝ }
     {
         let next = Head {
             held: 0,
-            row: 0,
+            bad_row: 0,
             back: true,
             phase,
             ..self
@@ -155,12 +155,12 @@ impl Head {
     }
 
     // A bad block; lost where rule 7 goes back to search.
-    fn bad(self, array: &mut [u8], lost: bool, used: usize) -> HeadStep
+    fn after_bad(self, array: &mut [u8], lost: bool, used: usize) -> HeadStep
         requires { ⌜ ReadyHead self (now array) ⌝ }
-        ensures { λ r. ⌜ stepWith r (now (array .exit)) ≡ stepped (S.badly (whole self (now (array .entry))) (leb S.lastBad (self .row + 1) || lost)) Event.Bad used ⌝ }
+        ensures { λ r. ⌜ stepWith r (now (array .exit)) ≡ stepped (S.afterBad (withArray self (now (array .entry))) (leb S.lastBad (self .«bad_row» + 1) || lost)) Event.Bad used ⌝ }
     {
-        let row = self.row + 1;
-        if LAST_BAD <= row {
+        let bad_row = self.bad_row + 1;
+        if LAST_BAD <= bad_row {
             return self.return_one(array, Phase::Search, Event::Bad, used);
         }
         if lost {
@@ -168,7 +168,7 @@ impl Head {
         }
         let next = Head {
             held: 0,
-            row,
+            bad_row,
             back: true,
             phase: Phase::InStep,
             ..self
@@ -179,28 +179,28 @@ impl Head {
     // What a rule comes to, the store apart.
     fn stop(self, array: &mut [u8], rule: Rule, used: usize) -> HeadStep
         requires { ⌜ ReadyHead self (now array) ⌝ }
-        ensures { λ r. ⌜ stepWith r (now (array .exit)) ≡ handedBack (S.stops (whole self (now (array .entry))) (ruleOf rule) [] used) ⌝ }
+        ensures { λ r. ⌜ stepWith r (now (array .exit)) ≡ handedBack (S.stops (withArray self (now (array .entry))) (ruleOf rule) [] used) ⌝ }
     {
         let taken = self.taken;
         let ended = self.ended;
         match rule {
-            Rule::Accepts => self.well(array, taken + 1, ended, Event::Accepted, used),
-            Rule::Previous => self.well(array, taken, ended, Event::Previous, used),
+            Rule::Accepts => self.after_good(array, taken + 1, ended, Event::Accepted, used),
+            Rule::Previous => self.after_good(array, taken, ended, Event::Previous, used),
             Rule::OutOfSequence => self.return_one(
                 array,
                 Phase::SequenceAlarm,
                 Event::SequenceAlarm,
                 used,
             ),
-            Rule::Ends(bits) => self.well(array, taken, true, Event::Ended(bits), used),
+            Rule::Ends(bits) => self.after_good(array, taken, true, Event::Ended(bits), used),
             Rule::WrongLength => self.return_one(
                 array,
                 Phase::LengthAlarm,
                 Event::LengthAlarm,
                 used,
             ),
-            Rule::EndsAgain => self.well(array, taken, ended, Event::Previous, used),
-            Rule::AnythingElse => self.bad(array, taken == 0, used),
+            Rule::EndsAgain => self.after_good(array, taken, ended, Event::Previous, used),
+            Rule::AnythingElse => self.after_bad(array, taken == 0, used),
         }
     }
 
@@ -216,7 +216,7 @@ impl Head {
     // Rule 3: the data straight to their place in the store, which has room, and the state after.
     fn store_item(self, array: &mut [u8], row: &[u8], used: usize, store: &mut [u8]) -> HeadStep
         requires { ⌜ (FinishedBlock self (now array) (now row)) × (tooShort (now store) (self .taken * self .setup .k + self .setup .k) ≡ false) ⌝ }
-        ensures { λ r. ⌜ Handed (whole self (now (array .entry))) (now (store .entry)) (S.stops (whole self (now (array .entry))) S.accepts (take (blockLength (self .setup .k)) (bitsOf (now (row .entry)))) used) (stepWith r (now (array .exit))) (now (store .exit)) ⌝ }
+        ensures { λ r. ⌜ Handed (withArray self (now (array .entry))) (now (store .entry)) (S.stops (withArray self (now (array .entry))) S.accepts (take (blockLength (self .setup .k)) (bitsOf (now (row .entry)))) used) (stepWith r (now (array .exit))) (now (store .exit)) ⌝ }
     {
         let m = self.setup.k / 8;
         let start = self.taken * m;
@@ -227,17 +227,17 @@ impl Head {
     // A finished block by the rules in their order: rule 1, the check, then the rules of a block that passes.
     fn judge(self, array: &mut [u8], row: &[u8], used: usize, store: &mut [u8]) -> HeadStep
         requires { ⌜ FinishedBlock self (now array) (now row) ⌝ }
-        ensures { λ r. ⌜ Handed (whole self (now (array .entry))) (now (store .entry)) (judged (whole self (now (array .entry))) (take (blockLength (self .setup .k)) (bitsOf (now (row .entry)))) used) (stepWith r (now (array .exit))) (now (store .exit)) ⌝ }
+        ensures { λ r. ⌜ Handed (withArray self (now (array .entry))) (now (store .entry)) (judged (withArray self (now (array .entry))) (take (blockLength (self .setup .k)) (bitsOf (now (row .entry)))) used) (stepWith r (now (array .exit))) (now (store .exit)) ⌝ }
     {
         let k = self.setup.k;
         let taken = self.taken;
         let ended = self.ended;
         if looks_sync(k, row) {
-            return self.well(array, taken, ended, Event::Sync, used);
+            return self.after_good(array, taken, ended, Event::Sync, used);
         }
         let answer = block::check_block(k, row);
         let Read::Passed(service) = answer else {
-            return self.bad(array, false, used);
+            return self.after_bad(array, false, used);
         };
         let rule = service_rule(k, taken, ended, service, row);
         match rule {
@@ -255,7 +255,7 @@ impl Head {
     // is where the store is refused, so the others are finished in a copy.
     fn finish(self, array: &mut [u8], line: &[u8], missing: usize, store: &mut [u8]) -> HeadStep
         requires { ⌜ (ReadyHead self (now array)) × (self .held + missing ≡ blockLength (self .setup .k)) × (missing ≤ 8 * length (now line)) ⌝ }
-        ensures { λ r. ⌜ Handed (whole self (now (array .entry))) (now (store .entry)) (judged (whole self (now (array .entry))) (S.heldBits (whole self (now (array .entry))) ++ take missing (bitsOf (now (line .entry)))) missing) (stepWith r (now (array .exit))) (now (store .exit)) ⌝ }
+        ensures { λ r. ⌜ Handed (withArray self (now (array .entry))) (now (store .entry)) (judged (withArray self (now (array .entry))) (S.heldBits (withArray self (now (array .entry))) ++ take missing (bitsOf (now (line .entry)))) missing) (stepWith r (now (array .exit))) (now (store .exit)) ⌝ }
     {
         if self.held == 0 {
             return self.judge(array, line, missing, store);
@@ -268,7 +268,7 @@ impl Head {
     // In step: the bits up to the block's end, or to the last.
     fn in_step(self, array: &mut [u8], line: &[u8], bits: usize, store: &mut [u8]) -> HeadStep
         requires { ⌜ (ReadyHead self (now array)) × (self .held < blockLength (self .setup .k)) × (bits ≤ 8 * length (now line)) ⌝ }
-        ensures { λ r. ⌜ Handed (whole self (now (array .entry))) (now (store .entry)) (S.inStep (whole self (now (array .entry))) (take bits (bitsOf (now (line .entry))))) (stepWith r (now (array .exit))) (now (store .exit)) ⌝ }
+        ensures { λ r. ⌜ Handed (withArray self (now (array .entry))) (now (store .entry)) (S.inStep (withArray self (now (array .entry))) (take bits (bitsOf (now (line .entry))))) (stepWith r (now (array .exit))) (now (store .exit)) ⌝ }
     {
         let held = self.held;
         let missing = self.setup.k + OVERHEAD - held;
@@ -291,7 +291,7 @@ impl Head {
     // The search's window back in the array's first two bytes.
     fn hold_window(self, array: &mut [u8], window: Window, used: usize) -> HeadStep
         requires { ⌜ (length (now array) ≡ arrayBytes) × (WindowInRange window) ⌝ }
-        ensures { λ r. ⌜ stepWith r (now (array .exit)) ≡ stepped (S.searching (whole self (now (array .entry))) (windowBits window)) Event.None used ⌝ }
+        ensures { λ r. ⌜ stepWith r (now (array .exit)) ≡ stepped (S.searching (withArray self (now (array .entry))) (windowBits window)) Event.None used ⌝ }
     {
         let pair = window.store();
         array[0] = pair.0;
@@ -312,7 +312,7 @@ impl Head {
     // Search: bit by bit, up to the sequence's end or to the last.
     fn search(self, array: &mut [u8], line: &[u8], bits: usize) -> HeadStep
         requires { ⌜ (length (now array) ≡ arrayBytes) × (self .held ≤ 15) × (bits ≤ 8 * length (now line)) ⌝ }
-        ensures { λ r. ⌜ stepWith r (now (array .exit)) ≡ handedBack (S.search (whole self (now (array .entry))) (S.heldBits (whole self (now (array .entry)))) (take bits (bitsOf (now (line .entry)))) 0) ⌝ }
+        ensures { λ r. ⌜ stepWith r (now (array .exit)) ≡ handedBack (S.search (withArray self (now (array .entry))) (S.heldBits (withArray self (now (array .entry)))) (take bits (bitsOf (now (line .entry)))) 0) ⌝ }
     {
         let mut window = Window::load(self.held, array[0], array[1]);
         let mut used = 0;
@@ -320,7 +320,7 @@ impl Head {
             let next = bit_at(line, used);
             used += 1;
             if window.ends_sequence(next) {
-                return self.well(array, self.taken, self.ended, Event::Sync, used);
+                return self.after_good(array, self.taken, self.ended, Event::Sync, used);
             }
             window = window.slide(next);
         }
@@ -328,12 +328,12 @@ impl Head {
     }
 
     // A standing alarm: all bits used.
-    fn stand(self, alarm: Event, bits: usize) -> HeadStep
-        ensures { λ r. ⌜ ((array : List ℕ) → stepWith r array ≡ stepped (S.stands (whole self array)) alarm bits) ⌝ }
+    fn under_alarm(self, alarm: Event, bits: usize) -> HeadStep
+        ensures { λ r. ⌜ ((array : List ℕ) → stepWith r array ≡ stepped (S.underAlarm (withArray self array)) alarm bits) ⌝ }
     {
         HeadStep {
             head: Head {
-                row: 0,
+                bad_row: 0,
                 back: true,
                 ..self
             },
@@ -343,7 +343,7 @@ impl Head {
 
     // No bits: nothing changed, but a standing alarm is reported.
     fn idle(self) -> HeadStep
-        ensures { λ r. ⌜ ((array : List ℕ) → stepWith r array ≡ handedBack (S.idle (whole self array))) ⌝ }
+        ensures { λ r. ⌜ ((array : List ℕ) → stepWith r array ≡ handedBack (S.idle (withArray self array))) ⌝ }
     {
         let phase = self.phase;
         let event = match phase {
@@ -359,8 +359,8 @@ impl Head {
 
     // The bits of a line up to the next event, or to the last.
     fn read(self, array: &mut [u8], line: &[u8], bits: usize, store: &mut [u8]) -> HeadStep
-        requires { ⌜ (length (now array) ≡ arrayBytes) × (receiverInRange (whole self (now array)) ≡ true) × (bits ≤ 8 * length (now line)) ⌝ }
-        ensures { λ r. ⌜ Handed (whole self (now (array .entry))) (now (store .entry)) (S.readings (whole self (now (array .entry))) (take bits (bitsOf (now (line .entry)))) bits) (stepWith r (now (array .exit))) (now (store .exit)) ⌝ }
+        requires { ⌜ (length (now array) ≡ arrayBytes) × (receiverInRange (withArray self (now array)) ≡ true) × (bits ≤ 8 * length (now line)) ⌝ }
+        ensures { λ r. ⌜ Handed (withArray self (now (array .entry))) (now (store .entry)) (S.reception (withArray self (now (array .entry))) (take bits (bitsOf (now (line .entry)))) bits) (stepWith r (now (array .exit))) (now (store .exit)) ⌝ }
     {
         if bits == 0 {
             return self.idle();
@@ -369,8 +369,8 @@ impl Head {
         match phase {
             Phase::Search => self.search(array, line, bits),
             Phase::InStep => self.in_step(array, line, bits, store),
-            Phase::SequenceAlarm => self.stand(Event::SequenceAlarm, bits),
-            Phase::LengthAlarm => self.stand(Event::LengthAlarm, bits),
+            Phase::SequenceAlarm => self.under_alarm(Event::SequenceAlarm, bits),
+            Phase::LengthAlarm => self.under_alarm(Event::LengthAlarm, bits),
         }
     }
 

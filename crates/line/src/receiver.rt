@@ -1,7 +1,7 @@
 // The receiving end.
 ghost use mathlib.Core.Path.{_≡_};
 ghost use Rattle.line.specs.Receiving.{OpenReceiver, freshReceiver, Receive};
-ghost use Rattle.line.specs.ReceivingInPlace.{whole};
+ghost use Rattle.line.specs.ReceivingInPlace.{withArray};
 use crate::head::Head;
 use crate::receiving::Phase;
 use crate::receiving::Received;
@@ -13,7 +13,7 @@ pub struct Receiver {
     pub bits: [u8; 483],
     pub held: usize,
     // How many bad blocks came in a row.
-    pub row: usize,
+    pub bad_row: usize,
     // The return bit.
     pub back: bool,
     // The items taken.
@@ -48,7 +48,7 @@ impl Receiver {
             setup: Setup { k },
             bits: [0u8; 483],
             held: 0,
-            row: 0,
+            bad_row: 0,
             back: true,
             taken: 0,
             ended: false,
@@ -74,14 +74,14 @@ impl Receiver {
 
     // The state without its array.
     pub fn head(self) -> Head
-        ensures { λ r. ⌜ whole r (self .bits) ≡ self ⌝ }
+        ensures { λ r. ⌜ withArray r (self .bits) ≡ self ⌝ }
     {
         let setup = self.setup;
         let phase = self.phase;
         Head {
             setup,
             held: self.held,
-            row: self.row,
+            bad_row: self.bad_row,
             back: self.back,
             taken: self.taken,
             ended: self.ended,
@@ -104,7 +104,7 @@ impl Receiver {
                 setup,
                 bits: array,
                 held: head.held,
-                row: head.row,
+                bad_row: head.bad_row,
                 back: head.back,
                 taken: head.taken,
                 ended: head.ended,

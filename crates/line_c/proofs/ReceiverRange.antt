@@ -17,7 +17,7 @@ use Rattle.block.specs.Calls.{tooShort}
 use Rattle.block.proofs.Lengths.{length-facts}
 use Rattle.block.proofs.Truth.{cond-case}
 use Rattle.block.proofs.Refusals.{passed-test}
-use Rattle.line.specs.Receiving.{arrayBytes, noBytes, freshReceiver, openReceiver, Rule, unfinished, standing, found, sync-block, check-fails, accepts, previous, out-of-sequence, ends, wrong-length, ends-again, anything-else, meaning, judge, blank, lastBad, badly, after, heldBits, Reading, latest, isSequence, search, stands, holding, missing, finishedRow, inStep, reading, readings, heldInRange, receiverInRange, receive}
+use Rattle.line.specs.Receiving.{arrayBytes, zeroArray, freshReceiver, openReceiver, Rule, unfinished, standing, sequence-found, sync-block, check-fails, accepts, previous, out-of-sequence, ends, wrong-length, ends-again, anything-else, meaning, judge, blank, lastBad, afterBad, after, heldBits, Reception, latest, isSequence, search, underAlarm, holding, missing, finishedRow, inStep, byPhase, reception, heldInRange, receiverInRange, receive}
 use Rattle.line.specs.declared.receiver.Receiver.{Receiver}
 use Rattle.line.specs.declared.receiving.Phase.{Phase}
 use Rattle.line.specs.declared.receiving.Phase.the-variants as P
@@ -40,48 +40,48 @@ receiver-fits s h b =
       k = omega arith;
       held = held-small (s .phase) (blockLength (s .setup .k)) (s .held) (omega arith) (r .held);
       taken = omega (arith, r .taken);
-      row = omega (arith, r .row);
+      bad-row = omega (arith, r .bad-row);
       bits = b;
     }
 
 -- ---- the state after an event
 
-length-noBytes : length noBytes ≡ arrayBytes
-unfolding noBytes
-length-noBytes = length-replicate {A = ℕ} arrayBytes 0
+length-zeroArray : length zeroArray ≡ arrayBytes
+unfolding zeroArray
+length-zeroArray = length-replicate {A = ℕ} arrayBytes 0
 
-abbrev Fits : Reading → Type 0
+abbrev Fits : Reception → Type 0
 Fits x = ReceiverFits (x .state)
 
 module _ (s : Receiver) (r : InRange s) (f : ReceiverFits s) where
-  blank-fits : (row : ℕ) (back : Bool) (taken : ℕ) (ended : Bool) (phase : Phase) → row ≤ 8 → taken ≤ s .taken + 1
+  blank-fits : (bad-row : ℕ) (back : Bool) (taken : ℕ) (ended : Bool) (phase : Phase) → bad-row ≤ 8 → taken ≤ s .taken + 1
       → ReceiverFits (blank s row back taken ended phase)
   blank-fits row back taken ended phase h g =
       record {
         k = f .k;
         held = omega arith;
         taken = omega (arith, r .taken);
-        row = omega arith;
-        bits = length-noBytes;
+        bad-row = omega arith;
+        bits = length-zeroArray;
       }
 
-  badly-fits : (search : Bool) → ReceiverFits (badly s search)
-  badly-fits true = blank-fits 0 true (s .taken) (s .ended) P.Search (omega arith) (omega arith)
-  badly-fits false = blank-fits (s .row + 1) true (s .taken) (s .ended) P.InStep (omega (arith, r .row)) (omega arith)
+  afterBad-fits : (search : Bool) → ReceiverFits (afterBad s search)
+  afterBad-fits true = blank-fits 0 true (s .taken) (s .ended) P.Search (omega arith) (omega arith)
+  afterBad-fits false = blank-fits (s .«bad_row» + 1) true (s .taken) (s .ended) P.InStep (omega (arith, r .bad-row)) (omega arith)
 
   after-fits : (rule : Rule) → ReceiverFits (after s rule)
   after-fits unfinished = f
   after-fits (standing alarm) = f
-  after-fits found = blank-fits 0 false (s .taken) (s .ended) P.InStep (omega arith) (omega arith)
+  after-fits sequence-found = blank-fits 0 false (s .taken) (s .ended) P.InStep (omega arith) (omega arith)
   after-fits sync-block = blank-fits 0 false (s .taken) (s .ended) P.InStep (omega arith) (omega arith)
-  after-fits check-fails = badly-fits (leb lastBad (s .row + 1))
+  after-fits check-fails = afterBad-fits (leb lastBad (s .«bad_row» + 1))
   after-fits accepts = blank-fits 0 false (s .taken + 1) (s .ended) P.InStep (omega arith) (omega arith)
   after-fits previous = blank-fits 0 false (s .taken) (s .ended) P.InStep (omega arith) (omega arith)
   after-fits out-of-sequence = blank-fits 0 true (s .taken) (s .ended) P.SequenceAlarm (omega arith) (omega arith)
   after-fits (ends L) = blank-fits 0 false (s .taken) true P.InStep (omega arith) (omega arith)
   after-fits wrong-length = blank-fits 0 true (s .taken) (s .ended) P.LengthAlarm (omega arith) (omega arith)
   after-fits ends-again = blank-fits 0 false (s .taken) (s .ended) P.InStep (omega arith) (omega arith)
-  after-fits anything-else = badly-fits (leb lastBad (s .row + 1) || eqb (s .taken) 0)
+  after-fits anything-else = afterBad-fits (leb lastBad (s .«bad_row» + 1) || eqb (s .taken) 0)
 
   -- ---- in search
 
@@ -94,11 +94,11 @@ module _ (s : Receiver) (r : InRange s) (f : ReceiverFits s) where
         k = f .k;
         held = omega arith;
         taken = f .taken;
-        row = f .row;
+        bad-row = f .bad-row;
         bits = simp (length-append, length-bytesOf, length-drop, f .bits);
       }
   search-fits (b ∷ bs) window used h =
-      cond-case Fits (isSequence (window ++ (b ∷ []))) (λ e. after-fits found)
+      cond-case Fits (isSequence (window ++ (b ∷ []))) (λ e. after-fits sequence-found)
       (λ e. search-fits bs (latest (window ++ (b ∷ []))) (suc used) (length-latest (window ++ (b ∷ []))))
 
   -- ---- in step
@@ -106,7 +106,7 @@ module _ (s : Receiver) (r : InRange s) (f : ReceiverFits s) where
   holding-fits : (new : Bits) → length new < missing s → ReceiverFits (holding s new)
   holding-fits new h =
       let k = length-facts (s .setup .k) (r .known) in
-      record { k = f .k; held = omega arith; taken = f .taken; row = f .row; bits = length-bytesOf arrayBytes _ }
+      record { k = f .k; held = omega arith; taken = f .taken; bad-row = f .bad-row; bits = length-bytesOf arrayBytes _ }
 
   step-fits : (new : Bits) → ReceiverFits (inStep s new .state)
   unfolding inStep
@@ -116,20 +116,20 @@ module _ (s : Receiver) (r : InRange s) (f : ReceiverFits s) where
 
   -- ---- by the phase
 
-  stands-fits : ReceiverFits (stands s)
-  stands-fits = record { k = f .k; held = f .held; taken = f .taken; row = omega arith; bits = f .bits }
+  underAlarm-fits : ReceiverFits (underAlarm s)
+  underAlarm-fits = record { k = f .k; held = f .held; taken = f .taken; bad-row = omega arith; bits = f .bits }
 
-  reading-fits : (p : Phase) → s .phase ≡ p → (new : Bits) → ReceiverFits (reading s p new .state)
-  reading-fits P.Search e new =
+  byPhase-fits : (p : Phase) → s .phase ≡ p → (new : Bits) → ReceiverFits (byPhase s p new .state)
+  byPhase-fits P.Search e new =
       let h = held-search s r e in
       search-fits new (heldBits s) 0 (simp length-take (omega arith))
-  reading-fits P.InStep e new = step-fits new
-  reading-fits P.SequenceAlarm e new = stands-fits
-  reading-fits P.LengthAlarm e new = stands-fits
+  byPhase-fits P.InStep e new = step-fits new
+  byPhase-fits P.SequenceAlarm e new = underAlarm-fits
+  byPhase-fits P.LengthAlarm e new = underAlarm-fits
 
-  readings-fit : (new : Bits) (count : ℕ) → ReceiverFits (readings s new count .state)
-  unfolding readings
-  readings-fit new count = cond-case Fits (eqb count 0) (λ e. f) (λ e. reading-fits (s .phase) refl new)
+  reception-fits : (new : Bits) (count : ℕ) → ReceiverFits (reception s new count .state)
+  unfolding reception
+  reception-fits new count = cond-case Fits (eqb count 0) (λ e. f) (λ e. byPhase-fits (s .phase) refl new)
 
 -- ---- opening and a receiving call
 
@@ -137,15 +137,15 @@ pub opened-fits : (k : ℕ) (u : Unit {0}) → openReceiver k ≡ done u → Rec
 unfolding openReceiver freshReceiver
 opened-fits k u e =
     let h = length-facts k (not-false _ (passed-test _ A.block (done tt) u e .0)) in
-    record { k = omega arith; held = omega arith; taken = omega arith; row = omega arith; bits = length-noBytes }
+    record { k = omega arith; held = omega arith; taken = omega arith; bad-row = omega arith; bits = length-zeroArray }
 
-pub received-fits : (s : Receiver) (line : List ℕ) (count : ℕ) (store : List ℕ) (x : Reading) → length (s .bits) ≡ arrayBytes
+pub received-fits : (s : Receiver) (line : List ℕ) (count : ℕ) (store : List ℕ) (x : Reception) → length (s .bits) ≡ arrayBytes
     → receive s line count store ≡ done x → ReceiverFits (x .state)
 unfolding receive
 received-fits s line count store x b e =
     let p = passed-test (not (receiverInRange s)) A.spoiled _ x e in
     let q = passed-test (tooShort line count) A.short _ x (p .1) in
-    let w = passed-test (meaning (readings s (take count (bitsOf line)) count .rule) .stores && tooShort store (s .taken * s .setup .k + s .setup .k)) A.short _ x (q .1) in
+    let w = passed-test (meaning (reception s (take count (bitsOf line)) count .rule) .stores && tooShort store (s .taken * s .setup .k + s .setup .k)) A.short _ x (q .1) in
     let range = not-false (receiverInRange s) (p .0) in
-    let g : readings s (take count (bitsOf line)) count ≡ x = cc (w .1) in
-    rw (← g) (readings-fit s (in-range s range) (receiver-fits s range b) (take count (bitsOf line)) count)
+    let g : reception s (take count (bitsOf line)) count ≡ x = cc (w .1) in
+    rw (← g) (reception-fits s (in-range s range) (receiver-fits s range b) (take count (bitsOf line)) count)

@@ -19,7 +19,7 @@ use Rattle.line.specs.declared.sender.Next.{Next}
 use Rattle.line.specs.declared.sender.Next.the-variants as N
 use Rattle.line.specs.Sending.{openSender, Block, senderInRange, send, sendState}
 use Rattle.line_c.specs.SenderCalls.{senderOver, judgeState, openSenderIn, openedBytes, OpenSenderCall, SendCall}
-use Rattle.line.specs.Receiving.{arrayBytes, openReceiver, freshReceiver, Reading, receiverInRange, receive}
+use Rattle.line.specs.Receiving.{arrayBytes, openReceiver, freshReceiver, Reception, receiverInRange, receive}
 use Rattle.line.specs.declared.receiver.Receiver.{Receiver}
 use Rattle.line.specs.declared.receiving.Phase.{Phase}
 use Rattle.line.specs.declared.receiving.Phase.the-variants as P
@@ -271,12 +271,12 @@ pub receiver-read-back : (s : Receiver) (rest : List ℕ) → ReceiverFits s →
 unfolding receiverOf receiverIn receiverBytes
 receiver-read-back s rest f =
     let k = s .setup .k in
-    let d = s .row in
+    let d = s .«bad_row» in
     let a = flagByte (s .back) in
     let b = flagByte (s .ended) in
     let c = phaseByte (s .phase) in
     let l = s .bits ++ rest in
-    let r : s .row % 256 ≡ s .row = omega (arith, f .row) in
+    let r : s .«bad_row» % 256 ≡ s .«bad_row» = omega (arith, f .bad-row) in
     let n : receiverSize ≤ headSize + length l = simp length-append (omega (arith, f .bits)) in
     rw (r, append-assoc)
     (simp (
@@ -333,7 +333,7 @@ holds-of state s e =
 
 -- after a receiving call that is not refused, the bytes hold the state that it hands back
 pub received-read-back : (state line : List ℕ) (count : ℕ) (store : List ℕ) (used len result : ℕ) (state′ store′ : List ℕ) (used′ len′ : ℕ)
-    (s : Receiver) (x : Reading) → ReceiveCall state line count store used len result state′ store′ used′ len′
+    (s : Receiver) (x : Reception) → ReceiveCall state line count store used len result state′ store′ used′ len′
     → receiverOf state ≡ done s → receive s line count store ≡ done x → receiverOf state′ ≡ done (x .state)
 received-read-back state line count store used len result state′ store′ used′ len′ s x p e f =
     let w : state′ ≡ receiverOver state (x .state) = rw (e, f) at (p .keeps) in

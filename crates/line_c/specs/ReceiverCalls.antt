@@ -7,7 +7,7 @@ use Prim.Native.Nat.{ℕ}
 use lib.ListN.{drop}
 use Rattle.block.specs.Answer as A
 use Rattle.block.specs.Answer.{Answer, refused, done}
-use Rattle.line.specs.Receiving.{eventKind, withLength, openReceiver, freshReceiver, Reading, receiverInRange, receive, receiveStore, Report, reported}
+use Rattle.line.specs.Receiving.{eventKind, withLength, openReceiver, freshReceiver, Reception, receiverInRange, receive, receiveStore, Report, reported}
 use Rattle.line.specs.declared.receiver.Receiver.{Receiver}
 use Rattle.line.specs.declared.receiving.Event.{Event}
 use Rattle.line.specs.declared.receiving.Event.the-variants as E
@@ -62,15 +62,15 @@ reportLength len (refused n) = len
 reportLength len (done r) = eventLength len (r .event)
 
 -- a call on the receiver that the bytes hold, the bytes afterwards, and the store
-abbrev pub receiveIn : List ℕ → ℕ → List ℕ → Answer Receiver → Answer Reading
+abbrev pub receiveIn : List ℕ → ℕ → List ℕ → Answer Receiver → Answer Reception
 receiveIn line count store (refused n) = refused n
 receiveIn line count store (done s) = receive s line count store
 
-abbrev pub receivedState : List ℕ → Answer Reading → List ℕ
+abbrev pub receivedState : List ℕ → Answer Reception → List ℕ
 receivedState state (refused n) = state
 receivedState state (done x) = receiverOver state (x .state)
 
-abbrev pub receivedStore : List ℕ → Answer Receiver → Answer Reading → List ℕ
+abbrev pub receivedStore : List ℕ → Answer Receiver → Answer Reception → List ℕ
 receivedStore store (refused n) answer = store
 receivedStore store (done s) answer = receiveStore s store answer
 

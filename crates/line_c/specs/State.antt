@@ -116,7 +116,7 @@ receiverIn s =
       setup = record { k = wordAt s 0 };
       bits = take arrayBytes (drop headSize s);
       held = wordAt s 4;
-      row = getD s 12 0;
+      «bad_row» = getD s 12 0;
       back = flagAt s 13;
       taken = wordAt s 8;
       ended = flagAt s 14;
@@ -129,7 +129,7 @@ receiverOf s = refuseIf (not (holdsReceiver s)) A.spoiled (done (receiverIn s))
 
 abbrev pub receiverHead : Receiver → List ℕ
 receiverHead s =
-    headBytes (s .setup .k) (s .held) (s .taken) (s .row % 256) (flagByte (s .back)) (flagByte (s .ended))
+    headBytes (s .setup .k) (s .held) (s .taken) (s .«bad_row» % 256) (flagByte (s .back)) (flagByte (s .ended))
     (phaseByte (s .phase))
 
 unfoldable pub receiverBytes : Receiver → List ℕ
@@ -139,5 +139,5 @@ pub record ReceiverFits (s : Receiver) : Type 0 where
   pub k : s .setup .k < 2 ^ 32
   pub held : s .held < 2 ^ 32
   pub taken : s .taken < 2 ^ 32
-  pub row : s .row < 256
+  pub bad-row : s .«bad_row» < 256
   pub bits : length (s .bits) ≡ arrayBytes

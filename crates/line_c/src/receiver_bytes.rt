@@ -4,7 +4,7 @@ ghost use mathlib.Core.List.{[], _++_};
 ghost use Prim.Native.Nat.{_≤_};
 ghost use lib.ListN.{length, take, drop};
 ghost use Rattle.line.specs.Receiving.{arrayBytes};
-ghost use Rattle.line.specs.ReceivingInPlace.{whole};
+ghost use Rattle.line.specs.ReceivingInPlace.{withArray};
 ghost use Rattle.line_c.specs.State.{headSize, receiverSize, holdsReceiver, receiverIn, receiverHead, receiverBytes, phaseOf, phaseByte};
 use crate::layout::HEAD_SIZE;
 use crate::layout::holds_state;
@@ -62,12 +62,12 @@ fn store_bits(bits: [u8; 483], s: &mut [u8])
 
 pub(crate) fn load_head(s: &[u8]) -> Head
     requires { ⌜ receiverSize ≤ length (now s) ⌝ }
-    ensures { λ r. ⌜ whole r (take arrayBytes (drop headSize (now (s .entry)))) ≡ receiverIn (now (s .entry)) ⌝ }
+    ensures { λ r. ⌜ withArray r (take arrayBytes (drop headSize (now (s .entry)))) ≡ receiverIn (now (s .entry)) ⌝ }
 {
     Head {
         setup: Setup { k: load_word(s, 0) },
         held: load_word(s, 4),
-        row: wide(s[12]),
+        bad_row: wide(s[12]),
         back: s[13] == 1,
         taken: load_word(s, 8),
         ended: s[14] == 1,
@@ -78,7 +78,7 @@ pub(crate) fn load_head(s: &[u8]) -> Head
 // The array stays as it is.
 pub(crate) fn put_head(head: Head, s: &mut [u8])
     requires { ⌜ headSize ≤ length (now s) ⌝ }
-    ensures { λ _. ⌜ now (s .exit) ≡ receiverHead (whole head []) ++ drop headSize (now (s .entry)) ⌝ }
+    ensures { λ _. ⌜ now (s .exit) ≡ receiverHead (withArray head []) ++ drop headSize (now (s .entry)) ⌝ }
 {
     let setup = head.setup;
     let phase = head.phase;
@@ -86,7 +86,7 @@ pub(crate) fn put_head(head: Head, s: &mut [u8])
         setup.k,
         head.held,
         head.taken,
-        (head.row % 256) as u8,
+        (head.bad_row % 256) as u8,
         head.back as u8,
         head.ended as u8,
         phase_byte(phase),

@@ -8,7 +8,7 @@ use lib.Seq.{take-at, drop-append-le, length-take-le}
 use Rattle.crc.specs.Bits.{Bits, bitsOf, bytesOf, zeros}
 use Rattle.crc.proofs.Bytes.{length-bitsOf, length-bytesOf, bitsOf-bytesOf, bytesOf-zeros}
 use Rattle.block.specs.Answer.{Answer, refused, done}
-use Rattle.line.specs.Receiving.{Reading, Report, meaning, receive, receiveStore, reported, Receive}
+use Rattle.line.specs.Receiving.{Reception, Report, meaning, receive, receiveStore, reported, Receive}
 use Rattle.line.specs.declared.receiving.Received.the-variants as R
 use Rattle.line.specs.declared.receiver.Step.{Step}
 use Rattle.line.specs.declared.receiver.Receiver.{Receiver}
@@ -40,8 +40,8 @@ hear-calls (suc f) (suc g) s (b ∷ bs) store last hf hg = by-answer (receive s 
     hear-calls f g (x .state) (drop (x .used) (b ∷ bs)) (receiveStore s store (done x)) (later last (meaning (x .rule) .event))
     (rw length-drop (omega arith)) (rw length-drop (omega arith)))
   where
-    by-answer : (a : Answer Reading) → receive s (bytesOf lineBytes (b ∷ bs)) (length (b ∷ bs)) store ≡ a
-        → ((x : Reading) → 0 < x .used
+    by-answer : (a : Answer Reception) → receive s (bytesOf lineBytes (b ∷ bs)) (length (b ∷ bs)) store ≡ a
+        → ((x : Reception) → 0 < x .used
         → hear f (x .state) (drop (x .used) (b ∷ bs)) (receiveStore s store (done x)) (later last (meaning (x .rule) .event))
         ≡ hear g (x .state) (drop (x .used) (b ∷ bs)) (receiveStore s store (done x)) (later last (meaning (x .rule) .event)))
         → answered (hear f) s (b ∷ bs) store last a ≡ answered (hear g) s (b ∷ bs) store last a
@@ -68,7 +68,7 @@ moved bits used h u =
     (bytesOf-zeros lineBytes (drop used bits) (8 * lineBytes - length bits))
 
 -- one call more: what it leaves is lent, and the calls from there on give the rest
-module _ (s : Receiver) (store : List ℕ) (last : Event) (x : Reading) where
+module _ (s : Receiver) (store : List ℕ) (last : Event) (x : Reception) where
   rest : Bits → Hearing
   rest bits = hear (length bits) (x .state) bits (receiveStore s store (done x)) (later last (meaning (x .rule) .event))
 
@@ -133,12 +133,12 @@ call-refused s line left store last n l h e = from-bits (take left (bitsOf line)
     from-bits bits n p = rw (← n) (packed bits (omega arith) (rw (← p, n) e))
 
 -- what a call answered says what it did
-pub reported-refused : (a : Answer Reading) (n : ℕ) → refused n ≡ reported a → a ≡ refused n
+pub reported-refused : (a : Answer Reception) (n : ℕ) → refused n ≡ reported a → a ≡ refused n
 reported-refused (refused m) n e = cc
 reported-refused (done x) n e = absurd (let z : _≡_ {A = ℕ} 0 1 = cc in omega arith)
 
-pub reported-done : (a : Answer Reading) (event : Event) (used : ℕ) → done (record { event = event; used = used }) ≡ reported a
-    → (x : Reading) × ((a ≡ done x) × ((event ≡ meaning (x .rule) .event) × (used ≡ x .used)))
+pub reported-done : (a : Answer Reception) (event : Event) (used : ℕ) → done (record { event = event; used = used }) ≡ reported a
+    → (x : Reception) × ((a ≡ done x) × ((event ≡ meaning (x .rule) .event) × (used ≡ x .used)))
 reported-done (refused m) event used e = absurd (let z : _≡_ {A = ℕ} 0 1 = cc in omega arith)
 reported-done (done x) event used e =
     let r : _≡_ {A = Report} (record { event = event; used = used }) (record { event = meaning (x .rule) .event; used = x .used }) = cc in
@@ -161,7 +161,7 @@ module _ (s : Receiver) (line : List ℕ) (left : ℕ) (store : List ℕ) (last 
     pub goes-on : hear left s (take left (bitsOf line)) store last
         ≡ hear (left - used) (step .state) (take (left - used) (bitsOf line′)) store′ (later last event)
 
-  progress-at : (x : Reading) (event : Event) (used : ℕ) → receive s line left store ≡ done x → event ≡ meaning (x .rule) .event
+  progress-at : (x : Reception) (event : Event) (used : ℕ) → receive s line left store ≡ done x → event ≡ meaning (x .rule) .event
       → used ≡ x .used → Progress event used (bytesOf (length line) (drop used (bitsOf line)))
   progress-at x event used a ev u =
       let m = call-more s store last x line left lent some-left a in

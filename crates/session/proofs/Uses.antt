@@ -19,7 +19,7 @@ use Rattle.block.specs.Calls.{tooShort}
 use Rattle.block.proofs.Refusals.{passed-test}
 use Rattle.block.proofs.Truth.{either, cond-case, and-right}
 use Rattle.line.specs.Order.{mostItems}
-use Rattle.line.specs.Receiving.{Reading, latest, isSequence, search, missing, inStep, reading, readings, heldBits, heldInRange, receiverInRange, lastBad, meaning, receive}
+use Rattle.line.specs.Receiving.{Reception, latest, isSequence, search, missing, inStep, byPhase, reception, heldBits, heldInRange, receiverInRange, lastBad, meaning, receive}
 use Rattle.line.specs.declared.receiver.Receiver.{Receiver}
 use Rattle.line.specs.declared.receiving.Phase.{Phase}
 use Rattle.line.specs.declared.receiving.Phase.the-variants as P
@@ -30,11 +30,11 @@ Uses before count used = (before < used) × (used ≤ before + count)
 search-uses : (s : Receiver) (window : Bits) (b : Bool) (bs : Bits) (used : ℕ)
     → Uses used (length (b ∷ bs)) (search s window (b ∷ bs) used .used)
 search-uses s window b [] used =
-    cond-case (λ (x : Reading). Uses used 1 (x .used)) (isSequence (window ++ (b ∷ []))) (λ t. omega arith) (λ t. omega arith)
+    cond-case (λ (x : Reception). Uses used 1 (x .used)) (isSequence (window ++ (b ∷ []))) (λ t. omega arith) (λ t. omega arith)
 search-uses s window b (c ∷ cs) used =
     let r : Uses (suc used) (length (c ∷ cs)) (search s (latest (window ++ (b ∷ []))) (c ∷ cs) (suc used) .used) =
     search-uses s (latest (window ++ (b ∷ []))) c cs (suc used) in
-    cond-case (λ (x : Reading). Uses used (length (b ∷ c ∷ cs)) (x .used)) (isSequence (window ++ (b ∷ []))) (λ t. omega arith) (λ t. omega arith)
+    cond-case (λ (x : Reception). Uses used (length (b ∷ c ∷ cs)) (x .used)) (isSequence (window ++ (b ∷ []))) (λ t. omega arith) (λ t. omega arith)
 
 held-in-range : (phase : Phase) (k held : ℕ) → heldInRange phase (blockLength k) held ≡ true → phase ≡ P.InStep → held < blockLength k
 held-in-range P.Search k held e p = absurd (let z : _≡_ {A = ℕ} 0 1 = cc in omega arith)
@@ -50,25 +50,25 @@ in-step-uses s new h n =
     (either (ltb (length new) (missing s)))
 
 phase-uses : (s : Receiver) (phase : Phase) (new : Bits) → (phase ≡ P.InStep → s .held < blockLength (s .setup .k))
-    → 0 < length new → Uses 0 (length new) (reading s phase new .used)
+    → 0 < length new → Uses 0 (length new) (byPhase s phase new .used)
 phase-uses s P.Search [] h n = absurd (omega arith)
 phase-uses s P.Search (b ∷ bs) h n = search-uses s (heldBits s) b bs 0
 phase-uses s P.InStep new h n = in-step-uses s new (h refl) n
 phase-uses s P.SequenceAlarm new h n = omega arith
 phase-uses s P.LengthAlarm new h n = omega arith
 
-pub receive-uses : (s : Receiver) (line : List ℕ) (count : ℕ) (store : List ℕ) (x : Reading)
+pub receive-uses : (s : Receiver) (line : List ℕ) (count : ℕ) (store : List ℕ) (x : Reception)
     → receive s line count store ≡ done x → 0 < count → Uses 0 count (x .used)
-unfolding receive receiverInRange readings
+unfolding receive receiverInRange reception
 receive-uses s line count store x e h =
     let new : Bits = take count (bitsOf line) in
     let p = passed-test (not (receiverInRange s)) A.spoiled _ x e in
     let q = passed-test (tooShort line count) A.short _ x (p .1) in
-    let z : readings s new count ≡ reading s (s .phase) new = rw (ne-eqb count 0 (λ w. omega arith)) in
-    let d : done (reading s (s .phase) new) ≡ done x = rw z at (passed-test (meaning (readings s new count .rule) .stores && tooShort store (s .taken * s .setup .k + s .setup .k)) A.short _ x (q .1) .1) in
-    let y : reading s (s .phase) new ≡ x = cc in
+    let z : reception s new count ≡ byPhase s (s .phase) new = rw (ne-eqb count 0 (λ w. omega arith)) in
+    let d : done (byPhase s (s .phase) new) ≡ done x = rw z at (passed-test (meaning (reception s new count .rule) .stores && tooShort store (s .taken * s .setup .k + s .setup .k)) A.short _ x (q .1) .1) in
+    let y : byPhase s (s .phase) new ≡ x = cc in
     let n : length new ≡ count = length-take-le count (bitsOf line) (rw (length-bitsOf line) (omega (arith, ltb-false (8 * length line) count (q .0)))) in
-    let t : heldInRange (s .phase) (blockLength (s .setup .k)) (s .held) ≡ true = and-right (isLength (s .setup .k) && ltb (s .row) lastBad && leb (s .taken) mostItems) _ (not-false (receiverInRange s) (p .0)) in
-    let u : Uses 0 (length new) (reading s (s .phase) new .used) =
+    let t : heldInRange (s .phase) (blockLength (s .setup .k)) (s .held) ≡ true = and-right (isLength (s .setup .k) && ltb (s .«bad_row») lastBad && leb (s .taken) mostItems) _ (not-false (receiverInRange s) (p .0)) in
+    let u : Uses 0 (length new) (byPhase s (s .phase) new .used) =
     phase-uses s (s .phase) new (held-in-range (s .phase) (s .setup .k) (s .held) t) (rw n h) in
     rw (← y) (rw n at u)

@@ -11,7 +11,7 @@ use Rattle.block.specs.Answer.{Answer, refused, done}
 use Rattle.line.specs.Order.{orderBits}
 use Rattle.line.specs.Sending as S
 use Rattle.line.specs.Sending.{send, sendState, sentBits}
-use Rattle.line.specs.Receiving.{Reading, meaning, receive, receiveStore}
+use Rattle.line.specs.Receiving.{Reception, meaning, receive, receiveStore}
 use Rattle.line.specs.declared.sender.Sender.{Sender}
 use Rattle.line.specs.declared.receiver.Receiver.{Receiver}
 use Rattle.line.specs.declared.receiving.Event.{Event}
@@ -83,7 +83,7 @@ abbrev pub hearing : Receiver → Last → List ℕ → Hearing
 hearing s last store = record { heard = record { receiver = s; last = last }; store = store }
 
 -- what follows the answer to a call that was lent these bits
-abbrev pub answered : (Receiver → Bits → List ℕ → Event → Hearing) → Receiver → Bits → List ℕ → Event → Answer Reading → Hearing
+abbrev pub answered : (Receiver → Bits → List ℕ → Event → Hearing) → Receiver → Bits → List ℕ → Event → Answer Reception → Hearing
 answered next s bits store last (refused n) = hearing s (L.Refused n) store
 answered next s bits store last (done x) =
     next (x .state) (drop (x .used) bits) (receiveStore s store (done x)) (later last (meaning (x .rule) .event))

@@ -33,14 +33,14 @@ pub enum Block {
     },
 }
 
-pub enum Reading {
+pub enum Reception {
     Ignored,
     Used(bool),
 }
 
 pub struct Line {
     pub block: Block,
-    pub reading: Reading,
+    pub reading: Reception,
     // The period's last event other than none, else none.
     pub event: Event,
     // The return bit afterwards.
@@ -55,7 +55,7 @@ pub enum Outcome {
 // How the sending call of a period ended, its block and reading as they are shown.
 pub enum Sending {
     Refused(u8),
-    Sent { block: Block, reading: Reading },
+    Sent { block: Block, reading: Reception },
 }
 
 // How the receiving calls of a period ended.
@@ -100,13 +100,13 @@ fn later_of(last: Event, event: Event) -> Event
     }
 }
 
-fn shown_reading(used: bool, reading: bool) -> Reading
+fn shown_reading(used: bool, reading: bool) -> Reception
     ensures { λ r. ⌜ r ≡ ifUsed used reading ⌝ }
 {
     if used {
-        Reading::Used(reading)
+        Reception::Used(reading)
     } else {
-        Reading::Ignored
+        Reception::Ignored
     }
 }
 
@@ -117,7 +117,7 @@ fn shown_sending(answer: Sent, reading: bool) -> Sending
         Sent::Refused(number) => Sending::Refused(number),
         Sent::Synchronising => Sending::Sent {
             block: Block::Synchronising,
-            reading: Reading::Ignored,
+            reading: Reception::Ignored,
         },
         Sent::Item {
             number,
@@ -188,7 +188,7 @@ fn heard_period(
     sender: Sender,
     receiver: Receiver,
     block: Block,
-    reading: Reading,
+    reading: Reception,
     line: &mut [u8],
     count: usize,
     store: &mut [u8],

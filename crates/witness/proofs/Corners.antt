@@ -12,12 +12,12 @@ use Rattle.block.specs.Answer.{Answer, refused, done}
 use Rattle.block.specs.Lengths.{isLength}
 use Rattle.block.specs.Block.{blockBits, verdict, syncBlock, syncSequence}
 use Rattle.line.specs.Order.{validLength, itemCount, letter, letterA, letterB, letterC, isLetter, endPayload, endService}
-use Rattle.line.specs.Receiving.{freshReceiver, noBytes, Rule, found, sync-block, check-fails, accepts, previous, out-of-sequence, ends, wrong-length, ends-again, anything-else, unfinished, standing, place, endRule, serviceRule, looksSync, judge, blank, Reading, idle, searching, inStep, readings, receiverInRange, receive}
+use Rattle.line.specs.Receiving.{freshReceiver, zeroArray, Rule, sequence-found, sync-block, check-fails, accepts, previous, out-of-sequence, ends, wrong-length, ends-again, anything-else, unfinished, standing, place, endRule, serviceRule, looksSync, judge, blank, Reception, idle, searching, inStep, reception, receiverInRange, receive}
 use Rattle.line.specs.declared.receiver.Receiver.{Receiver}
 use Rattle.line.specs.declared.receiving.Phase.{Phase}
 use Rattle.line.specs.declared.receiving.Phase.the-variants as P
 use Rattle.line.specs.declared.receiving.Event.the-variants as E
-use Rattle.line.proofs.Delivery.Holding.{length-noBytes}
+use Rattle.line.proofs.Delivery.Holding.{length-zeroArray}
 use Rattle.line.proofs.Delivery.BitByBit.{bitByBit, Waiting, bit-by-bit}
 
 -- ---- states and blocks
@@ -44,7 +44,7 @@ damaged (b ∷ bs) = not b ∷ bs
 -- ---- what a call comes to
 
 -- a block lent whole in one call, with a store for the first item
-abbrev whole : Receiver → Bits → Answer Reading
+abbrev whole : Receiver → Bits → Answer Reception
 whole s row = receive s (bytesOf 33 row) 260 (replicate 30 0)
 
 -- it is read by this rule, with this state afterwards
@@ -54,7 +54,7 @@ Reads s row rule after = whole s row ≡ done (record { rule = rule; row = row; 
 -- bits lent in search, with the sequence found at the last of them
 abbrev Finds : Receiver → Bits → ℕ → Receiver → Type 0
 Finds s row used after =
-    receive s (bytesOf 33 row) (length row) [] ≡ done (record { rule = found; row = []; used = used; state = after })
+    receive s (bytesOf 33 row) (length row) [] ≡ done (record { rule = sequence-found; row = []; used = used; state = after })
 
 -- ... or with none found, and this window held
 abbrev Passes : Receiver → Bits → Bits → Type 0
@@ -123,7 +123,7 @@ pub record Corners : Type 0 where
       ≡ done (record { rule = previous; row = block letterA; used = 260; state = good 1 false })
 
 pub corners : Corners
-unfolding receive receiverInRange readings inStep judge looksSync verdict passes remainder check blockBits syncBlock serviceRule endRule endPayload place letter isLetter validLength itemCount number binary bitsOf bytesOf noBytes freshReceiver isLength
+unfolding receive receiverInRange reception inStep judge looksSync verdict passes remainder check blockBits syncBlock serviceRule endRule endPayload place letter isLetter validLength itemCount number binary bitsOf bytesOf zeroArray freshReceiver isLength
 corners =
     record {
       none-in-search = refl;
@@ -173,10 +173,10 @@ unfolding check remainder blockBits binary freshReceiver isLength
 waiting =
     record {
       known = refl;
-      row = omega arith;
+      bad-row = omega arith;
       taken = omega arith;
       phase = refl;
-      array = length-noBytes;
+      array = length-zeroArray;
       held = refl;
     }
 

@@ -13,7 +13,7 @@ use Rattle.block.specs.Block.{blockBits, verdict, syncBlock, cancelled}
 use Rattle.line.specs.Order.{validLength, itemCount, letter, isLetter, orderBits, filled, endPayload, itemService, itemPayload, itemBits}
 use Rattle.line.specs.LoopTime.{isSpeed, blockTime, hasEntry, longestLoop, loopTime}
 use Rattle.line.specs.Sending.{synchronising, item, freshSender, openSender, senderInRange, send, transmit, plainBits, sentBits}
-use Rattle.line.specs.Receiving.{freshReceiver, openReceiver, noBytes, place, endRule, serviceRule, looksSync, judge, inStep, readings, receiverInRange, receive, storeAt}
+use Rattle.line.specs.Receiving.{freshReceiver, openReceiver, zeroArray, place, endRule, serviceRule, looksSync, judge, inStep, reception, receiverInRange, receive, storeAt}
 use Rattle.line.specs.Course.{sending, World, opened, course, final}
 use Rattle.line.specs.Delivery.{Assumptions, Openings, Delivered, Delivery}
 use Rattle.line.specs.declared.sender.Next.the-variants.{Sync, Older, Newer}
@@ -36,19 +36,19 @@ abbrev block : ℕ → Bits
 block i = itemBits 240 8 content i
 
 -- the store as first lent, and with item 0 in it
-abbrev first : List ℕ
-first = replicate 31 7
+abbrev initialStore : List ℕ
+initialStore = replicate 31 7
 
 abbrev stored : List ℕ
 stored = 0xa5 ∷ (replicate 29 0 ++ (7 ∷ []))
 
 abbrev pub w₀ : World
-w₀ = opened (freshSender 240 8) (freshReceiver 240) first
+w₀ = opened (freshSender 240 8) (freshReceiver 240) initialStore
 
 abbrev rows : List Row
 rows =
-    plain order first first true (syncBlock 240) synchronising true true E.Sync (sender 8 1 0 true Older false) (well 0 false)
-    ∷ plain order first stored false (block 0) (item 0 false false false) false true E.Accepted
+    plain order initialStore initialStore true (syncBlock 240) synchronising true true E.Sync (sender 8 1 0 true Older false) (well 0 false)
+    ∷ plain order initialStore stored false (block 0) (item 0 false false false) false true E.Accepted
     (sender 8 1 0 true Newer false) (well 1 false)
     ∷ plain order stored stored false (block 1) (item 1 true true false) false true (E.Ended 8)
     (sender 8 2 0 false Newer false) (well 1 true)
@@ -62,7 +62,7 @@ rows =
     ∷ []
 
 computed : Rows 240 content false w₀ rows
-unfolding send senderInRange transmit plainBits sentBits freshSender itemBits itemPayload itemService filled cancelled xorBits parity receive receiverInRange readings inStep judge looksSync verdict passes remainder check blockBits syncBlock serviceRule endRule endPayload place letter isLetter validLength itemCount number binary bitsOf bytesOf noBytes freshReceiver isLength storeAt
+unfolding send senderInRange transmit plainBits sentBits freshSender itemBits itemPayload itemService filled cancelled xorBits parity receive receiverInRange reception inStep judge looksSync verdict passes remainder check blockBits syncBlock serviceRule endRule endPayload place letter isLetter validLength itemCount number binary bitsOf bytesOf zeroArray freshReceiver isLength storeAt
 computed = (
   record { counts = refl; leads = refl },
   (
@@ -94,7 +94,7 @@ example-stored = ap (λ (w : World). w .store) (goes .leads)
 abbrev ready : Opened
 ready = record { state = freshReceiver 240; answer = Opening.Opened }
 
-pub example-opened : Openings 240 200 0 8 order (freshSender 240 8) ready first
+pub example-opened : Openings 240 200 0 8 order (freshSender 240 8) ready initialStore
 unfolding openSender loopTime isSpeed hasEntry longestLoop blockTime openReceiver isLength itemCount
 example-opened =
     record {
@@ -104,8 +104,8 @@ example-opened =
       room = omega arith;
     }
 
-pub example-delivered : Delivered 240 8 content first (runs (freshSender 240 8) (freshReceiver 240) (allCalls rows))
+pub example-delivered : Delivered 240 8 content initialStore (runs (freshSender 240 8) (freshReceiver 240) (allCalls rows))
 unfolding Delivery
 example-delivered =
-    delivery 240 200 0 8 order (freshSender 240 8) ready first example-opened (allCalls rows)
+    delivery 240 200 0 8 order (freshSender 240 8) ready initialStore example-opened (allCalls rows)
     (runs (freshSender 240 8) (freshReceiver 240) (allCalls rows))

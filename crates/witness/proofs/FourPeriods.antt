@@ -10,7 +10,7 @@ use Rattle.block.specs.Lengths.{isLength}
 use Rattle.block.specs.Block.{blockBits, verdict, syncBlock, cancelled}
 use Rattle.line.specs.Order.{validLength, itemCount, letter, isLetter, filled, endPayload, itemService, itemPayload, itemBits}
 use Rattle.line.specs.Sending.{synchronising, item, freshSender, senderInRange, send, transmit, plainBits, sentBits}
-use Rattle.line.specs.Receiving.{freshReceiver, noBytes, place, endRule, serviceRule, looksSync, judge, searching, inStep, readings, receiverInRange, receive, storeAt}
+use Rattle.line.specs.Receiving.{freshReceiver, zeroArray, place, endRule, serviceRule, looksSync, judge, searching, inStep, reception, receiverInRange, receive, storeAt}
 use Rattle.line.specs.Course.{course}
 use Rattle.line.specs.Delivery.{Assumptions}
 use Rattle.line.specs.declared.sender.Next.the-variants.{Sync, Older, Newer}
@@ -18,16 +18,16 @@ use Rattle.line.specs.declared.receiving.Event.the-variants as E
 use Rattle.line.specs.declared.receiving.Phase.the-variants as P
 use Rattle.witness.proofs.Tally.{Tally, Row, Rows, Goes, tally, allCalls, allTally, lastWorld, walk, goes-meets}
 use Rattle.witness.proofs.Periods.{sender, receiver, well, bad, plain, damaged}
-use Rattle.witness.proofs.TwoItems.{order, content, block, first, one, two, w₀}
+use Rattle.witness.proofs.TwoItems.{order, content, block, initialStore, one, two, w₀}
 
 -- A reading of 1 where 0 was meant, and damage up to a synchronising block, the eighth bad in a row. The five periods
 -- behind it are undisturbed: the search passes item 1 and a cancelled block, finds the next synchronising block, item 1 is
 -- the previous one, and then comes the end.
 abbrev pub waits : List Row
 waits =
-    plain order first first true (syncBlock 240) synchronising true true E.Sync
+    plain order initialStore initialStore true (syncBlock 240) synchronising true true E.Sync
     (sender 480 1 0 true Older false) (well 0 false)
-    ∷ plain order first one false (block 0) (item 0 false false false) false true E.Accepted
+    ∷ plain order initialStore one false (block 0) (item 0 false false false) false true E.Accepted
     (sender 480 1 0 true Newer false) (well 1 false)
     ∷ plain order one two false (block 1) (item 1 false true false) false true E.Accepted
     (sender 480 2 0 false Newer false) (well 2 false)
@@ -60,7 +60,7 @@ waits =
     ∷ []
 
 waits-computed : Rows 240 content false w₀ waits
-unfolding send senderInRange transmit plainBits sentBits freshSender itemBits itemPayload itemService filled cancelled xorBits parity receive receiverInRange readings inStep judge looksSync verdict passes remainder check blockBits syncBlock serviceRule endRule endPayload place letter isLetter validLength itemCount number binary bitsOf bytesOf noBytes freshReceiver isLength storeAt
+unfolding send senderInRange transmit plainBits sentBits freshSender itemBits itemPayload itemService filled cancelled xorBits parity receive receiverInRange reception inStep judge looksSync verdict passes remainder check blockBits syncBlock serviceRule endRule endPayload place letter isLetter validLength itemCount number binary bitsOf bytesOf zeroArray freshReceiver isLength storeAt
 waits-computed = (
   record { counts = refl; leads = refl },
   (

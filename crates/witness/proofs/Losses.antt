@@ -8,7 +8,7 @@ use Rattle.block.specs.Lengths.{isLength}
 use Rattle.block.specs.Block.{blockBits, verdict, syncBlock, cancelled}
 use Rattle.line.specs.Order.{validLength, itemCount, letter, isLetter, filled, endPayload, itemService, itemPayload, itemBits}
 use Rattle.line.specs.Sending.{synchronising, item, freshSender, senderInRange, send, transmit, plainBits, sentBits}
-use Rattle.line.specs.Receiving.{freshReceiver, noBytes, place, endRule, serviceRule, looksSync, judge, inStep, readings, receiverInRange, receive, storeAt}
+use Rattle.line.specs.Receiving.{freshReceiver, zeroArray, place, endRule, serviceRule, looksSync, judge, inStep, reception, receiverInRange, receive, storeAt}
 use Rattle.line.specs.Course.{course}
 use Rattle.line.specs.Delivery.{Assumptions}
 use Rattle.line.specs.declared.sender.Next.the-variants.{Sync, Older, Newer}
@@ -16,23 +16,23 @@ use Rattle.line.specs.declared.receiving.Event.the-variants as E
 use Rattle.line.specs.declared.receiving.Phase.the-variants as P
 use Rattle.witness.proofs.Tally.{Row, Rows, Goes, allCalls, allTally, lastWorld, walk, goes-meets}
 use Rattle.witness.proofs.Periods.{sender, receiver, well, bad, period, plain, damaged}
-use Rattle.witness.proofs.TwoItems.{order, content, block, first, one, two, w₀}
+use Rattle.witness.proofs.TwoItems.{order, content, block, initialStore, one, two, w₀}
 
 -- Item 0 is damaged and its request lost: item 1 brings the sequence alarm, which stays.
 abbrev pub alarms : List Row
 alarms =
-    plain order first first true (syncBlock 240) synchronising true true E.Sync
+    plain order initialStore initialStore true (syncBlock 240) synchronising true true E.Sync
     (sender 480 1 0 true Older false) (well 0 false)
-    ∷ plain order first first false (damaged (block 0)) (item 0 false false false) false false E.Bad
+    ∷ plain order initialStore initialStore false (damaged (block 0)) (item 0 false false false) false false E.Bad
     (sender 480 1 0 true Newer false) (bad 1 0)
-    ∷ period order first first false (block 1) (item 1 false true false) true true E.SequenceAlarm
+    ∷ period order initialStore initialStore false (block 1) (item 1 false true false) true true E.SequenceAlarm
     (sender 480 2 0 false Newer false) (receiver 0 true 0 false P.SequenceAlarm) true true false
-    ∷ period order first first true (cancelled (block 2)) (item 2 true true true) true true E.SequenceAlarm
+    ∷ period order initialStore initialStore true (cancelled (block 2)) (item 2 true true true) true true E.SequenceAlarm
     (sender 480 2 1 false Older false) (receiver 0 true 0 false P.SequenceAlarm) true true false
     ∷ []
 
 alarms-computed : Rows 240 content false w₀ alarms
-unfolding send senderInRange transmit plainBits sentBits freshSender itemBits itemPayload itemService filled cancelled xorBits parity receive receiverInRange readings inStep judge looksSync verdict passes remainder check blockBits syncBlock serviceRule endRule endPayload place letter isLetter validLength itemCount number binary bitsOf bytesOf noBytes freshReceiver isLength storeAt
+unfolding send senderInRange transmit plainBits sentBits freshSender itemBits itemPayload itemService filled cancelled xorBits parity receive receiverInRange reception inStep judge looksSync verdict passes remainder check blockBits syncBlock serviceRule endRule endPayload place letter isLetter validLength itemCount number binary bitsOf bytesOf zeroArray freshReceiver isLength storeAt
 alarms-computed = (
   record { counts = refl; leads = refl },
   (
@@ -57,9 +57,9 @@ alarms-meets = goes-meets alarms-goes refl refl
 -- good. The same with item 2.
 abbrev pub two-losses : List Row
 two-losses =
-    plain order first first true (syncBlock 240) synchronising true true E.Sync
+    plain order initialStore initialStore true (syncBlock 240) synchronising true true E.Sync
     (sender 480 1 0 true Older false) (well 0 false)
-    ∷ plain order first one false (block 0) (item 0 false false false) false true E.Accepted
+    ∷ plain order initialStore one false (block 0) (item 0 false false false) false true E.Accepted
     (sender 480 1 0 true Newer false) (well 1 false)
     ∷ plain order one one true (cancelled (block 1)) (item 1 false true true) false true E.Bad
     (sender 480 1 1 true Sync false) (bad 1 1)
@@ -78,7 +78,7 @@ two-losses =
     ∷ []
 
 two-losses-computed : Rows 240 content false w₀ two-losses
-unfolding send senderInRange transmit plainBits sentBits freshSender itemBits itemPayload itemService filled cancelled xorBits parity receive receiverInRange readings inStep judge looksSync verdict passes remainder check blockBits syncBlock serviceRule endRule endPayload place letter isLetter validLength itemCount number binary bitsOf bytesOf noBytes freshReceiver isLength storeAt
+unfolding send senderInRange transmit plainBits sentBits freshSender itemBits itemPayload itemService filled cancelled xorBits parity receive receiverInRange reception inStep judge looksSync verdict passes remainder check blockBits syncBlock serviceRule endRule endPayload place letter isLetter validLength itemCount number binary bitsOf bytesOf zeroArray freshReceiver isLength storeAt
 two-losses-computed = (
   record { counts = refl; leads = refl },
   (

@@ -11,7 +11,7 @@ use Rattle.block.specs.Lengths.{isLength}
 use Rattle.block.specs.Block.{blockBits, verdict, syncBlock, cancelled}
 use Rattle.line.specs.Order.{validLength, itemCount, letter, isLetter, orderBits, filled, endPayload, itemService, itemPayload, itemBits}
 use Rattle.line.specs.Sending.{synchronising, item, freshSender, senderInRange, send, transmit, plainBits, sentBits}
-use Rattle.line.specs.Receiving.{freshReceiver, noBytes, place, endRule, serviceRule, looksSync, judge, inStep, readings, receiverInRange, receive, storeAt}
+use Rattle.line.specs.Receiving.{freshReceiver, zeroArray, place, endRule, serviceRule, looksSync, judge, inStep, reception, receiverInRange, receive, storeAt}
 use Rattle.line.specs.Course.{World, opened, course, final}
 use Rattle.line.specs.declared.sender.Next.the-variants.{Sync, Older, Newer}
 use Rattle.line.specs.declared.receiving.Event.the-variants as E
@@ -31,8 +31,8 @@ abbrev block : ℕ → Bits
 block i = itemBits 240 1200 content i
 
 -- the store as first lent, and with item 0 in it
-abbrev first : List ℕ
-first = replicate 150 0
+abbrev initialStore : List ℕ
+initialStore = replicate 150 0
 
 abbrev one : List ℕ
 one = replicate 30 1 ++ replicate 120 0
@@ -42,14 +42,14 @@ abbrev wrong : List ℕ
 wrong = replicate 30 1 ++ (replicate 30 5 ++ replicate 90 0)
 
 abbrev pub w₀ : World
-w₀ = opened (freshSender 240 1200) (freshReceiver 240) first
+w₀ = opened (freshSender 240 1200) (freshReceiver 240) initialStore
 
 -- Item 1 is damaged, item 2 too, and its reading lost; item 3 arrives whole with its reading lost, and passes as previous.
 abbrev pub moved : List Row
 moved =
-    plain order first first true (syncBlock 240) synchronising true true E.Sync
+    plain order initialStore initialStore true (syncBlock 240) synchronising true true E.Sync
     (sender 1200 1 0 true Older false) (well 0 false)
-    ∷ plain order first one false (block 0) (item 0 false false false) false true E.Accepted
+    ∷ plain order initialStore one false (block 0) (item 0 false false false) false true E.Accepted
     (sender 1200 1 0 true Newer false) (well 1 false)
     ∷ plain order one one false (damaged (block 1)) (item 1 false true false) false false E.Bad
     (sender 1200 2 0 false Newer false) (bad 1 1)
@@ -62,7 +62,7 @@ moved =
     ∷ []
 
 moved-computed : Rows 240 content false w₀ moved
-unfolding send senderInRange transmit plainBits sentBits freshSender itemBits itemPayload itemService filled cancelled xorBits parity receive receiverInRange readings inStep judge looksSync verdict passes remainder check blockBits syncBlock serviceRule endRule endPayload place letter isLetter validLength itemCount number binary bitsOf bytesOf noBytes freshReceiver isLength storeAt
+unfolding send senderInRange transmit plainBits sentBits freshSender itemBits itemPayload itemService filled cancelled xorBits parity receive receiverInRange reception inStep judge looksSync verdict passes remainder check blockBits syncBlock serviceRule endRule endPayload place letter isLetter validLength itemCount number binary bitsOf bytesOf zeroArray freshReceiver isLength storeAt
 moved-computed = (
   record { counts = refl; leads = refl },
   (

@@ -22,7 +22,7 @@ sender L newer run opening next finished =
     record { setup = record { k = 240; length = L }; newer = newer; run = run; opening = opening; next = next; finished = finished }
 
 -- a receiver with nothing held: the row, the return bit, the items taken, whether the end is, and what it is doing
-abbrev pub receiver : (row : ℕ) → Bool → (taken : ℕ) → Bool → Phase → Receiver
+abbrev pub receiver : (bad-row : ℕ) → Bool → (taken : ℕ) → Bool → Phase → Receiver
 receiver row back taken ended phase = blank (freshReceiver 240) row back taken ended phase
 
 -- in step with return bit 0

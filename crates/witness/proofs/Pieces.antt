@@ -10,11 +10,11 @@ use Rattle.block.specs.Answer.{done}
 use Rattle.block.specs.Lengths.{isLength}
 use Rattle.block.specs.Block.{blockBits, verdict, syncBlock}
 use Rattle.line.specs.Order.{letter, letterA, letterB, isLetter}
-use Rattle.line.specs.Receiving.{freshReceiver, noBytes, found, accepts, place, serviceRule, looksSync, judge, blank, inStep, readings, receiverInRange, receive, storeAt}
+use Rattle.line.specs.Receiving.{freshReceiver, zeroArray, sequence-found, accepts, place, serviceRule, looksSync, judge, blank, inStep, reception, receiverInRange, receive, storeAt}
 use Rattle.line.specs.Pieces.{Piece, call, Pieces}
 use Rattle.line.specs.declared.receiver.Receiver.{Receiver}
 use Rattle.line.specs.declared.receiving.Phase.the-variants as P
-use Rattle.line.proofs.Delivery.Holding.{length-noBytes}
+use Rattle.line.proofs.Delivery.Holding.{length-zeroArray}
 use Rattle.line.proofs.Pieces.{pieces}
 
 abbrev block : ℕ → Bits
@@ -33,12 +33,12 @@ all = record { line = bytesOf 40 (earlier ++ drop 20 (syncBlock 240)); count = 3
 
 -- found at the last bit
 pub search-split : call searches [] all
-    ≡ record { answer = done (record { rule = found; row = []; used = 320; state = blank searches 0 false 2 false P.InStep }); store = [] }
-unfolding Pieces receive receiverInRange readings blockBits syncBlock check remainder number binary bitsOf bytesOf noBytes freshReceiver isLength
+    ≡ record { answer = done (record { rule = sequence-found; row = []; used = 320; state = blank searches 0 false 2 false P.InStep }); store = [] }
+unfolding Pieces receive receiverInRange reception blockBits syncBlock check remainder number binary bitsOf bytesOf zeroArray freshReceiver isLength
 search-split =
     pieces searches [] all (record { line = bytesOf 10 earlier; count = 80 })
     (record { line = bytesOf 30 (drop 20 (syncBlock 240)); count = 240 } ∷ [])
-    length-noBytes refl refl refl
+    length-zeroArray refl refl refl
 
 -- ---- in step: 100 bits of a data block, its other 160, and 40 bits of the block behind it, which are not looked at
 
@@ -63,5 +63,5 @@ pub step-split : call stepping (replicate 30 255) joint
       answer = done (record { rule = accepts; row = block letterA; used = 260; state = blank stepping 0 false 1 false P.InStep });
       store = replicate 30 0;
     }
-unfolding Pieces receive receiverInRange readings inStep judge looksSync verdict passes remainder check blockBits serviceRule place letter isLetter number binary bitsOf bytesOf noBytes freshReceiver isLength storeAt
-step-split = pieces stepping (replicate 30 255) joint first further length-noBytes refl refl refl
+unfolding Pieces receive receiverInRange reception inStep judge looksSync verdict passes remainder check blockBits serviceRule place letter isLetter number binary bitsOf bytesOf zeroArray freshReceiver isLength storeAt
+step-split = pieces stepping (replicate 30 255) joint first further length-zeroArray refl refl refl

@@ -15,18 +15,18 @@ use Rattle.witness.proofs.Meets.{sameBits, entryMeets, eachMeets, Other
 
 -- what a call did: its refusal; or the block sent, the reading, the return bit then standing and whether the copy is as
 -- sent; or the event and the number of bits used
-pub data Told : Type 0 where
-  refuses : ℕ → Told
-  sends : (block : Block) (reading back as-sent : Bool) → Told
-  hears : Event → ℕ → Told
+pub data Guaranteed : Type 0 where
+  refuses : ℕ → Guaranteed
+  sends : (block : Block) (reading back as-sent : Bool) → Guaranteed
+  hears : Event → ℕ → Guaranteed
 
-abbrev tell : Entry → Told
+abbrev tell : Entry → Guaranteed
 tell (send-refused n) = refuses n
 tell (receive-refused n) = refuses n
 tell (sent x) = sends (x .block) (x .reading) (x .back) (sameBits (x .arrives) (x .bits))
 tell (heard y) = hears (eventOf y) (y .used)
 
-abbrev tellAll : List Entry → List Told
+abbrev tellAll : List Entry → List Guaranteed
 tellAll [] = []
 tellAll (e ∷ es) = tell e ∷ tellAll es
 
@@ -37,9 +37,9 @@ pub record Tally : Type 0 where
   pub spaced : Bool
   pub alarm : Bool
   pub pending : Bool
-  pub told : List Told
+  pub told : List Guaranteed
 
-abbrev pub tallied : (met spaced alarm pending : Bool) → List Told → Tally
+abbrev pub tallied : (met spaced alarm pending : Bool) → List Guaranteed → Tally
 tallied met spaced alarm pending told = record { met = met; spaced = spaced; alarm = alarm; pending = pending; told = told }
 
 abbrev pub tally : ℕ → Bits → Bool → List Entry → Tally
@@ -63,7 +63,7 @@ some-append f (e ∷ a) b = ap (λ (t : Bool). f e || t) (some-append f a b) ∙
 
 tellAll-append : (a b : List Entry) → tellAll (a ++ b) ≡ tellAll a ++ tellAll b
 tellAll-append [] b = refl
-tellAll-append (e ∷ a) b = ap (λ (l : List Told). tell e ∷ l) (tellAll-append a b)
+tellAll-append (e ∷ a) b = ap (λ (l : List Guaranteed). tell e ∷ l) (tellAll-append a b)
 
 tally-append : (k : ℕ) (content : Bits) (p : Bool) (a b : List Entry)
     → tally k content p (a ++ b) ≡ both (tally k content p a) (tally k content (pendsAll p a) b)

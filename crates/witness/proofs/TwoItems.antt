@@ -18,8 +18,8 @@ abbrev pub block : ℕ → Bits
 block i = itemBits 240 480 content i
 
 -- the store as first lent, with item 0 in it, with both items in it
-abbrev pub first : List ℕ
-first = replicate 61 9
+abbrev pub initialStore : List ℕ
+initialStore = replicate 61 9
 
 abbrev pub one : List ℕ
 one = replicate 30 1 ++ replicate 31 9
@@ -28,4 +28,4 @@ abbrev pub two : List ℕ
 two = replicate 30 1 ++ (replicate 30 2 ++ replicate 1 9)
 
 abbrev pub w₀ : World
-w₀ = opened (freshSender 240 480) (freshReceiver 240) first
+w₀ = opened (freshSender 240 480) (freshReceiver 240) initialStore

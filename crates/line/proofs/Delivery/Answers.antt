@@ -7,7 +7,7 @@ use Prim.Native.Nat.{ℕ}
 use Rattle.crc.specs.Bits.{Bits}
 use Rattle.block.specs.Answer.{Answer, refused, done}
 use Rattle.line.specs.Sending.{Block, synchronising, item, send, sendState, sendBytes, sentAnswer, Send}
-use Rattle.line.specs.Receiving.{meaning, Reading, receive, receiveState, receiveStore, reported, receivedAnswer, Receive}
+use Rattle.line.specs.Receiving.{meaning, Reception, receive, receiveState, receiveStore, reported, receivedAnswer, Receive}
 use Rattle.line.specs.Course.{Call, sending, receiving, World, sendAfter, receiveAfter, next, Result, result, results, Run, none, sends, receives, observed}
 use Rattle.line.specs.declared.sender.Sender.{Sender}
 use Rattle.line.specs.declared.sender.Step as SenderStep
@@ -30,11 +30,11 @@ receiver-sent : (w : World) (reading : Bool) (arrives : Bits) (a : Answer Block)
 receiver-sent w reading arrives (refused n) = refl
 receiver-sent w reading arrives (done b) = refl
 
-sender-heard : (w : World) (store : List ℕ) (a : Answer Reading) → receiveAfter w store a .sender ≡ w .sender
+sender-heard : (w : World) (store : List ℕ) (a : Answer Reception) → receiveAfter w store a .sender ≡ w .sender
 sender-heard w store (refused n) = refl
 sender-heard w store (done x) = refl
 
-receiver-heard : (w : World) (store : List ℕ) (a : Answer Reading)
+receiver-heard : (w : World) (store : List ℕ) (a : Answer Reception)
     → receiveAfter w store a .receiver ≡ receiveState (w .receiver) a
 receiver-heard w store (refused n) = refl
 receiver-heard w store (done x) = refl
@@ -84,11 +84,11 @@ sent-of (refused n) = refl
 sent-of (done synchronising) = refl
 sent-of (done (item i end used cancel)) = refl
 
-receivedOf : Answer Reading → Received
+receivedOf : Answer Reception → Received
 receivedOf (refused n) = R.Refused n
 receivedOf (done x) = R.Used (meaning (x .rule) .event) (x .used)
 
-received-of : (a : Answer Reading) → receivedAnswer (receivedOf a) ≡ reported a
+received-of : (a : Answer Reception) → receivedAnswer (receivedOf a) ≡ reported a
 unfolding receivedOf
 received-of (refused n) = refl
 received-of (done x) = refl

@@ -12,7 +12,7 @@ use Rattle.block.specs.Answer.{Answer, done}
 use Rattle.block.specs.Lengths.{isLength, blockLength}
 use Rattle.block.proofs.Lengths.{length-facts}
 use Rattle.line.specs.Order.{mostItems}
-use Rattle.line.specs.Receiving.{arrayBytes, lastBad, Rule, unfinished, standing, found, sync-block, check-fails, accepts, previous, out-of-sequence, ends, wrong-length, ends-again, anything-else, meaning, judge, after, heldBits, Reading, stops, holding, missing, inStep, readings, heldInRange, receiverInRange, judgeStore, receive, receiveState}
+use Rattle.line.specs.Receiving.{arrayBytes, lastBad, Rule, unfinished, standing, sequence-found, sync-block, check-fails, accepts, previous, out-of-sequence, ends, wrong-length, ends-again, anything-else, meaning, judge, after, heldBits, Reception, stops, holding, missing, inStep, reception, heldInRange, receiverInRange, judgeStore, receive, receiveState}
 use Rattle.line.specs.declared.receiver.Receiver.{Receiver}
 use Rattle.line.specs.declared.receiving.Phase.{Phase}
 use Rattle.line.specs.declared.receiving.Phase.the-variants as P
@@ -20,7 +20,7 @@ use Rattle.line.proofs.Delivery.Judging.{Judged, as-sync, fails, as-dat
 use Rattle.line.proofs.Delivery.Holding.{length-holding, heldBits-holding}
 
 -- one call for each bit, each given the state that the last handed back; the last call's answer
-abbrev pub bitByBit : Receiver → List ℕ → Bits → Answer Reading → Answer Reading
+abbrev pub bitByBit : Receiver → List ℕ → Bits → Answer Reception → Answer Reception
 bitByBit s store [] last = last
 bitByBit s store (b ∷ bs) last =
     bitByBit (receiveState s (receive s (bytesOf 1 (b ∷ [])) 1 store)) store bs (receive s (bytesOf 1 (b ∷ [])) 1 store)
@@ -28,7 +28,7 @@ bitByBit s store (b ∷ bs) last =
 -- in step, and so many bits of the block missing
 pub record Waiting (s : Receiver) (m : ℕ) : Type 0 where
   pub known : isLength (s .setup .k) ≡ true
-  pub row : s .row < lastBad
+  pub bad-row : s .«bad_row» < lastBad
   pub taken : s .taken ≤ mostItems
   pub phase : s .phase ≡ P.InStep
   pub array : length (s .bits) ≡ arrayBytes
@@ -37,7 +37,7 @@ pub record Waiting (s : Receiver) (m : ℕ) : Type 0 where
 in-range : (s : Receiver) (m : ℕ) → Waiting s (suc m) → receiverInRange s ≡ true
 unfolding receiverInRange
 in-range s m w =
-    ap₂ _&&_ (ap₂ _&&_ (ap₂ _&&_ (w .known) (lt-ltb (s .row) lastBad (w .row))) (le-leb (s .taken) mostItems (w .taken)))
+    ap₂ _&&_ (ap₂ _&&_ (ap₂ _&&_ (w .known) (lt-ltb (s .«bad_row») lastBad (w .bad-row))) (le-leb (s .taken) mostItems (w .taken)))
     (ap (λ (p : Phase). heldInRange p (blockLength (s .setup .k)) (s .held)) (w .phase)
     ∙ lt-ltb (s .held) (blockLength (s .setup .k)) (omega (arith, w .held)))
 
@@ -48,12 +48,12 @@ bit-lent false = refl
 
 one-call : (s : Receiver) (b : Bool) (store : List ℕ) → receiverInRange s ≡ true → s .phase ≡ P.InStep
     → receive s (bytesOf 1 (b ∷ [])) 1 store ≡ judgeStore s store (inStep s (b ∷ []))
-unfolding receive readings
+unfolding receive reception
 one-call s b store range phase =
     rw (range, le-ltb (8 * length (bytesOf 1 (b ∷ []))) 1 (omega (arith, length-bytesOf 1 (b ∷ []))), bit-lent b, phase)
 
 module _ (s : Receiver) (b : Bool) where
-  abbrev oneMore : Reading
+  abbrev oneMore : Reception
   oneMore = record { rule = unfinished; row = []; used = 1; state = holding s (b ∷ []) }
 
   -- not the block's last
@@ -66,7 +66,7 @@ module _ (s : Receiver) (b : Bool) where
   waits-on m w =
       record {
         known = w .known;
-        row = w .row;
+        bad-row = w .bad-row;
         taken = w .taken;
         phase = w .phase;
         array = length-holding s (b ∷ []);
@@ -88,7 +88,7 @@ after-holding s new {x} (as-data h) = data-or-end x h
     data-or-end : (x : Rule) → meaning x .data-or-end ≡ true → after (holding s new) x ≡ after s x
     data-or-end unfinished e = absurd (false≢true e)
     data-or-end (standing alarm) e = absurd (false≢true e)
-    data-or-end found e = refl
+    data-or-end sequence-found e = refl
     data-or-end sync-block e = refl
     data-or-end check-fails e = refl
     data-or-end accepts e = refl
@@ -101,7 +101,7 @@ after-holding s new {x} (as-data h) = data-or-end x h
 after-holding s new as-other = refl
 
 -- what the whole block comes to, at its last bit
-abbrev pub finished : Receiver → List ℕ → Bits → Answer Reading
+abbrev pub finished : Receiver → List ℕ → Bits → Answer Reception
 finished s store row = judgeStore s store (stops s (judge (s .setup .k) (s .taken) (s .ended) row) row 1)
 
 finished-holding : (s : Receiver) (store : List ℕ) (new row row′ : Bits) → row ≡ row′ → finished (holding s new) store row ≡ finished s store row′
@@ -113,12 +113,12 @@ finished-holding s store new row row′ e =
     rule : Rule
     rule = judge (s .setup .k) (s .taken) (s .ended) row′
 
-pub bit-by-bit : (s : Receiver) (store : List ℕ) (b : Bool) (row : Bits) (last : Answer Reading) → Waiting s (length (b ∷ row))
+pub bit-by-bit : (s : Receiver) (store : List ℕ) (b : Bool) (row : Bits) (last : Answer Reception) → Waiting s (length (b ∷ row))
     → bitByBit s store (b ∷ row) last ≡ finished s store (heldBits s ++ (b ∷ row))
 bit-by-bit s store b [] last w =
     one-call s b store (in-range s 0 w) (w .phase) ∙ ap (judgeStore s store) (bit-last s b w)
 bit-by-bit s store b (c ∷ row) last w =
-    ap (λ (a : Answer Reading). bitByBit (receiveState s a) store (c ∷ row) a)
+    ap (λ (a : Answer Reception). bitByBit (receiveState s a) store (c ∷ row) a)
     (one-call s b store (in-range s (length (c ∷ row)) w) (w .phase) ∙ ap (judgeStore s store) (bit-held s b (length row) w))
     ∙ bit-by-bit (holding s (b ∷ [])) store c row (done (oneMore s b)) (waits-on s b (length row) w)
     ∙ finished-holding s store (b ∷ []) (heldBits (holding s (b ∷ [])) ++ (c ∷ row)) (heldBits s ++ (b ∷ (c ∷ row)))

@@ -24,7 +24,7 @@ pub record Ends : Type 0 where
   pub opening : ℕ
   pub finished : ℕ
   pub search : ℕ
-  pub row : ℕ
+  pub bad-row : ℕ
   pub back : ℕ  -- the return bit
   pub taken : ℕ  -- r
   pub ended : ℕ
@@ -39,7 +39,7 @@ pub data LineBlock : Type 0 where
 
 pub record SameReceiver (s t : Ends) : Type 0 where
   pub search : t .search ≡ s .search
-  pub row : t .row ≡ s .row
+  pub bad-row : t .bad-row ≡ s .bad-row
   pub back : t .back ≡ s .back
   pub taken : t .taken ≡ s .taken
   pub ended : t .ended ≡ s .ended
@@ -82,7 +82,7 @@ pub data Sends (N : ℕ) (s : Ends) (reading : ℕ) (t : Ends) : Next → Next �
 -- in step with return 0, the row cleared: r items taken, the end taken (1) or not (0), in danger or not
 pub record InStep (t : Ends) (r end d : ℕ) : Type 0 where
   pub search : t .search ≡ 0
-  pub row : t .row ≡ 0
+  pub bad-row : t .bad-row ≡ 0
   pub back : t .back ≡ 0
   pub taken : t .taken ≡ r
   pub ended : t .ended ≡ end
@@ -92,7 +92,7 @@ pub record InStep (t : Ends) (r end d : ℕ) : Type 0 where
 -- return 1, in search (1) or in step (0), with a row
 pub record Rejected (s t : Ends) (h ρ : ℕ) : Type 0 where
   pub search : t .search ≡ h
-  pub row : t .row ≡ ρ
+  pub bad-row : t .bad-row ≡ ρ
   pub back : t .back ≡ 1
   pub taken : t .taken ≡ s .taken
   pub ended : t .ended ≡ s .ended
@@ -107,7 +107,7 @@ pub record Alarms (s t : Ends) (d : ℕ) : Type 0 where
   pub danger : t .danger ≡ d
 
 -- in step, no alarm standing
-pub record Reading (s : Ends) : Type 0 where
+pub record Synchronised (s : Ends) : Type 0 where
   pub alarm : s .alarm ≡ 0
   pub search : s .search ≡ 0
 
@@ -117,28 +117,28 @@ NotWhole f = (f ≡ sync) ⊎ ((i : ℕ) × (f ≡ item i 0))
 
 -- the reading of one block to its last bit, with the event that it comes to
 pub data Reads (N : ℕ) (s t : Ends) : LineBlock → Event → Type 0 where
-  stands : {f : LineBlock} {e : Event} → SameSender s t → Alarms s t (s .danger) → s .alarm ≡ 1 → Reads N s t f e
+  under-alarm : {f : LineBlock} {e : Event} → SameSender s t → Alarms s t (s .danger) → s .alarm ≡ 1 → Reads N s t f e
   searches : {f : LineBlock} → SameSender s t → SameReceiver s t → t .danger ≡ s .danger → s .alarm ≡ 0 → s .search ≡ 1
       → Reads N s t f E.None
   syncs : SameSender s t → s .alarm ≡ 0 → InStep t (s .taken) (s .ended) (s .danger) → Reads N s t sync E.Sync
   -- rule 2, or rule 7 of a synchronising block
-  bad-step : {f : LineBlock} → SameSender s t → Reading s → s .row < 7 → NotWhole f → Rejected s t 0 (s .row + 1)
+  bad-step : {f : LineBlock} → SameSender s t → Synchronised s → s .bad-row < 7 → NotWhole f → Rejected s t 0 (s .bad-row + 1)
       → Reads N s t f E.Bad
-  bad-eighth : {f : LineBlock} → SameSender s t → Reading s → s .row ≡ 7 → NotWhole f → Rejected s t 1 0
+  bad-eighth : {f : LineBlock} → SameSender s t → Synchronised s → s .bad-row ≡ 7 → NotWhole f → Rejected s t 1 0
       → Reads N s t f E.Bad
-  bad-first : SameSender s t → Reading s → s .taken ≡ 0 → Rejected s t 1 0 → Reads N s t sync E.Bad
+  bad-first : SameSender s t → Synchronised s → s .taken ≡ 0 → Rejected s t 1 0 → Reads N s t sync E.Bad
   -- rules 3 to 6 of a data or end block that arrives whole
-  accepts : {i : ℕ} → SameSender s t → Reading s → i < N → s .ended ≡ 0 → i ≡ s .taken → InStep t (s .taken + 1) 0 0
+  accepts : {i : ℕ} → SameSender s t → Synchronised s → i < N → s .ended ≡ 0 → i ≡ s .taken → InStep t (s .taken + 1) 0 0
       → Reads N s t (item i 1) E.Accepted
-  repeats : {i : ℕ} → SameSender s t → Reading s → i < N → s .ended ≡ 0 → i + 1 ≡ s .taken → InStep t (s .taken) 0 0
+  repeats : {i : ℕ} → SameSender s t → Synchronised s → i < N → s .ended ≡ 0 → i + 1 ≡ s .taken → InStep t (s .taken) 0 0
       → Reads N s t (item i 1) E.Previous
-  out-of-sequence : {i : ℕ} → SameSender s t → Reading s → i < N → s .ended ≡ 0 → i ≡ s .taken + 1 → Alarms s t 0
+  out-of-sequence : {i : ℕ} → SameSender s t → Synchronised s → i < N → s .ended ≡ 0 → i ≡ s .taken + 1 → Alarms s t 0
       → Reads N s t (item i 1) E.SequenceAlarm
-  ends : {i L : ℕ} → SameSender s t → Reading s → N ≤ i → s .ended ≡ 0 → s .taken ≡ N → InStep t (s .taken) 1 0
+  ends : {i L : ℕ} → SameSender s t → Synchronised s → N ≤ i → s .ended ≡ 0 → s .taken ≡ N → InStep t (s .taken) 1 0
       → Reads N s t (item i 1) (E.Ended L)
-  ends-again : {i : ℕ} → SameSender s t → Reading s → N ≤ i → s .ended ≡ 1 → InStep t (s .taken) 1 0
+  ends-again : {i : ℕ} → SameSender s t → Synchronised s → N ≤ i → s .ended ≡ 1 → InStep t (s .taken) 1 0
       → Reads N s t (item i 1) E.Previous
-  wrong-length : {i : ℕ} → SameSender s t → Reading s → N ≤ i → s .ended ≡ 0 → (s .taken ≡ N → ⊥) → Alarms s t 0
+  wrong-length : {i : ℕ} → SameSender s t → Synchronised s → N ≤ i → s .ended ≡ 0 → (s .taken ≡ N → ⊥) → Alarms s t 0
       → Reads N s t (item i 1) E.LengthAlarm
 
 -- ---- the invariant
@@ -156,14 +156,14 @@ pub record Basic (N : ℕ) (s : Ends) : Type 0 where
 -- what holds while no alarm stands, between blocks (what is next: n)
 pub record Between (s : Ends) (n : Next) : Type 0 where
   pub alarm : s .alarm ≡ 0
-  pub row : s .row ≤ 7
+  pub bad-row : s .bad-row ≤ 7
   pub search : s .search ≤ 1
   pub back : s .back ≤ 1
-  pub zero : s .row + 8 * s .search ≤ 8 * s .back
+  pub zero : s .bad-row + 8 * s .search ≤ 8 * s .back
   pub behind : s .taken + s .ended ≤ s .item
   pub ahead : s .item ≤ s .taken + s .ended + 1 + s .danger
   pub ready : s .item + 2 * isNewer n ≤ s .taken + s .ended + 2 * s .back + 2
-  pub rows : s .row ≤ 2 * s .run + isNewer n + 8 * s .opening + 8 * s .lost
+  pub rows : s .bad-row ≤ 2 * s .run + isNewer n + 8 * s .opening + 8 * s .lost
   pub searches : 8 * s .search ≤ 2 * s .run + isNewer n + 8 * s .opening + 8 * s .lost
   pub resync : 4 * isSync n ≤ s .run + 4 * s .opening + 4 * s .lost
 
@@ -176,13 +176,13 @@ pub data FromPair (N : ℕ) (s : Ends) : Next → LineBlock → Type 0 where
 
 pub record During (s : Ends) (n : Next) : Type 0 where
   pub alarm : s .alarm ≡ 0
-  pub row : s .row ≤ 7
+  pub bad-row : s .bad-row ≤ 7
   pub search : s .search ≤ 1
   pub back : s .back ≤ 1
-  pub zero : s .row + 8 * s .search ≤ 8 * s .back
+  pub zero : s .bad-row + 8 * s .search ≤ 8 * s .back
   pub behind : s .taken + s .ended ≤ s .item
   pub ahead : s .item ≤ s .taken + s .ended + 1 + s .danger
-  pub rows : s .row + 1 ≤ 2 * s .run + isNewer n + 8 * s .opening + 8 * s .lost
+  pub rows : s .bad-row + 1 ≤ 2 * s .run + isNewer n + 8 * s .opening + 8 * s .lost
   pub searches : 8 * s .search ≤ 2 * s .run + isNewer n + 8 * s .opening + 8 * s .lost
   pub resync : 4 * isSync n ≤ s .run + 4 * s .opening + 4 * s .lost
 

@@ -14,7 +14,7 @@ use Rattle.block.specs.Lengths.{blockLength}
 use Rattle.block.specs.Block.{payloadOf, syncBlock}
 use Rattle.block.proofs.Truth.{or-no, and-no}
 use Rattle.line.specs.Order.{itemBits, itemPayload}
-use Rattle.line.specs.Receiving.{arrayBytes, lastBad, Rule, unfinished, meaning, EventKind, eventKind, after, Reading, stops, idleRule, heldInRange, storeAt}
+use Rattle.line.specs.Receiving.{arrayBytes, lastBad, Rule, unfinished, meaning, EventKind, eventKind, after, Reception, stops, idleRule, heldInRange, storeAt}
 use Rattle.line.specs.Course.{World, receiveEntry, receiveAfter}
 use Rattle.line.specs.Delivery.{isItem}
 use Rattle.line.specs.declared.receiver.Receiver.{Receiver}
@@ -30,7 +30,7 @@ use Rattle.line.proofs.Delivery.Progress.{ending, endingWith}
 use Rattle.line.proofs.Delivery.Reading.{After, after-is, none-held, held-none}
 use Rattle.line.proofs.Delivery.Ruling.{Ruling}
 use Rattle.line.proofs.Delivery.Storing.{store-takes, store-after}
-use Rattle.line.proofs.Delivery.State.{Session, N, Fit, alarmStands, endsOf, Held, Stored, Base, BusyLine, Okay, Told, Result}
+use Rattle.line.proofs.Delivery.State.{Session, N, Fit, alarmStands, endsOf, Held, Stored, Base, BusyLine, Assumed, Guaranteed, Result}
 use Rattle.line.proofs.Delivery.State as S
 
 -- ---- a rule that ends no block
@@ -59,7 +59,7 @@ not-danger alarm x q good d =
 pub record Still (o : Session) (r t : Receiver) : Type 0 where
   pub k : t .setup .k ≡ o .k
   pub array : length (t .bits) ≡ arrayBytes
-  pub row : t .row < lastBad
+  pub bad-row : t .«bad_row» < lastBad
   pub held : heldInRange (t .phase) (blockLength (o .k)) (t .held) ≡ true
   pub taken : t .taken ≡ r .taken
   pub ended : t .ended ≡ r .ended
@@ -67,15 +67,15 @@ pub record Still (o : Session) (r t : Receiver) : Type 0 where
 
 pub still-same : (o : Session) (w : World) → Base o w → Still o (w .receiver) (w .receiver)
 still-same o w b = record
-    { k = b .k; array = b .array; row = b .row; held = b .held; taken = refl; ended = refl; phase = refl }
+    { k = b .k; array = b .array; bad-row = b .bad-row; held = b .held; taken = refl; ended = refl; phase = refl }
 
 -- what such a call tells
 pub still-told : (o : Session) (w : World) (l : ℕ) → Base o w → (lent : Bits) (store : List ℕ) → store ≡ w .store
     → (x : Rule) (n : ℕ) (t : Receiver)
     → Quiet (alarmStands (w .receiver .phase)) x → Still o (w .receiver) t
     → (alarmStands (w .receiver .phase) ≡ true → l ≡ 1)
-    → let y : Reading = record { rule = x; row = []; used = n; state = t } in
-    Told o w l (receiveEntry w lent store (done y)) (receiveAfter w store (done y))
+    → let y : Reception = record { rule = x; row = []; used = n; state = t } in
+    Guaranteed o w l (receiveEntry w lent store (done y)) (receiveAfter w store (done y))
 still-told o w l base lent store same x n t q s lost =
     record {
       base = record {
@@ -84,7 +84,7 @@ still-told o w l base lent store same x n t q s lost =
         run = base .run;
         k = s .k;
         array = s .array;
-        row = s .row;
+        bad-row = s .bad-row;
         held = s .held;
         stored = subst₂ (λ (m : ℕ) (z : List ℕ). Stored o m z) (sym (s .taken)) (sym kept) (base .stored);
       };
@@ -115,7 +115,7 @@ empty-or-not (b ∷ row) = inr (λ e. let z : _≡_ {A = ℕ} 0 1 = cc in omega 
 module _ (o : Session) (fit : Fit o) (w : World) (l d : ℕ) (copy : Bits) (f : LineBlock) (line : BusyLine o w l d copy f)
     (base : Base o w)
     (lent : Bits) (store : List ℕ) (same : store ≡ w .store) where
-  abbrev pub After-call : Reading → Type 0
+  abbrev pub After-call : Reception → Type 0
   After-call y = Result o w l d copy f (receiveEntry w lent store (done y)) (receiveAfter w store (done y))
 
   pub alarm-lost : alarmStands (w .receiver .phase) ≡ true → l ≡ 1
@@ -175,7 +175,7 @@ module _ (o : Session) (fit : Fit o) (w : World) (l d : ℕ) (copy : Bits) (f : 
                 (λ a. ap (λ (m : ℕ). S.ends (w .sender) t l m) danger-kept ∙ ends-same a),
               ))
               (empty-or-not later);
-          told = still-told o w l base lent store same x n t q s alarm-lost;
+          guaranteed = still-told o w l base lent store same x n t q s alarm-lost;
         }
 
   -- the rule that ends the block
@@ -219,14 +219,14 @@ module _ (o : Session) (fit : Fit o) (w : World) (l d : ℕ) (copy : Bits) (f : 
             news = refl;
             clean = λ p c z. g .clean p c;
           });
-          told = record {
+          guaranteed = record {
             base = record {
               sender-k = base .sender-k;
               sender-L = base .sender-L;
               run = base .run;
               k = ap (λ (z : Setup). z .k) (a .setup) ∙ base .k;
               array = a .array;
-              row = a .row;
+              bad-row = a .bad-row;
               held = ap (heldInRange (after (w .receiver) x .phase) (blockLength (o .k))) (a .held)
                   ∙ none-held (after (w .receiver) x .phase) (o .k);
               stored = store-after o (w .receiver .taken) (after (w .receiver) x .taken) (meaning x .stores) _ store
@@ -244,10 +244,10 @@ module _ (o : Session) (fit : Fit o) (w : World) (l d : ℕ) (copy : Bits) (f : 
 -- ---- any reading of a call while a block is on the line
 
 -- where what is supposed of its entry holds, the call does what it should
-abbrev pub ReadingKept : (o : Session) (w : World) (l d : ℕ) (copy : Bits) (f : LineBlock) (lent : Bits) (store : List ℕ)
-    → Reading → Type 0
-ReadingKept o w l d copy f lent store y =
-    Okay o (alarmStands (w .receiver .phase)) d (receiveEntry w lent store (done y))
+abbrev pub ReceptionKept : (o : Session) (w : World) (l d : ℕ) (copy : Bits) (f : LineBlock) (lent : Bits) (store : List ℕ)
+    → Reception → Type 0
+ReceptionKept o w l d copy f lent store y =
+    Assumed o (alarmStands (w .receiver .phase)) d (receiveEntry w lent store (done y))
     → Result o w l d copy f (receiveEntry w lent store (done y)) (receiveAfter w store (done y))
 
 pub none-of-length : (row : Bits) → length row ≡ 0 → row ≡ []

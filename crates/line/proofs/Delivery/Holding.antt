@@ -7,7 +7,7 @@ use lib.ListN.{length, take, drop, length-append, length-drop, length-replicate}
 use lib.Seq.{length-take-le, take-at, drop-at}
 use Rattle.crc.specs.Bits.{Bits, zeros, bitsOf, bytesOf}
 use Rattle.crc.proofs.Bytes.{length-bitsOf, bitsOf-append, length-bytesOf, bitsOf-bytesOf}
-use Rattle.line.specs.Receiving.{arrayBytes, noBytes, heldBits, searching, overwrite, holding, storeAt}
+use Rattle.line.specs.Receiving.{arrayBytes, zeroArray, heldBits, searching, overwrite, holding, storeAt}
 use Rattle.line.specs.declared.receiver.Receiver.{Receiver}
 
 -- ---- a row over a row
@@ -52,9 +52,9 @@ bitsOf-exact m row h =
 
 -- ---- the receiver's array
 
-pub length-noBytes : length noBytes ≡ arrayBytes
-unfolding noBytes
-length-noBytes = length-replicate {A = ℕ} arrayBytes 0
+pub length-zeroArray : length zeroArray ≡ arrayBytes
+unfolding zeroArray
+length-zeroArray = length-replicate {A = ℕ} arrayBytes 0
 
 pub length-heldBits : (s : Receiver) → length (s .bits) ≡ arrayBytes → s .held ≤ 3864 → length (heldBits s) ≡ s .held
 length-heldBits s a h = length-take-le (s .held) (bitsOf (s .bits)) (omega (arith, length-bitsOf (s .bits)))

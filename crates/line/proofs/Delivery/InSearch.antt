@@ -11,7 +11,7 @@ use Rattle.crc.specs.Bits.{Bits, bit}
 use Rattle.block.specs.Lengths.{blockLength}
 use Rattle.block.specs.Block.{syncBlock}
 use Rattle.block.proofs.Truth.{bit-true}
-use Rattle.line.specs.Receiving.{unfinished, found, heldBits, Reading, stops, latest, searching, isSequence, search, heldInRange}
+use Rattle.line.specs.Receiving.{unfinished, sequence-found, heldBits, Reception, stops, latest, searching, isSequence, search, heldInRange}
 use Rattle.line.specs.Course.{World}
 use Rattle.line.specs.declared.sender.Sender.{Sender}
 use Rattle.line.specs.declared.receiver.Receiver.{Receiver}
@@ -24,7 +24,7 @@ use Rattle.line.proofs.Delivery.Holding.{length-searching, heldBits-sea
 use Rattle.line.proofs.Delivery.Scanning.{latest16, length-latest, GoesOn, search-reads, sync-ends}
 use Rattle.line.proofs.Delivery.Reading.{same-sender}
 use Rattle.line.proofs.Delivery.Ruling.{found-ruling, sync-line-block}
-use Rattle.line.proofs.Delivery.Hearing.{ReadingKept, whole-copy, search-step, quiet-unfinished, pass, finish}
+use Rattle.line.proofs.Delivery.Hearing.{ReceptionKept, whole-copy, search-step, quiet-unfinished, pass, finish}
 use Rattle.line.proofs.Delivery.State.{Session, N, Fit, inSearch, alarmStands, endsOf, Base, BusyLine}
 use Rattle.line.proofs.Delivery.State as S
 
@@ -37,7 +37,7 @@ search-ends s r window l d e =
       setup = r .setup;
       bits = r .bits;
       held = r .held;
-      row = r .row;
+      «bad_row» = r .«bad_row»;
       back = b;
       taken = r .taken;
       ended = r .ended;
@@ -49,8 +49,8 @@ module _ (o : Session) (fit : Fit o) (w : World) (l d : ℕ) (copy : Bits) (f : 
   abbrev r : Receiver
   r = w .receiver
 
-  abbrev So : Reading → Type 0
-  So y = ReadingKept o w l d copy f lent store y
+  abbrev Kept : Reception → Type 0
+  Kept y = ReceptionKept o w l d copy f lent store y
 
   module _ (searches : r .phase ≡ P.Search) where
     quiet : alarmStands (r .phase) ≡ false
@@ -93,7 +93,7 @@ module _ (o : Session) (fit : Fit o) (w : World) (l d : ℕ) (copy : Bits) (f : 
     ends-then = search-ends (w .sender) r (latest ((earlier ++ line .used) ++ lent)) l d back
 
     search-on : GoesOn r (earlier ++ line .used) lent 0
-        → So (record { rule = unfinished; row = []; used = 0 + length lent; state = then })
+        → Kept (record { rule = unfinished; row = []; used = 0 + length lent; state = then })
     search-on y ok =
         pass o fit w l d copy f line base lent store (ok .store) (ok .line .0) (ok .line .1) unfinished
         (0 + length lent) then (omega arith)
@@ -101,7 +101,7 @@ module _ (o : Session) (fit : Fit o) (w : World) (l d : ℕ) (copy : Bits) (f : 
         (record {
           k = base .k;
           array = length-searching r (latest ((earlier ++ line .used) ++ lent)) (base .array);
-          row = base .row;
+          bad-row = base .bad-row;
           held = in-range;
           taken = refl;
           ended = refl;
@@ -123,7 +123,7 @@ module _ (o : Session) (fit : Fit o) (w : World) (l d : ℕ) (copy : Bits) (f : 
           };
           reads =
               D.searches (same-sender (w .sender) r then l d d)
-              (record { search = refl; row = refl; back = ap bit (sym back); taken = refl; ended = refl; alarm = refl })
+              (record { search = refl; bad-row = refl; back = ap bit (sym back); taken = refl; ended = refl; alarm = refl })
               refl (ap bit quiet)
               (ap (λ (p : Phase). bit (inSearch p)) searches);
           clean = λ p c n. absurd (not-unharmed (ok .line .0) (ok .line .1) z (y .last) c);
@@ -137,16 +137,16 @@ module _ (o : Session) (fit : Fit o) (w : World) (l d : ℕ) (copy : Bits) (f : 
             ∙ le-leb (length (latest ((earlier ++ line .used) ++ lent))) 15
             (length-latest ((earlier ++ line .used) ++ lent))
 
-    search-found : (n : ℕ) → So (stops r found [] n)
+    search-found : (n : ℕ) → Kept (stops r sequence-found [] n)
     search-found n ok =
         let s = ok .sync-at-last refl in
-        finish o fit w l d copy f line base lent store (ok .store) found [] n (s .1) (λ e. absurd (false≢true e)) quiet
+        finish o fit w l d copy f line base lent store (ok .store) sequence-found [] n (s .1) (λ e. absurd (false≢true e)) quiet
         (found-ruling o fit w l d copy f line quiet (sync-line-block o fit w l d copy f line (s .0)))
 
-    pub in-search : So (search r (heldBits r) lent 0)
+    pub in-search : Kept (search r (heldBits r) lent 0)
     in-search =
-        subst So (sym (ap (λ (y : Bits). search r y lent 0) window))
+        subst Kept (sym (ap (λ (y : Bits). search r y lent 0) window))
         (⊎-elim
-        (λ y. subst So (sym (y .is)) (search-on y))
-        (λ y. subst So (sym (y .1)) (search-found (y .0)))
+        (λ y. subst Kept (sym (y .is)) (search-on y))
+        (λ y. subst Kept (sym (y .1)) (search-found (y .0)))
         (search-reads r (earlier ++ line .used) lent 0))

@@ -13,7 +13,7 @@ use Rattle.crc.specs.Bits.{Bits}
 use Rattle.block.specs.Lengths.{blockLength}
 use Rattle.block.proofs.Lengths.{length-facts}
 use Rattle.block.proofs.Truth.{cond-case}
-use Rattle.line.specs.Receiving.{Rule, unfinished, meaning, judge, Reading, stops, search, holding, missing, finishedRow, inStep, heldInRange}
+use Rattle.line.specs.Receiving.{Rule, unfinished, meaning, judge, Reception, stops, search, holding, missing, finishedRow, inStep, heldInRange}
 use Rattle.line.specs.Course.{World}
 use Rattle.line.specs.declared.receiver.Receiver.{Receiver}
 use Rattle.line.specs.declared.receiving.Phase.{Phase}
@@ -23,7 +23,7 @@ use Rattle.line.proofs.Delivery.Ends.{LineBlock}
 use Rattle.line.proofs.Delivery.Ends as D
 use Rattle.line.proofs.Delivery.Holding.{length-heldBits, length-holding, heldBits-holding}
 use Rattle.line.proofs.Delivery.Ruling.{Ruling, step-ruling}
-use Rattle.line.proofs.Delivery.Hearing.{ReadingKept, used-with, whole-copy, none-of-length, search-step, quiet-unfinished, pass, finish}
+use Rattle.line.proofs.Delivery.Hearing.{ReceptionKept, used-with, whole-copy, none-of-length, search-step, quiet-unfinished, pass, finish}
 use Rattle.line.proofs.Delivery.State.{Session, Fit, alarmStands, Base, BusyLine}
 use Rattle.line.proofs.Delivery.State as S
 
@@ -32,8 +32,8 @@ module _ (o : Session) (fit : Fit o) (w : World) (l d : ℕ) (copy : Bits) (f : 
   abbrev r : Receiver
   r = w .receiver
 
-  abbrev So : Reading → Type 0
-  So y = ReadingKept o w l d copy f lent store y
+  abbrev Kept : Reception → Type 0
+  Kept y = ReceptionKept o w l d copy f lent store y
 
   module _ (step : r .phase ≡ P.InStep) where
     held-below : r .held < blockLength (o .k)
@@ -49,7 +49,7 @@ module _ (o : Session) (fit : Fit o) (w : World) (l d : ℕ) (copy : Bits) (f : 
     missing-is = ap₂ (λ (k h : ℕ). blockLength k - h) (base .k) held-used
 
     step-on : ltb (length lent) (missing r) ≡ true
-        → So (record { rule = unfinished; row = []; used = length lent; state = holding r lent })
+        → Kept (record { rule = unfinished; row = []; used = length lent; state = holding r lent })
     step-on e ok =
         let t = length-facts (o .k) (fit .known) in
         let m = ltb-true (length lent) (missing r) e in
@@ -59,7 +59,7 @@ module _ (o : Session) (fit : Fit o) (w : World) (l d : ℕ) (copy : Bits) (f : 
         (record {
           k = base .k;
           array = length-holding r lent;
-          row = base .row;
+          bad-row = base .bad-row;
           held = in-range;
           taken = refl;
           ended = refl;
@@ -83,7 +83,7 @@ module _ (o : Session) (fit : Fit o) (w : World) (l d : ℕ) (copy : Bits) (f : 
     rule = judge (r .setup .k) (r .taken) (r .ended) (finishedRow r lent)
 
     step-end : ltb (length lent) (missing r) ≡ false
-        → So (stops r rule (finishedRow r lent) (missing r))
+        → Kept (stops r rule (finishedRow r lent) (missing r))
     step-end e ok =
         let m = ltb-false (length lent) (missing r) e in
         let n = used-with o w l d copy f line lent (ok .line .0) (ok .line .1) in
@@ -102,6 +102,6 @@ module _ (o : Session) (fit : Fit o) (w : World) (l d : ℕ) (copy : Bits) (f : 
         (λ s. ok .sync-at-last (ap (λ (x : Rule). meaning x .event) same ∙ s) .0)
         (λ b. ap (λ (x : Rule). meaning x .data-or-end) (sym same) ∙ ok .sync-not-data b)))
 
-    pub in-step : So (inStep r lent)
+    pub in-step : Kept (inStep r lent)
     unfolding inStep
-    in-step = cond-case So (ltb (length lent) (missing r)) step-on step-end
+    in-step = cond-case Kept (ltb (length lent) (missing r)) step-on step-end

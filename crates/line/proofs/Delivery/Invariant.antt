@@ -10,7 +10,7 @@ use Rattle.line.proofs.Delivery.Ends.{Ends, isNewer, isSync, LineBlock,
 use Rattle.line.proofs.Delivery.Ends as D
 
 pub opened-idle : (N : ℕ) (s : Ends) → s .item ≡ 1 → s .run ≡ 0 → s .opening ≡ 1 → s .finished ≡ 0 → s .search ≡ 1
-    → s .row ≡ 0 → s .back ≡ 1 → s .taken ≡ 0 → s .ended ≡ 0 → s .alarm ≡ 0 → s .lost ≡ 0 → s .danger ≡ 0 → Idle N s Sync
+    → s .bad-row ≡ 0 → s .back ≡ 1 → s .taken ≡ 0 → s .ended ≡ 0 → s .alarm ≡ 0 → s .lost ≡ 0 → s .danger ≡ 0 → Idle N s Sync
 opened-idle N s a b c d f g h i j k l m =
     record { basic = omega arith; all = λ y. absurd (omega arith); state = inr (omega arith) }
 
@@ -103,7 +103,7 @@ module _ {N : ℕ} {s t : Ends} {n : Next} where
   alarmed h q r d = record { basic = omega arith; all = all-kept (r .taken) (r .ended) (h .all); state = inl (omega arith) }
 
   pub read-keeps : {f : LineBlock} {e : Event} → Busy N s n f → Reads N s t f e → Idle N t n
-  read-keeps h (D.stands q r a) =
+  read-keeps h (D.under-alarm q r a) =
       ⊎-elim
       (λ b. record { basic = omega arith; all = all-kept (r .taken) (r .ended) (h .all); state = inl (omega arith) })
       (λ b. absurd (omega arith))

@@ -9,7 +9,7 @@ use Rattle.crc.specs.Bits.{bit}
 use Rattle.block.proofs.Truth.{or-true, or-false, or-no}
 use Rattle.line.specs.Course.{World, Call, Entry, entry, next, course, final}
 use Rattle.line.specs.Delivery.{All, some, count, isNew, isEnd, isAlarm, isLost, isGood, reportsEnd, OnLine, SameOrder, SameStore, Admitted, NotWhole, SyncAtLast, SyncNotData, OnlyRefused, Assumptions}
-use Rattle.line.proofs.Delivery.State.{Session, Fit, alarmStands, lost′, danger′, Inv, Okay, Keeps}
+use Rattle.line.proofs.Delivery.State.{Session, Fit, alarmStands, lost′, danger′, Inv, Assumed, Keeps}
 use Rattle.line.proofs.Delivery.OneCall.{call-keeps}
 use Rattle.line.proofs.Delivery.Spacing.{pends, spaced, spaced-head, spaced-tail, between-spaced}
 
@@ -18,7 +18,7 @@ use Rattle.line.proofs.Delivery.Spacing.{pends, spaced, spaced-head, sp
 -- from a state in which an alarm stands or not, and d says whether a loss pends
 abbrev pub Okays : Session → Bool → ℕ → List Entry → Type 0
 Okays o alarm d [] = Unit {0}
-Okays o alarm d (e ∷ es) = Okay o alarm d e × Okays o (alarm || isAlarm e) (danger′ d e) es
+Okays o alarm d (e ∷ es) = Assumed o alarm d e × Okays o (alarm || isAlarm e) (danger′ d e) es
 
 bit-pends : (p : Bool) (e : Entry) → bit (pends p e) ≡ danger′ (bit p) e
 bit-pends p e = go (isLost e) p (isGood e)
@@ -117,16 +117,16 @@ safe-call : (o : Session) (w w′ w″ : World) (l d : ℕ) (e : Entry) (es : Li
 safe-call o w w′ w″ l d e es y z =
     record {
       inv = z .inv;
-      taken = omega (arith, z .taken, y .told .taken, bit-cond (isNew e));
+      taken = omega (arith, z .taken, y .guaranteed .taken, bit-cond (isNew e));
       ended =
-          z .ended ∙ ap (λ (b : Bool). b || some isEnd es) (y .told .ended) ∙ or-assoc (w .receiver .ended) (isEnd e) (some isEnd es);
-      length = λ M h. ⊎-elim (y .told .length M) (z .length M) (or-true (reportsEnd M e) _ h);
+          z .ended ∙ ap (λ (b : Bool). b || some isEnd es) (y .guaranteed .ended) ∙ or-assoc (w .receiver .ended) (isEnd e) (some isEnd es);
+      length = λ M h. ⊎-elim (y .guaranteed .length M) (z .length M) (or-true (reportsEnd M e) _ h);
       alarm = lost-before;
-      refusals = (y .told .refusal, z .refusals);
+      refusals = (y .guaranteed .refusal, z .refusals);
     }
   where
     lost-before : (before behind : List Entry) (x : Entry) → e ∷ es ≡ before ++ (x ∷ behind) → isAlarm x ≡ true → losts l before ≡ 1
-    lost-before [] behind x q a = y .told .alarm-lost (let v : e ≡ x = cc in ap isAlarm v ∙ a)
+    lost-before [] behind x q a = y .guaranteed .alarm-lost (let v : e ≡ x = cc in ap isAlarm v ∙ a)
     lost-before (v ∷ before) behind x q a =
         let same : e ≡ v = cc in
         let more : es ≡ before ++ (x ∷ behind) = cc in
@@ -140,4 +140,4 @@ module _ (o : Session) (fit : Fit o) where
       let y = call-keeps o fit w l d h c (ok .0) in
       safe-call o w (next w c) (final (next w c) cs) l d (entry w c) (course (next w c) cs) y
       (safe cs (next w c) (lost′ l (entry w c)) (danger′ d (entry w c)) (y .inv)
-      (subst (λ (b : Bool). Okays o b (danger′ d (entry w c)) (course (next w c) cs)) (sym (y .told .alarm)) (ok .1)))
+      (subst (λ (b : Bool). Okays o b (danger′ d (entry w c)) (course (next w c) cs)) (sym (y .guaranteed .alarm)) (ok .1)))

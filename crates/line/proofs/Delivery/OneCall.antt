@@ -19,7 +19,7 @@ use Rattle.block.specs.Calls.{tooShort}
 use Rattle.block.proofs.Truth.{cond-case, or-false, or-no}
 use Rattle.line.specs.Order.{longestOrder, mostItems, validLength, itemCount, orderBits}
 use Rattle.line.specs.Sending.{Block, transmit, gaveUp, send, senderInRange, plainBits}
-use Rattle.line.specs.Receiving.{meaning, Reading, reading, idleRule, idle, readings, receive, receiverInRange, lastBad, heldInRange}
+use Rattle.line.specs.Receiving.{meaning, Reception, byPhase, idleRule, idle, reception, receive, receiverInRange, lastBad, heldInRange}
 use Rattle.line.specs.Course.{World, Call, sending, receiving, Heard, Entry, receive-refused, onHeard, sendEntry, sendAfter, receiveEntry, receiveAfter, entry, next}
 use Rattle.line.specs.Delivery.{OnlyRefused, isItem, isNew}
 use Rattle.line.specs.declared.sender.Sender.{Sender}
@@ -31,8 +31,8 @@ use Rattle.line.proofs.Delivery.Invariant.{send-keeps, read-keeps}
 use Rattle.line.proofs.Delivery.Sending.{sends-block, setup-kept, run-kept}
 use Rattle.line.proofs.Delivery.Ruling.{few}
 use Rattle.line.proofs.Delivery.Hearing.{quiet-idle, not-danger, still-same, still-told}
-use Rattle.line.proofs.Delivery.Splitting.{reading-told}
-use Rattle.line.proofs.Delivery.State.{Session, N, Fit, alarmStands, endsOf, lost′, danger′, Base, IdleLine, BusyLine, Inv, Okay, Told, Done, Result, Stays, Begins, Keeps}
+use Rattle.line.proofs.Delivery.Splitting.{reception-guaranteed}
+use Rattle.line.proofs.Delivery.State.{Session, N, Fit, alarmStands, endsOf, lost′, danger′, Base, IdleLine, BusyLine, Inv, Assumed, Guaranteed, Done, Result, Stays, Begins, Keeps}
 
 -- ---- how a call is answered, its state in range
 
@@ -40,9 +40,9 @@ pub data SendAnswered (s : Sender) (reading : Bool) : Answer Block → Type 0 wh
   refuses : {n : ℕ} → (n ≡ A.short) ⊎ (n ≡ Refusals.rest) → SendAnswered s reading (refused n)
   begins : s .finished ≡ false → gaveUp s ≡ false → SendAnswered s reading (done (transmit s (s .next) reading .block))
 
-pub data ReceiveAnswered (r : Receiver) (lent : Bits) (count : ℕ) : Answer Reading → Type 0 where
+pub data ReceiveAnswered (r : Receiver) (lent : Bits) (count : ℕ) : Answer Reception → Type 0 where
   refuses : ReceiveAnswered r lent count (refused A.short)
-  hears : length lent ≡ count → ReceiveAnswered r lent count (done (readings r lent count))
+  hears : length lent ≡ count → ReceiveAnswered r lent count (done (reception r lent count))
 
 in-range : {b : Bool} → b ≡ true → not b ≡ true → ⊥
 in-range {b} h e = false≢true (sym (ap not h) ∙ e)
@@ -65,7 +65,7 @@ receive-answered r line count store h =
     (λ e. cond-case (ReceiveAnswered r (take count (bitsOf line)) count) (tooShort line count)
     (λ e. ReceiveAnswered.refuses)
     (λ g. cond-case (ReceiveAnswered r (take count (bitsOf line)) count)
-    (meaning (readings r (take count (bitsOf line)) count .rule) .stores && tooShort store
+    (meaning (reception r (take count (bitsOf line)) count .rule) .stores && tooShort store
     (r .taken * r .setup .k + r .setup .k))
     (λ e. ReceiveAnswered.refuses) (λ e. hears (size g))))
   where
@@ -76,7 +76,7 @@ receive-answered r line count store h =
 
 unheard-told : (o : Session) (w : World) (l : ℕ) (e : Entry) (w′ : World)
     → ((f : Heard → Bool) → onHeard false f e ≡ false) → Base o w′
-    → w′ .receiver ≡ w .receiver → OnlyRefused e → Told o w l e w′
+    → w′ .receiver ≡ w .receiver → OnlyRefused e → Guaranteed o w l e w′
 unheard-told o w l e w′ none base same refusal =
     record {
       base = base;
@@ -92,7 +92,7 @@ unheard-told o w l e w′ none base same refusal =
       refusal = refusal;
     }
 
-short-told : (o : Session) (w : World) (l : ℕ) → Base o w → Told o w l (receive-refused A.short) w
+short-told : (o : Session) (w : World) (l : ℕ) → Base o w → Guaranteed o w l (receive-refused A.short) w
 short-told o w l b = unheard-told o w l (receive-refused A.short) w (λ f. refl) b refl refl
 
 module _ (o : Session) (fit : Fit o) where
@@ -122,7 +122,7 @@ module _ (o : Session) (fit : Fit o) where
       let few′ = few o fit in
       ap₂ _&&_
       (ap₂ _&&_
-      (ap₂ _&&_ (ap isLength (h .base .k) ∙ fit .known) (lt-ltb (w .receiver .row) lastBad (h .base .row)))
+      (ap₂ _&&_ (ap isLength (h .base .k) ∙ fit .known) (lt-ltb (w .receiver .«bad_row») lastBad (h .base .bad-row)))
       (le-leb (w .receiver .taken) mostItems (omega (arith, b .taken, few′))))
       (ap (λ (k : ℕ). heldInRange (w .receiver .phase) (blockLength k) (w .receiver .held)) (h .base .k) ∙ h .base .held)
 
@@ -140,7 +140,7 @@ module _ (o : Session) (fit : Fit o) where
         };
         same = ap (endsOf w l) danger;
         next = refl;
-        told = still-told o w l b lent store same (idleRule (w .receiver .phase)) 0 (w .receiver)
+        guaranteed = still-told o w l b lent store same (idleRule (w .receiver .phase)) 0 (w .receiver)
             (quiet-idle (w .receiver .phase)) (still-same o w b) lost;
       }
     where
@@ -155,28 +155,28 @@ module _ (o : Session) (fit : Fit o) where
   nothing-lent [] later e = refl
   nothing-lent (b ∷ lent) later e = absurd (let z : _≡_ {A = ℕ} 0 1 = cc in omega arith)
 
-  idle-is : (r : Receiver) (lent : Bits) (count : ℕ) → count ≡ 0 → readings r lent count ≡ idle r
-  unfolding readings
-  idle-is r lent count e = ap (λ (t : Bool). cond t (idle r) (reading r (r .phase) lent)) (eq-eqb count 0 e)
+  idle-is : (r : Receiver) (lent : Bits) (count : ℕ) → count ≡ 0 → reception r lent count ≡ idle r
+  unfolding reception
+  idle-is r lent count e = ap (λ (t : Bool). cond t (idle r) (byPhase r (r .phase) lent)) (eq-eqb count 0 e)
 
   pub idle-hears : (w : World) (l d : ℕ) → IdleLine o w l d → Base o w
-      → (lent : Bits) (count : ℕ) (store : List ℕ) (a : Answer Reading)
+      → (lent : Bits) (count : ℕ) (store : List ℕ) (a : Answer Reception)
       → ReceiveAnswered (w .receiver) lent count a
-      → Okay o (alarmStands (w .receiver .phase)) d (receiveEntry w lent store a)
+      → Assumed o (alarmStands (w .receiver .phase)) d (receiveEntry w lent store a)
       → Stays o w l d (receiveEntry w lent store a) (receiveAfter w store a)
   idle-hears w l d g b lent count store a ReceiveAnswered.refuses ok =
-      record { line = g; same = refl; next = refl; told = short-told o w l b }
+      record { line = g; same = refl; next = refl; guaranteed = short-told o w l b }
   idle-hears w l d g b lent count store a (hears size) ok =
       let n : lent ≡ [] = nothing-lent lent (ok .line .0) (sym (g .left) ∙ ok .line .1) in
-      let e : readings (w .receiver) lent count ≡ idle (w .receiver) =
+      let e : reception (w .receiver) lent count ≡ idle (w .receiver) =
       idle-is (w .receiver) lent count (sym size ∙ ap length n) in
-      subst (λ (y : Reading). Stays o w l d (receiveEntry w lent store (done y)) (receiveAfter w store (done y))) (sym e)
+      subst (λ (y : Reception). Stays o w l d (receiveEntry w lent store (done y)) (receiveAfter w store (done y))) (sym e)
       (stays-idle w l d g b lent store (ok .store))
 
   pub idle-sends : (w : World) (l d : ℕ) → IdleLine o w l d → Base o w → (order : List ℕ) (reading : Bool) (copy : Bits)
       → w .sender .finished ≡ false → gaveUp (w .sender) ≡ false
       → let b : Answer Block = done (transmit (w .sender) (w .sender .next) reading .block) in
-      Okay o (alarmStands (w .receiver .phase)) d (sendEntry w order reading copy b)
+      Assumed o (alarmStands (w .receiver .phase)) d (sendEntry w order reading copy b)
       → Begins o w l d copy reading (sendEntry w order reading copy b) (sendAfter w reading copy b)
   idle-sends w l d g base order reading copy fin run ok =
       let y = sends-block o fit (w .sender) (w .receiver) l d copy (ok .line .1) (base .sender-k) (base .sender-L) fin
@@ -197,13 +197,13 @@ module _ (o : Session) (fit : Fit o) where
           busy = send-keeps (g .idle) (y .sends);
           copy-of = y .copy-of;
         };
-        told = unheard-told o w l _ _ (λ f. refl) (record {
+        guaranteed = unheard-told o w l _ _ (λ f. refl) (record {
           sender-k = ap (λ (s : Setup). s .k) setup ∙ base .sender-k;
           sender-L = ap (λ (s : Setup). s .length) setup ∙ base .sender-L;
           run = run-kept (w .sender) (w .sender .next) reading (base .run) run;
           k = base .k;
           array = base .array;
-          row = base .row;
+          bad-row = base .bad-row;
           held = base .held;
           stored = base .stored;
         }) refl tt;
@@ -224,13 +224,13 @@ module _ (o : Session) (fit : Fit o) where
   -- ---- a block on the line
 
   pub busy-hears : (w : World) (l d : ℕ) (copy : Bits) (f : LineBlock) → BusyLine o w l d copy f → Base o w
-      → (lent : Bits) (count : ℕ) (store : List ℕ) (a : Answer Reading) → ReceiveAnswered (w .receiver) lent count a
-      → Okay o (alarmStands (w .receiver .phase)) d (receiveEntry w lent store a)
+      → (lent : Bits) (count : ℕ) (store : List ℕ) (a : Answer Reception) → ReceiveAnswered (w .receiver) lent count a
+      → Assumed o (alarmStands (w .receiver .phase)) d (receiveEntry w lent store a)
       → Result o w l d copy f (receiveEntry w lent store a) (receiveAfter w store a)
   busy-hears w l d copy f line b lent count store a ReceiveAnswered.refuses ok =
-      record { next = inl (line, refl, (λ q. refl)); told = short-told o w l b }
+      record { next = inl (line, refl, (λ q. refl)); guaranteed = short-told o w l b }
   busy-hears w l d copy f line b lent count store a (hears size) ok =
-      reading-told o fit w l d copy f line b lent store count size ok
+      reception-guaranteed o fit w l d copy f line b lent store count size ok
 
   -- after reading to the last bit, no block is on the line
   pub done-idle : (w : World) (l d : ℕ) (copy : Bits) (f : LineBlock) (e : Entry) (w′ : World)
@@ -247,38 +247,38 @@ module _ (o : Session) (fit : Fit o) where
 
   pub send-call : (w : World) (l d : ℕ) → Inv o w l d → (order : List ℕ) (reading : Bool) (copy : Bits) (a : Answer Block)
       → SendAnswered (w .sender) reading a
-      → Okay o (alarmStands (w .receiver .phase)) d (sendEntry w order reading copy a)
+      → Assumed o (alarmStands (w .receiver .phase)) d (sendEntry w order reading copy a)
       → Keeps o w l d (sendEntry w order reading copy a) (sendAfter w reading copy a)
   send-call w l d h order reading copy a (refuses q) ok =
-      record { inv = h; told = unheard-told o w l (sendEntry w order reading copy a) w (λ f. refl) (h .base) refl q }
+      record { inv = h; guaranteed = unheard-told o w l (sendEntry w order reading copy a) w (λ f. refl) (h .base) refl q }
   send-call w l d h order reading copy a (begins fin run) ok =
       ⊎-elim
       (λ g.
       let y = idle-sends w l d g (h .base) order reading copy fin run ok in
       record {
         inv = record {
-          base = y .told .base;
+          base = y .guaranteed .base;
           phase = inr (record { copy = copy; line-block = y .line-block; line = y .line });
         };
-        told = y .told;
+        guaranteed = y .guaranteed;
       })
       (λ g. absurd (g .line .more (ok .line .0)))
       (h .phase)
 
-  pub hear-call : (w : World) (l d : ℕ) → Inv o w l d → (lent : Bits) (count : ℕ) (store : List ℕ) (a : Answer Reading)
+  pub hear-call : (w : World) (l d : ℕ) → Inv o w l d → (lent : Bits) (count : ℕ) (store : List ℕ) (a : Answer Reception)
       → ReceiveAnswered (w .receiver) lent count a
-      → Okay o (alarmStands (w .receiver .phase)) d (receiveEntry w lent store a)
+      → Assumed o (alarmStands (w .receiver .phase)) d (receiveEntry w lent store a)
       → Keeps o w l d (receiveEntry w lent store a) (receiveAfter w store a)
   hear-call w l d h lent count store a q ok =
       ⊎-elim
       (λ g.
       let y = idle-hears w l d g (h .base) lent count store a q ok in
-      record { inv = record { base = y .told .base; phase = inl (y .line) }; told = y .told })
+      record { inv = record { base = y .guaranteed .base; phase = inl (y .line) }; guaranteed = y .guaranteed })
       (λ g.
       let y = busy-hears w l d (g .copy) (g .line-block) (g .line) (h .base) lent count store a q ok in
       record {
         inv = record {
-          base = y .told .base;
+          base = y .guaranteed .base;
           phase =
               ⊎-elim
               (λ z. inr (record { copy = g .copy; line-block = g .line-block; line = z .0 }))
@@ -286,12 +286,12 @@ module _ (o : Session) (fit : Fit o) where
               (g .line .busy) z))
               (y .next);
         };
-        told = y .told;
+        guaranteed = y .guaranteed;
       })
       (h .phase)
 
   pub call-keeps : (w : World) (l d : ℕ) → Inv o w l d → (c : Call)
-      → Okay o (alarmStands (w .receiver .phase)) d (entry w c)
+      → Assumed o (alarmStands (w .receiver .phase)) d (entry w c)
       → Keeps o w l d (entry w c) (next w c)
   call-keeps w l d h (sending order reading slice copy) ok =
       send-call w l d h order reading copy (send (w .sender) order reading slice)

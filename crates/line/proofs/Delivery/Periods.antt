@@ -14,7 +14,7 @@ use Rattle.block.specs.Block.{syncBlock}
 use Rattle.block.proofs.Truth.{either, or-false, bit-false}
 use Rattle.line.specs.Order.{orderBits, itemBits}
 use Rattle.line.specs.Sending.{Block, synchronising, item, transmit, plainBits, sentBits, gaveUp, send}
-use Rattle.line.specs.Receiving.{Reading, receive}
+use Rattle.line.specs.Receiving.{Reception, receive}
 use Rattle.line.specs.Course.{World, Call, sending, receiving, Entry, send-refused, sendEntry, sendAfter, receiveEntry, receiveAfter, course}
 use Rattle.line.specs.Delivery.{some, isEnd, isLost, Period, group, Undisturbed, All, brings}
 use Rattle.line.specs.declared.sender.Sender.{Sender}
@@ -23,7 +23,7 @@ use Rattle.line.specs.declared.sender.Next.the-variants.{Sync, Older, Ne
 use Rattle.line.proofs.Items.{passes-itemBits}
 use Rattle.line.proofs.Delivery.Ends.{Ends, LineBlock, Sends}
 use Rattle.line.proofs.Delivery.Progress.{rank-low, rank-high, between-of}
-use Rattle.line.proofs.Delivery.State.{Session, N, Fit, alarmStands, endsOf, lost′, danger′, Base, CopyOf, syncing, whole, damaged, IdleLine, BusyLine, Inv, Okay, Begins}
+use Rattle.line.proofs.Delivery.State.{Session, N, Fit, alarmStands, endsOf, lost′, danger′, Base, CopyOf, syncing, whole, damaged, IdleLine, BusyLine, Inv, Assumed, Begins}
 use Rattle.line.proofs.Delivery.OneCall.{SendAnswered, refuses, begins, ReceiveAnswered, send-answered, receive-answered, sender-in-range, receiver-in-range, idle-hears, idle-sends, send-call, hear-call}
 use Rattle.line.proofs.Delivery.List.{Okays}
 use Rattle.line.proofs.Delivery.Stretch.{brought, Between, During, Short, Shorts, short-nil, skip, short-hear, okays-next, okays-same, still-open, append-nil-left}
@@ -102,7 +102,7 @@ module _ (o : Session) (fit : Fit o) where
         }
 
     begin : Base o w → Between o w d limit → w .sender .finished ≡ false → gaveUp (w .sender) ≡ false
-        → Okay o (alarmStands (w .receiver .phase)) d x → isLost x ≡ false → Undisturbed (o .k) begun
+        → Assumed o (alarmStands (w .receiver .phase)) d x → isLost x ≡ false → Undisturbed (o .k) begun
         → During o w′ (danger′ d x) (limit - 1) (course w′ cs)
     begin base g fin run ok kept u =
         record {
@@ -156,9 +156,9 @@ module _ (o : Session) (fit : Fit o) where
         let n = or-false (some brought (p .calls)) (brings brought ps) br in
         let z = idle-sends o fit w 0 d (g .line) base order reading copy fin run (ok .0) in
         let h =
-        ih w′ (danger′ d x) (limit - 1) (z .told .base)
+        ih w′ (danger′ d x) (limit - 1) (z .guaranteed .base)
         (inr (begin base g fin run (ok .0) (l .0) (subst (Undisturbed (o .k)) (sym same) (un .0))))
-        (okays-next (z .told) (danger′ d x) (course w′ cs) (ok .1)) (l .1) ps behind more (un .1)
+        (okays-next (z .guaranteed) (danger′ d x) (course w′ cs) (ok .1)) (l .1) ps behind more (un .1)
         (ap (λ (q : Period). some brought (q .calls)) same ∙ n .0) (n .1) in
         omega (arith, h)
 
@@ -195,7 +195,7 @@ module _ (o : Session) (fit : Fit o) where
       no (p ∷ x) z = absurd (let v : _≡_ {A = ℕ} 0 1 = cc in omega arith)
 
   lack-hear : (cs : List Call) → ((w : World) (d : ℕ) → Lack w d (course w cs)) → (w : World) (d : ℕ) (lent : Bits) (count : ℕ) (store : List ℕ)
-      (a : Answer Reading) → ReceiveAnswered (w .receiver) lent count a
+      (a : Answer Reception) → ReceiveAnswered (w .receiver) lent count a
       → Lack w d (receiveEntry w lent store a ∷ course (receiveAfter w store a) cs)
   lack-hear cs ih w d lent count store (refused n) a h en ok nl before these behind e five un q s b =
       ih w d h en (okays-same o (alarmStands (w .receiver .phase)) d (course w cs) (ok .1)) nl before these behind e five un q s b
@@ -204,7 +204,7 @@ module _ (o : Session) (fit : Fit o) where
       let w′ : World = receiveAfter w store (done y) in
       let z = hear-call o fit w 0 d h lent count store (done y) a (ok .0) in
       let n = or-false (isEnd x) (some isEnd (group (course w′ cs) .loose)) q in
-      ih w′ (danger′ d x) (z .inv) (still-open x (z .told) en (n .0)) (okays-next (z .told) (danger′ d x) (course w′ cs) (ok .1)) nl
+      ih w′ (danger′ d x) (z .inv) (still-open x (z .guaranteed) en (n .0)) (okays-next (z .guaranteed) (danger′ d x) (course w′ cs) (ok .1)) nl
       before these behind e five un (n .1) s b
 
   lack-send : (cs : List Call) → ((w : World) (d : ℕ) → Lack w d (course w cs)) → (w : World) (d : ℕ) (order : List ℕ) (reading : Bool) (copy : Bits)
@@ -232,8 +232,8 @@ module _ (o : Session) (fit : Fit o) where
       let l = or-false (isLost x) (some isLost (course w′ cs)) nl in
       let z = send-call o fit w 0 d h order reading copy (done c) (begins fin run) (ok .0) in
       let zero : lost′ 0 x ≡ 0 = ap (λ (t : Bool). cond {A = ℕ} t 1 0) (l .0) in
-      ih w′ (danger′ d x) (subst (λ (t : ℕ). Inv o w′ t (danger′ d x)) zero (z .inv)) (still-open x (z .told) en refl)
-      (okays-next (z .told) (danger′ d x) (course w′ cs) (ok .1)) (l .1) before these behind more five un
+      ih w′ (danger′ d x) (subst (λ (t : ℕ). Inv o w′ t (danger′ d x)) zero (z .inv)) (still-open x (z .guaranteed) en refl)
+      (okays-next (z .guaranteed) (danger′ d x) (course w′ cs) (ok .1)) (l .1) before these behind more five un
       (ap (λ (q : Period). some isEnd (q .calls)) same ∙ n .0) (n .1) b
 
   lacks : (cs : List Call) (w : World) (d : ℕ) → Lack w d (course w cs)
@@ -253,7 +253,7 @@ module _ (o : Session) (fit : Fit o) where
       → some isEnd (group es .loose) ≡ false
 
   loose-hear : (cs : List Call) → ((w : World) (d : ℕ) → Loose w d (course w cs)) → (w : World) (d : ℕ) (lent : Bits) (count : ℕ) (store : List ℕ)
-      (a : Answer Reading) → ReceiveAnswered (w .receiver) lent count a
+      (a : Answer Reception) → ReceiveAnswered (w .receiver) lent count a
       → Loose w d (receiveEntry w lent store a ∷ course (receiveAfter w store a) cs)
   loose-hear cs ih w d lent count store (refused n) a g base en ok =
       ih w d g base en (okays-same o (alarmStands (w .receiver .phase)) d (course w cs) (ok .1))
@@ -262,8 +262,8 @@ module _ (o : Session) (fit : Fit o) where
       let w′ : World = receiveAfter w store (done y) in
       let z = idle-hears o fit w 0 d g base lent count store (done y) a (ok .0) in
       let c : w′ .receiver .ended ≡ false = bit-false (w′ .receiver .ended) (ap (λ (s : Ends). s .ended) (z .same) ∙ ap bit en) in
-      let v : isEnd x ≡ false = or-false (w .receiver .ended) (isEnd x) (sym (z .told .ended) ∙ c) .1 in
-      ap₂ _||_ v (ih w′ (danger′ d x) (z .line) (z .told .base) c (okays-next (z .told) (danger′ d x) (course w′ cs) (ok .1)))
+      let v : isEnd x ≡ false = or-false (w .receiver .ended) (isEnd x) (sym (z .guaranteed .ended) ∙ c) .1 in
+      ap₂ _||_ v (ih w′ (danger′ d x) (z .line) (z .guaranteed .base) c (okays-next (z .guaranteed) (danger′ d x) (course w′ cs) (ok .1)))
 
   loose-send : (cs : List Call) → ((w : World) (d : ℕ) → Loose w d (course w cs)) → (w : World) (d : ℕ) (order : List ℕ) (reading : Bool) (copy : Bits)
       (a : Answer Block) → Loose w d (sendEntry w order reading copy a ∷ course (sendAfter w reading copy a) cs)

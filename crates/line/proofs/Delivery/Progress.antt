@@ -23,8 +23,8 @@ abbrev pub endingWith : ℕ → EventKind → Bool
 endingWith L v = withLength false (λ M. eqb M L) (v .length)
 
 -- a new block or the end
-abbrev pub isNews : Event → Bool
-isNews e = eventKind e .new || ending (eventKind e)
+abbrev pub isNewOrEnd : Event → Bool
+isNewOrEnd e = eventKind e .new || ending (eventKind e)
 
 abbrev pub rank : Ends → Next → ℕ
 rank s Sync = 3
@@ -49,7 +49,7 @@ pub between-of : {N : ℕ} {s : Ends} {n : Next} → Idle N s n → s .lost ≡ 
 between-of h z = ⊎-elim (λ a. absurd (omega arith)) (λ b. b) (h .state)
 
 pub sender-kept : {N : ℕ} {s t : Ends} {f : LineBlock} {e : Event} → Reads N s t f e → SameSender s t
-sender-kept (D.stands q r a) = q
+sender-kept (D.under-alarm q r a) = q
 sender-kept (D.searches q r d a z) = q
 sender-kept (D.syncs q a r) = q
 sender-kept (D.bad-step q a lt f r) = q
@@ -64,14 +64,14 @@ sender-kept (D.wrong-length q a i e0 m r) = q
 
 module _ {N : ℕ} {s t : Ends} where
   sync-read : {f : LineBlock} → Reads N s t f E.Sync → s .alarm ≡ 0 → t .search ≡ 0
-  sync-read (D.stands q r a) z = absurd (omega arith)
+  sync-read (D.under-alarm q r a) z = absurd (omega arith)
   sync-read (D.syncs q a r) z = r .search
 
 module _ {N : ℕ} {s t : Ends} {n : Next} where
   -- a whole item read in step, with nothing lost, brings news, or it is the one before
   whole-read : {i w : ℕ} {e : Event} → Busy N s n (item i w) → Reads N s t (item i w) e → w ≡ 1 → s .lost ≡ 0
-      → s .search ≡ 0 → s .ended ≡ 0 → (isNews e ≡ true) ⊎ ((t .back ≡ 0) × (i < s .taken))
-  whole-read h (D.stands q r a) w1 n0 z0 e0 = absurd (⊎-elim (λ b. omega arith) (λ b. omega arith) (h .state))
+      → s .search ≡ 0 → s .ended ≡ 0 → (isNewOrEnd e ≡ true) ⊎ ((t .back ≡ 0) × (i < s .taken))
+  whole-read h (D.under-alarm q r a) w1 n0 z0 e0 = absurd (⊎-elim (λ b. omega arith) (λ b. omega arith) (h .state))
   whole-read h (D.searches q r d a z) w1 n0 z0 e0 = absurd (omega arith)
   whole-read {i} {w} h (D.bad-step q a lt f r) w1 n0 z0 e0 = absurd (not-whole i w f w1)
   whole-read {i} {w} h (D.bad-eighth q a w′ f r) w1 n0 z0 e0 = absurd (not-whole i w f w1)
@@ -96,7 +96,7 @@ older-newer p = let z : _≡_ {A = ℕ} 0 1 = cc in omega arith
 
 module _ {N : ℕ} {s t u : Ends} {reading : ℕ} where
   pub rank-falls : {n n′ : Next} {f : LineBlock} {e : Event} → Idle N s n → Sends N s reading t n n′ f → Reads N t u f e
-      → Undisturbed s n reading f e → s .lost ≡ 0 → t .lost ≡ 0 → s .ended ≡ 0 → (isNews e ≡ true)
+      → Undisturbed s n reading f e → s .lost ≡ 0 → t .lost ≡ 0 → s .ended ≡ 0 → (isNewOrEnd e ≡ true)
       ⊎ (rank u n′ < rank s n)
   rank-falls h (D.syncs r q d) y c m n e0 =
       let b = between-of h m in

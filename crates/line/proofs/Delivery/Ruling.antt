@@ -12,7 +12,7 @@ use Rattle.block.specs.Block.{syncBlock}
 use Rattle.block.proofs.Truth.{and-no}
 use Rattle.line.specs.Order.{longestOrder, mostItems, validLength, itemCount, itemBits}
 use Rattle.line.specs.Sending.{Block, synchronising, item}
-use Rattle.line.specs.Receiving.{Rule, found, sync-block, check-fails, ends, anything-else, meaning, eventKind, after, judge}
+use Rattle.line.specs.Receiving.{Rule, sequence-found, sync-block, check-fails, ends, anything-else, meaning, eventKind, after, judge}
 use Rattle.line.specs.Course.{World}
 use Rattle.line.specs.Delivery.{isItem}
 use Rattle.line.specs.declared.receiver.Receiver.{Receiver}
@@ -25,7 +25,7 @@ use Rattle.line.proofs.Delivery.Invariant.{neighbour}
 use Rattle.line.proofs.Delivery.Progress.{endingWith}
 use Rattle.line.proofs.Delivery.Judging as J
 use Rattle.line.proofs.Delivery.Judging.{Unharmed, Judged, judged, judge-item, judge-fails, judge-sync}
-use Rattle.line.proofs.Delivery.Reading.{endsBlock, same-sender, well-in-step, unharmed-reads, fails-reads, other-reads}
+use Rattle.line.proofs.Delivery.Reading.{endsBlock, same-sender, good-in-step, unharmed-reads, fails-reads, other-reads}
 use Rattle.line.proofs.Delivery.State.{Session, N, Fit, alarmStands, endsOf, BusyLine, CopyOf, syncing, whole, damaged}
 use Rattle.line.proofs.Delivery.State as S
 
@@ -86,14 +86,14 @@ module _ (o : Session) (fit : Fit o) (w : World) (l d : ℕ) (copy : Bits) (f : 
 
   -- a synchronising block that is found, in search or in step
   module _ (quiet : alarmStands (r .phase) ≡ false) (q : f ≡ LineBlock.sync) where
-    pub found-ruling : Ruling found
+    pub found-ruling : Ruling sequence-found
     found-ruling =
         record {
           ends-block = refl;
           reads =
-              subst₂ (ReadBy found) (sym (not-good false (inl refl))) (sym q)
-              (D.Reads.syncs (same-sender (w .sender) r (after r found) l d d) (ap bit quiet)
-              (well-in-step (w .sender) r (r .taken) (r .ended) l d (bit (r .ended)) refl));
+              subst₂ (ReadBy sequence-found) (sym (not-good false (inl refl))) (sym q)
+              (D.Reads.syncs (same-sender (w .sender) r (after r sequence-found) l d d) (ap bit quiet)
+              (good-in-step (w .sender) r (r .taken) (r .ended) l d (bit (r .ended)) refl));
           length = λ M n. absurd (false≢true n);
           takes = λ n. absurd (false≢true n);
           clean = λ a b. refl;
@@ -116,7 +116,7 @@ module _ (o : Session) (fit : Fit o) (w : World) (l d : ℕ) (copy : Bits) (f : 
           ends-block = refl;
           reads =
               subst (λ (m : ℕ). ReadBy check-fails m f) (sym (not-good false (inl refl)))
-              (fails-reads o (w .sender) r l d step f n (during quiet .row));
+              (fails-reads o (w .sender) r l d step f n (during quiet .bad-row));
           length = λ M n. absurd (false≢true n);
           takes = λ n. absurd (false≢true n);
           clean = λ a b. absurd (c a b);
@@ -128,7 +128,7 @@ module _ (o : Session) (fit : Fit o) (w : World) (l d : ℕ) (copy : Bits) (f : 
           ends-block = refl;
           reads =
               subst₂ (ReadBy anything-else) (sym (not-good true (inr z))) (sym q)
-              (other-reads o (w .sender) r l d step (during quiet .row));
+              (other-reads o (w .sender) r l d step (during quiet .bad-row));
           length = λ M n. absurd (false≢true n);
           takes = λ n. absurd (false≢true n);
           clean = λ a b. absurd (c b);

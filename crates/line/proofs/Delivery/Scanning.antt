@@ -11,7 +11,7 @@ use lib.Seq.{drop-append-le, drop-drop, drop-at}
 use borrow.Author.Tests.{eq-eqb}
 use Rattle.crc.specs.Bits.{Bits, number}
 use Rattle.block.specs.Block.{serviceSync, syncSequence, tens, syncBlock}
-use Rattle.line.specs.Receiving.{Reading, unfinished, found, stops, latest, searching, isSequence, search}
+use Rattle.line.specs.Receiving.{Reception, unfinished, sequence-found, stops, latest, searching, isSequence, search}
 use Rattle.line.specs.declared.receiver.Receiver.{Receiver}
 
 -- the latest 16 bits
@@ -33,7 +33,7 @@ latest-latest16 row =
     omega (arith, length-drop (length row - 16) row) in
     drop-drop (length (latest16 row) - 15) (length row - 16) row ∙ ap (λ (n : ℕ). drop n row) e
 
-abbrev unfound : Receiver → Bits → ℕ → Reading
+abbrev unfound : Receiver → Bits → ℕ → Reception
 unfound s window used = record { rule = unfinished; row = []; used = used; state = searching s window }
 
 -- after these earlier bits, none of the new ones ends the sequence
@@ -44,21 +44,21 @@ pub record GoesOn (s : Receiver) (earlier new : Bits) (used : ℕ) : Type 0 wher
 
 -- one of them does
 abbrev pub Finds : Receiver → Bits → Bits → ℕ → Type 0
-Finds s earlier new used = (n : ℕ) × (search s (latest earlier) new used ≡ stops s found [] n)
+Finds s earlier new used = (n : ℕ) × (search s (latest earlier) new used ≡ stops s sequence-found [] n)
 
 module _ (s : Receiver) where
   step-on : (earlier : Bits) (b : Bool) (bs : Bits) (used : ℕ) → isSequence (latest earlier ++ (b ∷ [])) ≡ false
       → search s (latest earlier) (b ∷ bs) used ≡ search s (latest (earlier ++ (b ∷ []))) bs (suc used)
   step-on earlier b bs used e =
-      ap (λ (t : Bool). cond t (stops s found [] (suc used))
+      ap (λ (t : Bool). cond t (stops s sequence-found [] (suc used))
       (search s (latest (latest earlier ++ (b ∷ []))) bs (suc used))) e
       ∙ ap (λ (window : Bits). search s window bs (suc used))
       (ap latest (latest-snoc earlier b) ∙ latest-latest16 (earlier ++ (b ∷ [])))
 
   step-found : (earlier : Bits) (b : Bool) (bs : Bits) (used : ℕ) → isSequence (latest earlier ++ (b ∷ [])) ≡ true
-      → search s (latest earlier) (b ∷ bs) used ≡ stops s found [] (suc used)
+      → search s (latest earlier) (b ∷ bs) used ≡ stops s sequence-found [] (suc used)
   step-found earlier b bs used e =
-      ap (λ (t : Bool). cond t (stops s found [] (suc used))
+      ap (λ (t : Bool). cond t (stops s sequence-found [] (suc used))
       (search s (latest (latest earlier ++ (b ∷ []))) bs (suc used))) e
 
   no-sequence : (earlier : Bits) (b : Bool) (bs : Bits) → isSequence (latest earlier ++ (b ∷ [])) ≡ false

@@ -14,7 +14,7 @@ use Rattle.crc.proofs.Detect.{damaged-passes}
 use Rattle.block.specs.Lengths.{blockLength}
 use Rattle.block.proofs.Truth.{cond-case, either, or-false, and-no}
 use Rattle.line.specs.Order.{itemCount, itemBits}
-use Rattle.line.specs.Sending.{Block, item, Transmission, transmit, goesOn, confirmed, repeated, atLast, syncRun, lastRun, gaveUp, plainBits}
+use Rattle.line.specs.Sending.{Block, item, Transmission, transmit, withNext, confirmed, repeated, atLast, syncRun, lastRun, gaveUp, plainBits}
 use Rattle.line.specs.Delivery.{isUsed, isCancelled}
 use Rattle.line.specs.declared.sender.Sender.{Sender}
 use Rattle.line.specs.declared.sender.Next.{Next}
@@ -55,7 +55,7 @@ run-kept s Newer false h g = omega arith
 run-kept s Newer true h g = let e = eqb-false (s .run) lastRun g in omega arith
 
 abbrev same-receiver : (s t : Sender) (r : Receiver) (l d m e : ℕ) → SameReceiver (ends s r l d) (ends t r m e)
-same-receiver s t r l d m e = record { search = refl; row = refl; back = refl; taken = refl; ended = refl; alarm = refl }
+same-receiver s t r l d m e = record { search = refl; bad-row = refl; back = refl; taken = refl; ended = refl; alarm = refl }
 
 -- ---- the step
 
@@ -87,10 +87,10 @@ module _ (o : Session) (fit : Fit o) (s : Sender) (r : Receiver) (l d : ℕ) (co
   -- ---- the older item
 
   older-sends : (reading : Bool) (w : ℕ) → w ≤ 1
-      → Sends (N o) (ends s r l d) (bit reading) (ends (goesOn s Newer) r l d) Older Newer
+      → Sends (N o) (ends s r l d) (bit reading) (ends (withNext s Newer) r l d) Older Newer
       (LineBlock.item (s .newer - 1) w)
   older-sends reading w h =
-      D.olders {i = s .newer - 1} (same-receiver s (goesOn s Newer) r l d l d)
+      D.olders {i = s .newer - 1} (same-receiver s (withNext s Newer) r l d l d)
       (record { item = refl; run = refl; opening = refl; finished = refl; lost = refl }) refl
       (omega (arith, basic .low)) h
 
@@ -151,7 +151,7 @@ module _ (o : Session) (fit : Fit o) (s : Sender) (r : Receiver) (l d : ℕ) (co
       record {
         line-block = LineBlock.sync;
         sends =
-            D.Sends.syncs (same-receiver s (goesOn s Older) r l d l d)
+            D.Sends.syncs (same-receiver s (withNext s Older) r l d l d)
             (record { item = refl; run = refl; opening = refl; finished = refl; lost = refl }) refl;
         copy-of = syncing refl;
       }

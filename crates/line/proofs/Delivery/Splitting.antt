@@ -10,7 +10,7 @@ use lib.Dec.{eqb}
 use borrow.Author.Tests.{eqb-true}
 use Rattle.crc.specs.Bits.{Bits, bit}
 use Rattle.block.proofs.Truth.{cond-case}
-use Rattle.line.specs.Receiving.{standing, Reading, search, stands, stood, reading, idleRule, idle, readings}
+use Rattle.line.specs.Receiving.{standing, Reception, search, underAlarm, alarmReception, byPhase, idleRule, idle, reception}
 use Rattle.line.specs.Course.{World}
 use Rattle.line.specs.declared.receiver.Receiver.{Receiver}
 use Rattle.line.specs.declared.receiving.Phase.{Phase}
@@ -20,7 +20,7 @@ use Rattle.line.specs.declared.receiving.Event.the-variants as E
 use Rattle.line.proofs.Delivery.Ends.{LineBlock, Busy}
 use Rattle.line.proofs.Delivery.Ends as D
 use Rattle.line.proofs.Delivery.Reading.{same-sender}
-use Rattle.line.proofs.Delivery.Hearing.{ReadingKept, none-of-length, Quiet, quiet-idle, still-same, alarm-lost, pass}
+use Rattle.line.proofs.Delivery.Hearing.{ReceptionKept, none-of-length, Quiet, quiet-idle, still-same, alarm-lost, pass}
 use Rattle.line.proofs.Delivery.State.{Session, N, Fit, alarmStands, Held, Base, BusyLine}
 use Rattle.line.proofs.Delivery.State as S
 use Rattle.line.proofs.Delivery.InStep.{in-step}
@@ -31,12 +31,12 @@ module _ (o : Session) (fit : Fit o) (w : World) (l d : ℕ) (copy : Bits) (f : 
   abbrev r : Receiver
   r = w .receiver
 
-  abbrev So : Reading → Type 0
-  So y = ReadingKept o w l d copy f lent store y
+  abbrev Kept : Reception → Type 0
+  Kept y = ReceptionKept o w l d copy f lent store y
 
   -- ---- 0 bits
 
-  none-lent : length lent ≡ 0 → So (idle r)
+  none-lent : length lent ≡ 0 → Kept (idle r)
   none-lent h ok =
       pass o fit w l d copy f line base lent store (ok .store) (ok .line .0) (ok .line .1)
       (idleRule (r .phase)) 0 r (sym h)
@@ -52,14 +52,14 @@ module _ (o : Session) (fit : Fit o) (w : World) (l d : ℕ) (copy : Bits) (f : 
 
   alarm-stands : (e : Event) → Quiet (alarmStands (r .phase)) (standing e)
       → alarmStands (r .phase) ≡ true
-      → So (stood r e (length lent))
+      → Kept (alarmReception r e (length lent))
   alarm-stands e q a ok =
       pass o fit w l d copy f line base lent store (ok .store) (ok .line .0) (ok .line .1) (standing e) (length lent)
-      (stands r) refl q
+      (underAlarm r) refl q
       (record {
         k = base .k;
         array = base .array;
-        row = omega arith;
+        bad-row = omega arith;
         held = base .held;
         taken = refl;
         ended = refl;
@@ -68,18 +68,18 @@ module _ (o : Session) (fit : Fit o) (w : World) (l d : ℕ) (copy : Bits) (f : 
       (no-block (line .used ++ lent)) busy (λ c. absurd (true≢false (sym a ∙ c)))
       (λ z. record {
         held = no-block [];
-        reads = D.stands (same-sender (w .sender) r (stands r) l d d)
+        reads = D.under-alarm (same-sender (w .sender) r (underAlarm r) l d d)
             (record { taken = refl; ended = refl; alarm = ap bit a; danger = refl }) (ap bit a);
         clean = λ p c n. absurd (true≢false (sym a ∙ n));
       })
     where
-      no-block : (u : Bits) → Held (stands r) u
+      no-block : (u : Bits) → Held (underAlarm r) u
       no-block u = record {
         step = λ p. absurd (true≢false (sym a ∙ ap alarmStands p));
         search = λ p. absurd (true≢false (sym a ∙ ap alarmStands p));
       }
 
-      busy : Busy (N o) (S.ends (w .sender) (stands r) l d) (w .sender .next) f
+      busy : Busy (N o) (S.ends (w .sender) (underAlarm r) l d) (w .sender .next) f
       busy =
           let b = line .busy .basic in
           record {
@@ -101,7 +101,7 @@ module _ (o : Session) (fit : Fit o) (w : World) (l d : ℕ) (copy : Bits) (f : 
 
   -- ---- any call
 
-  some-lent : (p : Phase) → r .phase ≡ p → So (reading r p lent)
+  some-lent : (p : Phase) → r .phase ≡ p → Kept (byPhase r p lent)
   some-lent P.Search e = in-search o fit w l d copy f line base lent store e
   some-lent P.InStep e = in-step o fit w l d copy f line base lent store e
   some-lent P.SequenceAlarm e =
@@ -113,7 +113,7 @@ module _ (o : Session) (fit : Fit o) (w : World) (l d : ℕ) (copy : Bits) (f : 
       (subst (λ (p : Phase). Quiet (alarmStands p) (standing E.LengthAlarm)) (sym e) (quiet-idle P.LengthAlarm))
       (ap alarmStands e)
 
-  pub reading-told : (count : ℕ) → length lent ≡ count → So (readings r lent count)
-  unfolding readings
-  reading-told count size =
-      cond-case So (eqb count 0) (λ e. none-lent (size ∙ eqb-true count 0 e)) (λ e. some-lent (r .phase) refl)
+  pub reception-guaranteed : (count : ℕ) → length lent ≡ count → Kept (reception r lent count)
+  unfolding reception
+  reception-guaranteed count size =
+      cond-case Kept (eqb count 0) (λ e. none-lent (size ∙ eqb-true count 0 e)) (λ e. some-lent (r .phase) refl)

@@ -23,14 +23,14 @@ use Rattle.line.specs.declared.receiving.Event.{Event}
 use Rattle.line.specs.declared.receiving.Event.the-variants as E
 use Rattle.line.proofs.Delivery.Ends.{Ends, LineBlock, Sends, Reads, Idle, Busy}
 use Rattle.line.proofs.Delivery.Ends as D
-use Rattle.line.proofs.Delivery.Progress.{isNews}
+use Rattle.line.proofs.Delivery.Progress.{isNewOrEnd}
 
 -- what a session is about: k, L, the order's bits, and the store as first lent
 pub record Session : Type 0 where
   pub k : ℕ
   pub L : ℕ
   pub content : Bits
-  pub first : List ℕ
+  pub initialStore : List ℕ
 
 abbrev pub N : Session → ℕ
 N o = itemCount (o .k) (o .L)
@@ -41,7 +41,7 @@ pub record Fit (o : Session) : Type 0 where
   pub low : 1 ≤ o .L
   pub high : o .L ≤ longestOrder
   pub content : length (o .content) ≡ o .L
-  pub room : N o * o .k ≤ 8 * length (o .first)
+  pub room : N o * o .k ≤ 8 * length (o .initialStore)
 
 -- ---- the numbers of the ends
 
@@ -65,7 +65,7 @@ ends s r lost danger =
       opening = bit (s .opening);
       finished = bit (s .finished);
       search = bit (inSearch (r .phase));
-      row = r .row;
+      bad-row = r .«bad_row»;
       back = bit (r .back);
       taken = r .taken;
       ended = bit (r .ended);
@@ -94,8 +94,8 @@ pub record Held (r : Receiver) (used : Bits) : Type 0 where
 -- the store holds the order's first items, and the rest as first lent
 pub record Stored (o : Session) (taken : ℕ) (store : List ℕ) : Type 0 where
   pub front : take (taken * o .k) (bitsOf store) ≡ take (taken * o .k) (filled (o .k) (o .L) (o .content))
-  pub rest : drop (taken * o .k) (bitsOf store) ≡ drop (taken * o .k) (bitsOf (o .first))
-  pub size : length store ≡ length (o .first)
+  pub rest : drop (taken * o .k) (bitsOf store) ≡ drop (taken * o .k) (bitsOf (o .initialStore))
+  pub size : length store ≡ length (o .initialStore)
 
 -- what was opened, the ranges that the numbers of the ends leave open, and the store
 pub record Base (o : Session) (w : World) : Type 0 where
@@ -104,7 +104,7 @@ pub record Base (o : Session) (w : World) : Type 0 where
   pub run : w .sender .run ≤ lastRun
   pub k : w .receiver .setup .k ≡ o .k
   pub array : length (w .receiver .bits) ≡ arrayBytes
-  pub row : w .receiver .row < lastBad
+  pub bad-row : w .receiver .«bad_row» < lastBad
   pub held : heldInRange (w .receiver .phase) (blockLength (o .k)) (w .receiver .held) ≡ true
   pub stored : Stored o (w .receiver .taken) (w .store)
 
@@ -144,7 +144,7 @@ pub record Inv (o : Session) (w : World) (l d : ℕ) : Type 0 where
 -- ---- one call
 
 -- what is supposed of its entry; alarm: whether an alarm stands before it
-pub record Okay (o : Session) (alarm : Bool) (d : ℕ) (e : Entry) : Type 0 where
+pub record Assumed (o : Session) (alarm : Bool) (d : ℕ) (e : Entry) : Type 0 where
   pub line : OnLine (o .k) e
   pub order : SameOrder (o .content) e
   pub store : SameStore e
@@ -155,7 +155,7 @@ pub record Okay (o : Session) (alarm : Bool) (d : ℕ) (e : Entry) : Type 0 wher
   pub loss : isLost e ≡ true → alarm ≡ false → d ≡ 0
 
 -- what its entry and the state after it say
-pub record Told (o : Session) (w : World) (l : ℕ) (e : Entry) (w′ : World) : Type 0 where
+pub record Guaranteed (o : Session) (w : World) (l : ℕ) (e : Entry) (w′ : World) : Type 0 where
   pub base : Base o w′
   pub taken : w′ .receiver .taken ≡ bit (isNew e) + w .receiver .taken
   pub ended : w′ .receiver .ended ≡ (w .receiver .ended || isEnd e)
@@ -171,7 +171,7 @@ pub record Done (o : Session) (w : World) (l d : ℕ) (copy : Bits) (f : LineBlo
   pub sender : w′ .sender ≡ w .sender
   pub event : Event
   pub reads : Reads (N o) (endsOf w l d) (endsOf w′ (lost′ l e) (danger′ d e)) f event
-  pub news : isNews event ≡ (isNew e || isEnd e)
+  pub news : isNewOrEnd event ≡ (isNew e || isEnd e)
   pub clean : f ≡ LineBlock.sync → copy ≡ syncBlock (o .k) → alarmStands (w .receiver .phase) ≡ false → event ≡ E.Sync
 
 -- a receiving call while a block is on the line: it goes on, and while no alarm stands the numbers are as before, or it is done
@@ -180,14 +180,14 @@ pub record Result (o : Session) (w : World) (l d : ℕ) (copy : Bits) (f : LineB
   pub next : (BusyLine o w′ (lost′ l e) (danger′ d e) copy f × (w′ .sender ≡ w .sender)
       × (alarmStands (w .receiver .phase) ≡ false → endsOf w′ (lost′ l e) (danger′ d e) ≡ endsOf w l d))
       ⊎ Done o w l d copy f e w′
-  pub told : Told o w l e w′
+  pub guaranteed : Guaranteed o w l e w′
 
 -- a receiving call with no block on the line
 pub record Stays (o : Session) (w : World) (l d : ℕ) (e : Entry) (w′ : World) : Type 0 where
   pub line : IdleLine o w′ (lost′ l e) (danger′ d e)
   pub same : endsOf w′ (lost′ l e) (danger′ d e) ≡ endsOf w l d
   pub next : w′ .sender .next ≡ w .sender .next
-  pub told : Told o w l e w′
+  pub guaranteed : Guaranteed o w l e w′
 
 -- a sending call that is not refused: its block is on the line
 pub record Begins (o : Session) (w : World) (l d : ℕ) (copy : Bits) (reading : Bool) (e : Entry)
@@ -196,9 +196,9 @@ pub record Begins (o : Session) (w : World) (l d : ℕ) (copy : Bits) (reading :
   pub sends : Sends (N o) (endsOf w l d) (bit reading) (endsOf w′ (lost′ l e) (danger′ d e)) (w .sender .next)
       (w′ .sender .next) line-block
   pub line : BusyLine o w′ (lost′ l e) (danger′ d e) copy line-block
-  pub told : Told o w l e w′
+  pub guaranteed : Guaranteed o w l e w′
 
 -- any call
 pub record Keeps (o : Session) (w : World) (l d : ℕ) (e : Entry) (w′ : World) : Type 0 where
   pub inv : Inv o w′ (lost′ l e) (danger′ d e)
-  pub told : Told o w l e w′
+  pub guaranteed : Guaranteed o w l e w′

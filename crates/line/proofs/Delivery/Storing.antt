@@ -48,13 +48,13 @@ module _ (o : Session) (fit : Fit o) (r : ℕ) (store : List ℕ) (held : Stored
       ∙ ap (λ (l : Bits). l ++ payload) (held .front) ∙ filled-next (o .k) (o .L) (o .content) r h
       ∙ ap (λ (n : ℕ). take n (filled (o .k) (o .L) (o .content))) e
 
-  rest : drop (at + length payload) (bitsOf (storeAt at payload store)) ≡ drop (at + length payload) (bitsOf (o .first))
+  rest : drop (at + length payload) (bitsOf (storeAt at payload store)) ≡ drop (at + length payload) (bitsOf (o .initialStore))
   unfolding at
   rest =
       ap (drop (at + length payload)) (bitsOf-storeAt at payload store fits)
       ∙ drop-overwrite at payload (bitsOf store) fits-row
       ∙ sym (drop-drop (length payload) at (bitsOf store)) ∙ ap (drop (length payload)) (held .rest)
-      ∙ drop-drop (length payload) at (bitsOf (o .first))
+      ∙ drop-drop (length payload) at (bitsOf (o .initialStore))
 
   pub store-takes : Stored o (r + 1) (storeAt (r * o .k) (itemPayload (o .k) (o .L) (o .content) r) store)
   unfolding at payload
@@ -62,7 +62,7 @@ module _ (o : Session) (fit : Fit o) (r : ℕ) (store : List ℕ) (held : Stored
       record {
         front = subst (λ (n : ℕ). take n (bitsOf (storeAt at payload store)) ≡ take n (filled (o .k) (o .L) (o .content)))
             (sym next-at) front;
-        rest = subst (λ (n : ℕ). drop n (bitsOf (storeAt at payload store)) ≡ drop n (bitsOf (o .first)))
+        rest = subst (λ (n : ℕ). drop n (bitsOf (storeAt at payload store)) ≡ drop n (bitsOf (o .initialStore)))
             (sym next-at) rest;
         size = length-storeAt at payload store ∙ held .size;
       }

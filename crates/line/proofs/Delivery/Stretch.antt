@@ -11,14 +11,14 @@ use Rattle.block.specs.Answer.{Answer, refused, done}
 use Rattle.block.specs.Block.{syncBlock}
 use Rattle.block.proofs.Truth.{or-false, or-no, bit-false}
 use Rattle.line.specs.Sending.{item}
-use Rattle.line.specs.Receiving.{Reading}
+use Rattle.line.specs.Receiving.{Reception}
 use Rattle.line.specs.Course.{World, Call, Entry, receive-refused, receiveEntry, receiveAfter, course}
 use Rattle.line.specs.Delivery.{some, isNew, isEnd, isAlarm, isLost, Period, group, usedBits, Undisturbed, All, brings}
 use Rattle.line.specs.declared.sender.Next.{Next}
 use Rattle.line.specs.declared.sender.Next.the-variants.{Newer}
 use Rattle.line.proofs.Delivery.Ends.{Ends, LineBlock, Sends, Idle}
 use Rattle.line.proofs.Delivery.Progress.{rank, rank-low, rank-falls}
-use Rattle.line.proofs.Delivery.State.{Session, N, Fit, alarmStands, endsOf, danger′, Base, whole, IdleLine, BusyLine, Told, Done}
+use Rattle.line.proofs.Delivery.State.{Session, N, Fit, alarmStands, endsOf, danger′, Base, whole, IdleLine, BusyLine, Guaranteed, Done}
 use Rattle.line.proofs.Delivery.OneCall.{ReceiveAnswered, idle-hears, busy-hears, done-idle}
 use Rattle.line.proofs.Delivery.List.{Okays}
 
@@ -63,14 +63,14 @@ quiet-busy {w = w} a =
     bit-false (alarmStands (w .receiver .phase)) (⊎-elim (λ x. absurd (omega (arith, x .lost))) (λ x. x .0 .alarm) (a .busy .state))
 
 -- what is supposed behind a call
-pub okays-next : {o : Session} {w w′ : World} {l : ℕ} {e : Entry} → Told o w l e w′ → (n : ℕ) (es : List Entry)
+pub okays-next : {o : Session} {w w′ : World} {l : ℕ} {e : Entry} → Guaranteed o w l e w′ → (n : ℕ) (es : List Entry)
     → Okays o (alarmStands (w .receiver .phase) || isAlarm e) n es → Okays o (alarmStands (w′ .receiver .phase)) n es
 okays-next {o} t n es h = subst (λ (b : Bool). Okays o b n es) (sym (t .alarm)) h
 
 pub okays-same : (o : Session) (alarm : Bool) (n : ℕ) (es : List Entry) → Okays o (alarm || false) n es → Okays o alarm n es
 okays-same o alarm n es h = subst (λ (b : Bool). Okays o b n es) (or-no alarm) h
 
-pub still-open : {o : Session} {w w′ : World} {l : ℕ} (e : Entry) → Told o w l e w′ → w .receiver .ended ≡ false
+pub still-open : {o : Session} {w w′ : World} {l : ℕ} (e : Entry) → Guaranteed o w l e w′ → w .receiver .ended ≡ false
     → isEnd e ≡ false → w′ .receiver .ended ≡ false
 still-open e t a n = t .ended ∙ ap₂ _||_ a n
 
@@ -122,7 +122,7 @@ module _ (o : Session) (fit : Fit o) where
         ih w d limit base (skip (receive-refused n) (course w cs) w d limit (omega arith) m)
         (okays-same o (alarmStands (w .receiver .phase)) d (course w cs) (ok .1)) nl ps behind e un q b
 
-    module _ (y : Reading) where
+    module _ (y : Reception) where
       abbrev x : Entry
       x = receiveEntry w lent store (done y)
 
@@ -137,17 +137,17 @@ module _ (o : Session) (fit : Fit o) where
       hear-between a base g ok nl ps behind e un q b =
           let z = idle-hears o fit w 0 d (g .line) base lent count store (done y) a (ok .0) in
           let n = or-false (brought x) (some brought (group (course w′ cs) .loose)) q in
-          ih w′ (danger′ d x) limit (z .told .base)
+          ih w′ (danger′ d x) limit (z .guaranteed .base)
           (inl
           (record {
             line = z .line;
-            ended = still-open x (z .told) (g .ended) (or-false (isNew x) (isEnd x) (n .0) .1);
+            ended = still-open x (z .guaranteed) (g .ended) (or-false (isNew x) (isEnd x) (n .0) .1);
             bound = subst (λ (s : Ends). rank s (w .sender .next) ≤ limit) (sym (z .same)) (g .bound);
           }))
-          (okays-next (z .told) (danger′ d x) (course w′ cs) (ok .1)) nl ps behind e un (n .1) b
+          (okays-next (z .guaranteed) (danger′ d x) (course w′ cs) (ok .1)) nl ps behind e un (n .1) b
 
       -- the block is read to its last bit: without news the rank is lower
-      lands : (g : During o w d limit (x ∷ course w′ cs)) → Told o w 0 x w′ → Done o w 0 d (g .copy) (g .line-block) x w′
+      lands : (g : During o w d limit (x ∷ course w′ cs)) → Guaranteed o w 0 x w′ → Done o w 0 d (g .copy) (g .line-block) x w′
           → brought x ≡ false → Between o w′ (danger′ d x) limit
       lands g t v n =
           record {
@@ -201,12 +201,12 @@ module _ (o : Session) (fit : Fit o) where
       hear-during a base g ok nl ps behind e un q b =
           let z = busy-hears o fit w 0 d (g .copy) (g .line-block) (g .line) base lent count store (done y) a (ok .0) in
           let n = or-false (brought x) (some brought (group (course w′ cs) .loose)) q in
-          let ended = still-open x (z .told) (g .ended) (or-false (isNew x) (isEnd x) (n .0) .1) in
-          ih w′ (danger′ d x) limit (z .told .base)
-          (⊎-elim (λ v. inr (goes-on g (v .0) (v .2 (quiet-busy (g .line))) ended)) (λ v. inl (lands g (z .told) v (n .0))) (z .next))
-          (okays-next (z .told) (danger′ d x) (course w′ cs) (ok .1)) nl ps behind e un (n .1) b
+          let ended = still-open x (z .guaranteed) (g .ended) (or-false (isNew x) (isEnd x) (n .0) .1) in
+          ih w′ (danger′ d x) limit (z .guaranteed .base)
+          (⊎-elim (λ v. inr (goes-on g (v .0) (v .2 (quiet-busy (g .line))) ended)) (λ v. inl (lands g (z .guaranteed) v (n .0))) (z .next))
+          (okays-next (z .guaranteed) (danger′ d x) (course w′ cs) (ok .1)) nl ps behind e un (n .1) b
 
-    pub short-hear : (a : Answer Reading) → ReceiveAnswered (w .receiver) lent count a
+    pub short-hear : (a : Answer Reception) → ReceiveAnswered (w .receiver) lent count a
         → Short w d limit (receiveEntry w lent store a ∷ course (receiveAfter w store a) cs)
     short-hear (refused n) q base m ok nl = hear-refused n base m ok nl
     short-hear (done y) q base (inl g) ok nl = hear-between y q base g ok nl

@@ -31,7 +31,7 @@ use Rattle.line.specs.declared.receiver.Opening.the-variants as Opening
 use Rattle.line.proofs.Items.{length-orderBits}
 use Rattle.line.proofs.Delivery.Ends.{Basic}
 use Rattle.line.proofs.Delivery.Invariant.{opened-idle}
-use Rattle.line.proofs.Delivery.Holding.{length-noBytes}
+use Rattle.line.proofs.Delivery.Holding.{length-zeroArray}
 use Rattle.line.proofs.Delivery.Reading.{held-none}
 use Rattle.line.proofs.Delivery.State.{Session, N, Fit, alarmStands, endsOf, Base, IdleLine, Inv}
 use Rattle.line.proofs.Delivery.List.{Okays, okays, losts, dangers, losts-zero, Safe, safe}
@@ -100,7 +100,7 @@ receiver-opens k o h e = h .state ∙ ap (openedReceiver k) (sym (sym (ap openin
 
 module _ (o : Session) where
   abbrev start : World
-  start = opened (freshSender (o .k) (o .L)) (freshReceiver (o .k)) (o .first)
+  start = opened (freshSender (o .k) (o .L)) (freshReceiver (o .k)) (o .initialStore)
 
   start-base : Base o start
   unfolding freshSender freshReceiver
@@ -110,13 +110,13 @@ module _ (o : Session) where
         sender-L = refl;
         run = omega arith;
         k = refl;
-        array = length-noBytes;
-        row = omega arith;
+        array = length-zeroArray;
+        bad-row = omega arith;
         held = refl;
         stored =
             record {
               front =
-                  ap (λ (n : ℕ). take n (bitsOf (o .first))) (zero-mul (o .k))
+                  ap (λ (n : ℕ). take n (bitsOf (o .initialStore))) (zero-mul (o .k))
                   ∙ sym (ap (λ (n : ℕ). take n (filled (o .k) (o .L) (o .content))) (zero-mul (o .k)));
               rest = refl;
               size = refl;
@@ -184,7 +184,7 @@ module _ (o : Session) (fit : Fit o) (calls : List Call) (w : World) (base : Bas
   five-from : Assumptions (o .k) (o .content) es → FivePeriods (o .k) es
   five-from h = within-five o fit calls w 0 idle base still (okay h)
 
-  guarantees-from : Assumptions (o .k) (o .content) es → Guarantees (o .k) (o .L) (o .content) (o .first) es w′
+  guarantees-from : Assumptions (o .k) (o .content) es → Guarantees (o .k) (o .L) (o .content) (o .initialStore) es w′
   guarantees-from h =
       record {
         items = omega (arith, basic .taken, taken);
@@ -192,7 +192,7 @@ module _ (o : Session) (fit : Fit o) (calls : List Call) (w : World) (base : Bas
             subst (λ (n : ℕ). take (n * o .k) (bitsOf (w′ .store)) ≡ take (n * o .k) (filled (o .k) (o .L) (o .content))) taken
             (s .inv .base .stored .front);
         untouched =
-            subst (λ (n : ℕ). drop (n * o .k) (bitsOf (w′ .store)) ≡ drop (n * o .k) (bitsOf (o .first))) taken (s .inv .base .stored .rest);
+            subst (λ (n : ℕ). drop (n * o .k) (bitsOf (w′ .store)) ≡ drop (n * o .k) (bitsOf (o .initialStore))) taken (s .inv .base .stored .rest);
         ended = λ M e. (sym taken ∙ facts .1 (ap bit (ended ∙ some-implies _ isEnd (entry-ends M) es e)), s .length M e);
         alarm = λ before behind e q a. bit-true (some isLost before) (omega (arith, s .alarm before behind e q a, losts-zero before));
         finished = λ n f. sym ended ∙ bit-true (w′ .receiver .ended) (omega (arith, basic .finished, ap bit f, losts-zero es, ap bit n));
@@ -217,13 +217,13 @@ module _ (o : Session) (fit : Fit o) (calls : List Call) (w : World) (base : Bas
 
 -- ---- from the openings
 
-module _ (k speed loop-ms L : ℕ) (order : List ℕ) (s : Sender) (r : ReceiverOpened.Opened) (first : List ℕ)
-    (h : Openings k speed loop-ms L order s r first) where
+module _ (k speed loop-ms L : ℕ) (order : List ℕ) (s : Sender) (r : ReceiverOpened.Opened) (initialStore : List ℕ)
+    (h : Openings k speed loop-ms L order s r initialStore) where
   pub opened-well : OpenedWell k L order s
   opened-well = sender-opens k speed loop-ms L order s (h .sender .answers)
 
   abbrev session : Session
-  session = record { k = k; L = L; content = orderBits L order; first = first }
+  session = record { k = k; L = L; content = orderBits L order; initialStore = initialStore }
 
   fit : Fit session
   fit =
@@ -236,21 +236,21 @@ module _ (k speed loop-ms L : ℕ) (order : List ℕ) (s : Sender) (r : Receiver
       }
 
   -- the ends as opened are fresh
-  from-fresh : (P : World → Type 0) → P (start session) → P (opened s (r .state) first)
+  from-fresh : (P : World → Type 0) → P (start session) → P (opened s (r .state) initialStore)
   from-fresh P =
-      subst₂ (λ (a : Sender) (b : Receiver). P (opened a b first)) (sym (opened-well .fresh))
+      subst₂ (λ (a : Sender) (b : Receiver). P (opened a b initialStore)) (sym (opened-well .fresh))
       (sym (receiver-opens k r (h .receiver) (h .not-refused)))
 
-  pub guaranteed : (calls : List Call) → Assumptions k (orderBits L order) (course (opened s (r .state) first) calls)
-      → Guarantees k L (orderBits L order) first (course (opened s (r .state) first) calls) (final (opened s (r .state) first) calls)
+  pub guaranteed : (calls : List Call) → Assumptions k (orderBits L order) (course (opened s (r .state) initialStore) calls)
+      → Guarantees k L (orderBits L order) initialStore (course (opened s (r .state) initialStore) calls) (final (opened s (r .state) initialStore) calls)
   guaranteed calls =
       from-fresh
-      (λ w. Assumptions k (orderBits L order) (course w calls) → Guarantees k L (orderBits L order) first (course w calls) (final w calls))
+      (λ w. Assumptions k (orderBits L order) (course w calls) → Guarantees k L (orderBits L order) initialStore (course w calls) (final w calls))
       (guarantees-from session fit calls (start session) (start-base session) (start-idle session)
       (start-clear session .0) (start-clear session .1) (start-clear session .2))
 
-  pub five : (calls : List Call) → Assumptions k (orderBits L order) (course (opened s (r .state) first) calls)
-      → FivePeriods k (course (opened s (r .state) first) calls)
+  pub five : (calls : List Call) → Assumptions k (orderBits L order) (course (opened s (r .state) initialStore) calls)
+      → FivePeriods k (course (opened s (r .state) initialStore) calls)
   five calls =
       from-fresh (λ w. Assumptions k (orderBits L order) (course w calls) → FivePeriods k (course w calls))
       (five-from session fit calls (start session) (start-base session) (start-idle session)
@@ -258,8 +258,8 @@ module _ (k speed loop-ms L : ℕ) (order : List ℕ) (s : Sender) (r : Receiver
 
 pub delivery : Delivery
 unfolding Delivery
-delivery k speed loop-ms L order s r first h calls run =
+delivery k speed loop-ms L order s r initialStore h calls run =
     record {
-      answers = answers run (opened s (r .state) first) refl refl;
-      guarantees = guaranteed k speed loop-ms L order s r first h calls;
+      answers = answers run (opened s (r .state) initialStore) refl refl;
+      guarantees = guaranteed k speed loop-ms L order s r initialStore h calls;
     }

@@ -44,9 +44,9 @@ begins-filled : (k L : ℕ) (content : Bits) → length content ≡ L → take L
 unfolding filled
 begins-filled k L content h = take-at content (zeros (itemCount k L * k - L)) L h
 
-all-stored : (k L : ℕ) (content : Bits) (first : List ℕ) (es : List Entry) (w : World) → 0 < k → length content ≡ L
-    → Guarantees k L content first es w → some isEnd es ≡ true → take L (bitsOf (w .store)) ≡ content
-all-stored k L content first es w pos long g e =
+all-stored : (k L : ℕ) (content : Bits) (initialStore : List ℕ) (es : List Entry) (w : World) → 0 < k → length content ≡ L
+    → Guarantees k L content initialStore es w → some isEnd es ≡ true → take L (bitsOf (w .store)) ≡ content
+all-stored k L content initialStore es w pos long g e =
     let m = some-reports es e in
     let n : accepted es * k ≡ itemCount k L * k = ap (λ (r : ℕ). r * k) (g .ended (m .0) (m .1) .0) in
     let le : L ≤ accepted es * k = omega (arith, n, itemCount-holds k L pos) in
@@ -71,18 +71,18 @@ same-bytes m s t a b e =
 
 -- ---- from the openings
 
-module _ (k speed loop-ms L : ℕ) (order : List ℕ) (s : Sender) (r : ReceiverOpened.Opened) (first : List ℕ)
-    (h : Openings k speed loop-ms L order s r first) (calls : List Call) where
+module _ (k speed loop-ms L : ℕ) (order : List ℕ) (s : Sender) (r : ReceiverOpened.Opened) (initialStore : List ℕ)
+    (h : Openings k speed loop-ms L order s r initialStore) (calls : List Call) where
   abbrev start : World
-  start = opened s (r .state) first
+  start = opened s (r .state) initialStore
 
   -- with the end reported, the store's first L bits are the order's
   pub delivered-order : Assumptions k (orderBits L order) (course start calls) → some isEnd (course start calls) ≡ true
       → take L (bitsOf (final start calls .store)) ≡ take L (bitsOf order)
   delivered-order a e =
-      let o = opened-well k speed loop-ms L order s r first h in
-      all-stored k L (orderBits L order) first (course start calls) (final start calls) (omega (arith, length-facts k (o .known)))
-      (length-orderBits L order (o .lent)) (guaranteed k speed loop-ms L order s r first h calls a) e
+      let o = opened-well k speed loop-ms L order s r initialStore h in
+      all-stored k L (orderBits L order) initialStore (course start calls) (final start calls) (omega (arith, length-facts k (o .known)))
+      (length-orderBits L order (o .lent)) (guaranteed k speed loop-ms L order s r initialStore h calls a) e
 
   -- and where L is a whole number of bytes, its first bytes are the order's
   pub delivered-bytes : (m : ℕ) → L ≡ 8 * m → ((i : ℕ) → getD (final start calls .store) i 0 < 256)

@@ -12,7 +12,7 @@ use Rattle.crc.proofs.Bytes.{length-bitsOf}
 use Rattle.block.specs.Answer as A
 use Rattle.block.specs.Answer.{Answer, refused, done, refuseIf}
 use Rattle.block.specs.Calls.{tooShort}
-use Rattle.line.specs.Receiving.{arrayBytes, meaning, Reading, receiverInRange, judgeStore, receive, receiveStore}
+use Rattle.line.specs.Receiving.{arrayBytes, meaning, Reception, receiverInRange, judgeStore, receive, receiveStore}
 use Rattle.line.specs.Pieces.{Piece, lent, joined, total, Outcome, addUsed, addUsedIfDone, nextCall, nextCalls}
 use Rattle.line.specs.declared.receiver.Receiver.{Receiver}
 use Rattle.block.proofs.Truth.{cond-case, either}
@@ -26,10 +26,10 @@ use Rattle.line.proofs.Pieces.Reading.{reads, Onward, Within, splits}
 abbrev pub Full : Piece → Type 0
 Full p = length (lent p) ≡ p .count
 
-abbrev pub outcome : Receiver → List ℕ → Answer Reading → Outcome
+abbrev pub outcome : Receiver → List ℕ → Answer Reception → Outcome
 outcome s store answer = record { answer = answer; store = receiveStore s store answer }
 
-abbrev pub rowAnswer : Receiver → List ℕ → Bits → Answer Reading
+abbrev pub rowAnswer : Receiver → List ℕ → Bits → Answer Reception
 rowAnswer s store row = refuseIf (not (receiverInRange s)) A.spoiled (judgeStore s store (reads s row))
 
 abbrev rowOutcome : Receiver → List ℕ → Bits → Outcome
@@ -47,22 +47,22 @@ receive-row s store p h =
 
 -- the store is judged as it was before, from the state then
 module _ (s t : Receiver) (store : List ℕ) (k : t .setup .k ≡ s .setup .k) (taken : t .taken ≡ s .taken) (n : ℕ) where
-  judge-addUsed : (y : Reading) → judgeStore s store (addUsed n y) ≡ addUsedIfDone n (judgeStore t store y)
+  judge-addUsed : (y : Reception) → judgeStore s store (addUsed n y) ≡ addUsedIfDone n (judgeStore t store y)
   judge-addUsed y = rw (k, taken) (go (meaning (y .rule) .stores && tooShort store (s .taken * s .setup .k + s .setup .k)))
     where
       go : (b : Bool) → cond b (refused A.short) (done (addUsed n y)) ≡ addUsedIfDone n (cond b (refused A.short) (done y))
       go true = refl
       go false = refl
 
-  store-addUsed : (answer : Answer Reading) → receiveStore s store (addUsedIfDone n answer) ≡ receiveStore t store answer
+  store-addUsed : (answer : Answer Reception) → receiveStore s store (addUsedIfDone n answer) ≡ receiveStore t store answer
   store-addUsed (refused m) = refl
   store-addUsed (done y) = rw (k, taken)
 
 module _ (s : Receiver) (store : List ℕ) (a : Bits) (q : Piece) where
-  abbrev first : Reading
+  abbrev first : Reception
   first = reads s a
 
-  abbrev Same : Answer Reading → Type 0
+  abbrev Same : Answer Reception → Type 0
   Same answer = outcome s store (judgeStore s store (reads s (a ++ lent q))) ≡ nextCall answer (receiveStore s store answer) q
 
   calls-on : Onward s a first → Full q → Same (judgeStore s store first)
@@ -84,8 +84,8 @@ module _ (s : Receiver) (store : List ℕ) (a : Bits) (q : Piece) where
 
   calls-stop : Within s a first → Same (judgeStore s store first)
   calls-stop w =
-      ap (λ (y : Reading). outcome s store (judgeStore s store y)) (w .more (lent q))
-      ∙ cond-case (λ (y : Answer Reading). outcome s store y ≡ nextCall y (receiveStore s store y) q)
+      ap (λ (y : Reception). outcome s store (judgeStore s store y)) (w .more (lent q))
+      ∙ cond-case (λ (y : Answer Reception). outcome s store y ≡ nextCall y (receiveStore s store y) q)
       (meaning (first .rule) .stores && tooShort store (s .taken * s .setup .k + s .setup .k)) (λ t. refl) (λ t. rw (w .event))
 
 -- ---- any number of calls

@@ -11,7 +11,7 @@ use borrow.Author.Tests.{ltb-true, ltb-false, lt-ltb, le-leb}
 use Rattle.crc.specs.Bits.{Bits}
 use Rattle.block.specs.Lengths.{blockLength}
 use Rattle.line.specs.Order.{mostItems}
-use Rattle.line.specs.Receiving.{arrayBytes, lastBad, Rule, standing, meaning, heldBits, Reading, searching, search, holding, missing, finishedRow, inStep, stands, stood, reading, idleRule, idle, readings, heldInRange, receiverInRange}
+use Rattle.line.specs.Receiving.{arrayBytes, lastBad, Rule, standing, meaning, heldBits, Reception, searching, search, holding, missing, finishedRow, inStep, underAlarm, alarmReception, byPhase, idleRule, idle, reception, heldInRange, receiverInRange}
 use Rattle.line.specs.Pieces.{addUsed}
 use Rattle.line.specs.declared.receiver.Receiver.{Receiver}
 use Rattle.line.specs.declared.receiving.Phase.{Phase}
@@ -19,7 +19,7 @@ use Rattle.line.specs.declared.receiving.Phase.the-variants as P
 use Rattle.line.specs.declared.receiving.Event.{Event}
 use Rattle.line.specs.declared.receiving.Event.the-variants as E
 use Rattle.line.proofs.Stepping.{held-on, step-on, step-done}
-use Rattle.line.proofs.Calling.{InRange, held-search, readings-some}
+use Rattle.line.proofs.Calling.{InRange, held-search, reception-some}
 use Rattle.block.proofs.Truth.{either}
 use Rattle.line.proofs.Delivery.Judging.{judged}
 use Rattle.line.proofs.Delivery.Holding.{length-heldBits, heldBits-searching}
@@ -27,11 +27,11 @@ use Rattle.line.proofs.Pieces.Search.{Passed, Found, unfound, search-sp
 use Rattle.line.proofs.Pieces.Step.{step-addUsed, step-within, judged-event}
 
 -- what a call reads that is lent these bits
-abbrev pub reads : Receiver → Bits → Reading
-reads s new = readings s new (length new)
+abbrev pub reads : Receiver → Bits → Reception
+reads s new = reception s new (length new)
 
 -- all of a's bits are used, and further bits are read from the state then
-pub record Onward (s : Receiver) (a : Bits) (x : Reading) : Type 0 where
+pub record Onward (s : Receiver) (a : Bits) (x : Reception) : Type 0 where
   pub quiet : meaning (x .rule) .uses-all ≡ true
   pub used : x .used ≡ length a
   pub range : receiverInRange (x .state) ≡ true
@@ -40,23 +40,23 @@ pub record Onward (s : Receiver) (a : Bits) (x : Reading) : Type 0 where
   pub more : (b : Bits) → reads s (a ++ b) ≡ addUsed (length a) (reads (x .state) b)
 
 -- an event comes within a
-pub record Within (s : Receiver) (a : Bits) (x : Reading) : Type 0 where
+pub record Within (s : Receiver) (a : Bits) (x : Reception) : Type 0 where
   pub event : meaning (x .rule) .uses-all ≡ false
   pub more : (b : Bits) → reads s (a ++ b) ≡ x
 
-abbrev pub Splits : Receiver → Bits → Reading → Type 0
+abbrev pub Splits : Receiver → Bits → Reception → Type 0
 Splits s a x = Onward s a x ⊎ Within s a x
 
 range-in : (s : Receiver) → InRange s → receiverInRange s ≡ true
 unfolding receiverInRange
 range-in s r =
-    ap₂ _&&_ (ap₂ _&&_ (ap₂ _&&_ (r .known) (lt-ltb (s .row) lastBad (r .row))) (le-leb (s .taken) mostItems (r .taken))) (r .held)
+    ap₂ _&&_ (ap₂ _&&_ (ap₂ _&&_ (r .known) (lt-ltb (s .«bad_row») lastBad (r .bad-row))) (le-leb (s .taken) mostItems (r .taken))) (r .held)
 
-reads-some : (s : Receiver) (p : Phase) → s .phase ≡ p → (b : Bool) (bs : Bits) → reads s (b ∷ bs) ≡ reading s p (b ∷ bs)
-reads-some s p e b bs = sym (readings-some s [] (b ∷ bs) (length (b ∷ bs)) (λ z. absurd (omega arith)) p e)
+reads-some : (s : Receiver) (p : Phase) → s .phase ≡ p → (b : Bool) (bs : Bits) → reads s (b ∷ bs) ≡ byPhase s p (b ∷ bs)
+reads-some s p e b bs = sym (reception-some s [] (b ∷ bs) (length (b ∷ bs)) (λ z. absurd (omega arith)) p e)
 
 reads-none : (s : Receiver) → reads s [] ≡ idle s
-unfolding readings
+unfolding reception
 reads-none s = refl
 
 idle-uses-all : (p : Phase) → meaning (idleRule p) .uses-all ≡ true
@@ -107,7 +107,7 @@ module _ (s : Receiver) (r : InRange s) (array : length (s .bits) ≡ arrayBytes
               used = omega arith;
               range = range-in (searching s (p .then)) (record {
                 known = r .known;
-                row = r .row;
+                bad-row = r .bad-row;
                 taken = r .taken;
                 held = ap (λ (q : Phase). heldInRange q (blockLength (s .setup .k)) (length (p .then))) e
                     ∙ le-leb (length (p .then)) 15 (p .short);
@@ -125,7 +125,7 @@ module _ (s : Receiver) (r : InRange s) (array : length (s .bits) ≡ arrayBytes
         complete : missing s ≤ length a → Within s a (inStep s a)
         complete h =
             record {
-              event = ap (λ (x : Reading). meaning (x .rule) .uses-all) (step-done s a h)
+              event = ap (λ (x : Reception). meaning (x .rule) .uses-all) (step-done s a h)
                   ∙ judged-event (judged (s .setup .k) (s .taken) (s .ended) (finishedRow s a));
               more = λ b. reads-some s P.InStep e c (cs ++ b) ∙ step-within s a b h;
             }
@@ -147,7 +147,7 @@ module _ (s : Receiver) (r : InRange s) (array : length (s .bits) ≡ arrayBytes
               used = refl;
               range = range-in (holding s a) (record {
                 known = r .known;
-                row = r .row;
+                bad-row = r .bad-row;
                 taken = r .taken;
                 held = ap (λ (q : Phase). heldInRange q (blockLength (s .setup .k)) (s .held + length a)) e
                     ∙ lt-ltb (s .held + length a) (blockLength (s .setup .k)) (omega arith);
@@ -159,28 +159,28 @@ module _ (s : Receiver) (r : InRange s) (array : length (s .bits) ≡ arrayBytes
 
     -- an alarm stands: this event, in this phase
     alarmed : (p : Phase) (alarm : Event) → s .phase ≡ p → idleRule p ≡ standing alarm
-        → ((t : Receiver) (new : Bits) → reading t p new ≡ stood t alarm (length new)) → Onward s a (stood s alarm (length a))
+        → ((t : Receiver) (new : Bits) → byPhase t p new ≡ alarmReception t alarm (length new)) → Onward s a (alarmReception s alarm (length a))
     alarmed p alarm e i st =
         record {
           quiet = refl;
           used = refl;
-          range = range-in (stands s) (record {
+          range = range-in (underAlarm s) (record {
             known = r .known;
-            row = omega arith;
+            bad-row = omega arith;
             taken = r .taken;
             held = r .held;
           });
           k = refl;
           taken = refl;
           more = λ b. reads-some s p e c (cs ++ b) ∙ st s (a ++ b)
-              ∙ ap (stood s alarm) (length-append a b) ∙ ap (addUsed (length a)) (sym (behind b));
+              ∙ ap (alarmReception s alarm) (length-append a b) ∙ ap (addUsed (length a)) (sym (behind b));
         }
       where
-        behind : (b : Bits) → reads (stands s) b ≡ stood s alarm (length b)
-        behind [] = reads-none (stands s) ∙ ap (λ (x : Rule). record { rule = x; row = []; used = 0; state = stands s }) (ap idleRule e ∙ i)
-        behind (d ∷ b) = reads-some (stands s) p e d b ∙ st (stands s) (d ∷ b)
+        behind : (b : Bits) → reads (underAlarm s) b ≡ alarmReception s alarm (length b)
+        behind [] = reads-none (underAlarm s) ∙ ap (λ (x : Rule). record { rule = x; row = []; used = 0; state = underAlarm s }) (ap idleRule e ∙ i)
+        behind (d ∷ b) = reads-some (underAlarm s) p e d b ∙ st (underAlarm s) (d ∷ b)
 
-    by-phase : (p : Phase) → s .phase ≡ p → Splits s a (reading s p a)
+    by-phase : (p : Phase) → s .phase ≡ p → Splits s a (byPhase s p a)
     by-phase P.Search e = in-search e
     by-phase P.InStep e = in-step e
     by-phase P.SequenceAlarm e = inl (alarmed P.SequenceAlarm E.SequenceAlarm e refl (λ t new. refl))

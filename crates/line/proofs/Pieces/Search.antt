@@ -9,7 +9,7 @@ use lib.ListN.{length, drop}
 use lib.Seq.{drop-at}
 use Rattle.crc.specs.Bits.{Bits, bytesOf}
 use Rattle.crc.proofs.Bytes.{length-bytesOf}
-use Rattle.line.specs.Receiving.{unfinished, found, meaning, Reading, stops, latest, searching, isSequence, search}
+use Rattle.line.specs.Receiving.{unfinished, sequence-found, meaning, Reception, stops, latest, searching, isSequence, search}
 use Rattle.line.specs.Pieces.{addUsed}
 use Rattle.line.specs.declared.receiver.Receiver.{Receiver}
 use Rattle.line.proofs.Delivery.Scanning.{length-latest}
@@ -21,7 +21,7 @@ searching-again s earlier window =
       setup = s .setup;
       bits = bytesOf 2 window ++ others;
       held = length window;
-      row = s .row;
+      «bad_row» = s .«bad_row»;
       back = true;
       taken = s .taken;
       ended = s .ended;
@@ -29,7 +29,7 @@ searching-again s earlier window =
     }) (drop-at (bytesOf 2 earlier) (drop 2 (s .bits)) 2 (length-bytesOf 2 earlier))
 
 module _ (s : Receiver) where
-  abbrev pub unfound : Bits → ℕ → Reading
+  abbrev pub unfound : Bits → ℕ → Reception
   unfound window used = record { rule = unfinished; row = []; used = used; state = searching s window }
 
   -- the sequence is not found among a's bits, with this window behind them, ...
@@ -62,17 +62,17 @@ module _ (s : Receiver) where
 
       on : isSequence (window ++ (c ∷ [])) ≡ false → (bs : Bits)
           → search s window (c ∷ bs) used ≡ search s (latest (window ++ (c ∷ []))) bs (suc used)
-      on e bs = ap (λ (t : Bool). cond t (stops s found [] (suc used)) (search s (latest (window ++ (c ∷ []))) bs (suc used))) e
+      on e bs = ap (λ (t : Bool). cond t (stops s sequence-found [] (suc used)) (search s (latest (window ++ (c ∷ []))) bs (suc used))) e
 
-      at : isSequence (window ++ (c ∷ [])) ≡ true → (bs : Bits) → search s window (c ∷ bs) used ≡ stops s found [] (suc used)
-      at e bs = ap (λ (t : Bool). cond t (stops s found [] (suc used)) (search s (latest (window ++ (c ∷ []))) bs (suc used))) e
+      at : isSequence (window ++ (c ∷ [])) ≡ true → (bs : Bits) → search s window (c ∷ bs) used ≡ stops s sequence-found [] (suc used)
+      at e bs = ap (λ (t : Bool). cond t (stops s sequence-found [] (suc used)) (search s (latest (window ++ (c ∷ []))) bs (suc used))) e
 
       go : (t : Bool) → isSequence (window ++ (c ∷ [])) ≡ t
           → Passed (latest (window ++ (c ∷ []))) a (suc used) ⊎ Found (latest (window ++ (c ∷ []))) a (suc used)
           → Passed window (c ∷ a) used ⊎ Found window (c ∷ a) used
       go true e r =
           inr (record {
-            event = ap (λ (x : Reading). meaning (x .rule) .uses-all) (at e a);
+            event = ap (λ (x : Reception). meaning (x .rule) .uses-all) (at e a);
             more = λ b. at e (a ++ b) ∙ sym (at e a);
           })
       go false e (inl r) =
@@ -84,7 +84,7 @@ module _ (s : Receiver) where
           })
       go false e (inr r) =
           inr (record {
-            event = ap (λ (x : Reading). meaning (x .rule) .uses-all) (on e a) ∙ r .event;
+            event = ap (λ (x : Reception). meaning (x .rule) .uses-all) (on e a) ∙ r .event;
             more = λ b. on e (a ++ b) ∙ r .more b ∙ sym (on e a);
           })
 
@@ -101,7 +101,7 @@ module _ (s : Receiver) where
       e : suc (m + n) ≡ m + suc n
       e = omega arith
 
-      go : (t : Bool) (x y : Reading) → x ≡ addUsed m y
-          → cond t (stops s found [] (suc (m + n))) x ≡ addUsed m (cond t (stops (searching s earlier) found [] (suc n)) y)
-      go true x y q = ap (stops s found []) e
+      go : (t : Bool) (x y : Reception) → x ≡ addUsed m y
+          → cond t (stops s sequence-found [] (suc (m + n))) x ≡ addUsed m (cond t (stops (searching s earlier) sequence-found [] (suc n)) y)
+      go true x y q = ap (stops s sequence-found []) e
       go false x y q = q

@@ -13,7 +13,7 @@ use Rattle.crc.specs.Bits.{Bits, bitsOf, bytesOf}
 use Rattle.crc.proofs.Bytes.{length-bitsOf}
 use Rattle.block.specs.Lengths.{isLength}
 use Rattle.block.proofs.Lengths.{length-facts}
-use Rattle.line.specs.Receiving.{arrayBytes, Rule, unfinished, standing, found, sync-block, check-fails, accepts, previous, out-of-sequence, ends, wrong-length, ends-again, anything-else, meaning, judge, heldBits, stops, overwrite, holding, missing, finishedRow, inStep}
+use Rattle.line.specs.Receiving.{arrayBytes, Rule, unfinished, standing, sequence-found, sync-block, check-fails, accepts, previous, out-of-sequence, ends, wrong-length, ends-again, anything-else, meaning, judge, heldBits, stops, overwrite, holding, missing, finishedRow, inStep}
 use Rattle.line.specs.Pieces.{addUsed}
 use Rattle.line.specs.declared.receiver.Receiver.{Receiver}
 use Rattle.line.proofs.Stepping.{step-on, step-done}
@@ -45,7 +45,7 @@ module _ (s : Receiver) (array : length (s .bits) ≡ arrayBytes) (a : Bits) (ro
         setup = s .setup;
         bits = bytes;
         held = held;
-        row = s .row;
+        «bad_row» = s .«bad_row»;
         back = s .back;
         taken = s .taken;
         ended = s .ended;
@@ -112,7 +112,7 @@ pub quiet-rule : (x : Rule)
     → (meaning x .uses-all && meaning x .stores ≡ false) × (meaning x .data-or-end && meaning x .uses-all ≡ false)
 quiet-rule unfinished = (refl, refl)
 quiet-rule (standing alarm) = (refl, refl)
-quiet-rule found = (refl, refl)
+quiet-rule sequence-found = (refl, refl)
 quiet-rule sync-block = (refl, refl)
 quiet-rule check-fails = (refl, refl)
 quiet-rule accepts = (refl, refl)

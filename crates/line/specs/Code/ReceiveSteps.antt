@@ -17,8 +17,8 @@ use Rattle.line.specs.declared.window.Window.{Window}
 use Rattle.line.specs.declared.rules.Rule as D
 use Rattle.line.specs.declared.rules.Rule.the-variants as C
 use Rattle.line.specs.Order.{mostItems}
-use Rattle.line.specs.Receiving.{arrayBytes, lastBad, Rule, accepts, previous, out-of-sequence, ends, wrong-length, ends-again, anything-else, meaning, judge, stops, Reading, judgeStore, receivedAnswer, reported, receiveState, receiveStore}
-use Rattle.line.specs.ReceivingInPlace.{whole}
+use Rattle.line.specs.Receiving.{arrayBytes, lastBad, Rule, accepts, previous, out-of-sequence, ends, wrong-length, ends-again, anything-else, meaning, judge, stops, Reception, judgeStore, receivedAnswer, reported, receiveState, receiveStore}
+use Rattle.line.specs.ReceivingInPlace.{withArray}
 
 -- ---- what the private functions ask of their arguments
 
@@ -26,7 +26,7 @@ use Rattle.line.specs.ReceivingInPlace.{whole}
 pub record ReadyHead (h : Head) (array : List ℕ) : Type 0 where
   pub array-length : length array ≡ arrayBytes
   pub known : isLength (h .setup .k) ≡ true
-  pub bad-row : h .row < lastBad
+  pub bad-row : h .«bad_row» < lastBad
   pub items : h .taken ≤ mostItems
 
 -- and a slice that holds the n bits of a block
@@ -57,7 +57,7 @@ windowBits w = binary (w .held) (w .number)
 
 -- what a call hands back, its head and the array as one state
 abbrev pub stepWith : HeadStep → List ℕ → Step
-stepWith r array = record { state = whole (r .head) array; answer = r .answer }
+stepWith r array = record { state = withArray (r .head) array; answer = r .answer }
 
 abbrev pub turnedAway : Head → ℕ → HeadStep
 turnedAway h n = record { head = h; answer = R.Refused n }
@@ -67,15 +67,15 @@ abbrev pub stepped : Receiver → Event → ℕ → Step
 stepped s event used = record { state = s; answer = R.Used event used }
 
 -- what a call hands back for what it read where nothing is stored
-abbrev pub handedBack : Reading → Step
+abbrev pub handedBack : Reception → Step
 handedBack x = stepped (x .state) (meaning (x .rule) .event) (x .used)
 
 -- what is read where these n bits complete a block
-abbrev pub judged : Receiver → Bits → ℕ → Reading
+abbrev pub judged : Receiver → Bits → ℕ → Reception
 judged s row used = stops s (judge (s .setup .k) (s .taken) (s .ended) row) row used
 
 -- what a call hands back for what it read, the store judged
-pub record Handed (s : Receiver) (store : List ℕ) (x : Reading) (result : Step) (store′ : List ℕ) : Type 0 where
+pub record Handed (s : Receiver) (store : List ℕ) (x : Reception) (result : Step) (store′ : List ℕ) : Type 0 where
   pub answers : receivedAnswer (result .answer) ≡ reported (judgeStore s store x)
   pub state : result .state ≡ receiveState s (judgeStore s store x)
   pub writes : store′ ≡ receiveStore s store (judgeStore s store x)

@@ -7,7 +7,7 @@ use Prim.Native.Nat.{ℕ, _-_, _≤_}
 use native.Mathlib.Omega.{arith}
 use lib.ListN.{length, drop, set, replicate, length-set}
 use lib.Seq.{drop-length}
-use Rattle.line.specs.Receiving.{noBytes}
+use Rattle.line.specs.Receiving.{zeroArray}
 use Rattle.line.proofs.head.clear.Statement.{statement}
 use Rattle.line.proofs.head.clear.Tie as tie
 
@@ -17,8 +17,8 @@ Inv-loop array₀ i₀ array i = (i ≤ 483) × (length array ≡ 483) × (array
 abbrev μ-loop : tie.MeasureT-loop
 μ-loop array₀ i₀ array i = 483 - i
 
-all-zero : (d l : List ℕ) (i : ℕ) → i ≡ 483 → length d ≡ 483 → l ≡ replicate i 0 ++ drop i d → l ≡ noBytes
-unfolding noBytes
+all-zero : (d l : List ℕ) (i : ℕ) → i ≡ 483 → length d ≡ 483 → l ≡ replicate i 0 ++ drop i d → l ≡ zeroArray
+unfolding zeroArray
 all-zero d l i h n e =
     e ∙ ap (λ (x : ℕ). replicate x 0 ++ drop x d) h
     ∙ ap (λ (x : List ℕ). replicate 483 0 ++ x) (ap (λ (x : ℕ). drop x d) (sym n) ∙ drop-length d)

@@ -4,7 +4,7 @@ use native.Mathlib.Omega.{arith}
 use mathlib.Core.Bool.{true}
 use Rattle.crc.specs.Bits.{bitsOf}
 use Rattle.line.specs.Receiving.{Rule, endRule, lengthRule}
-use Rattle.line.proofs.Judging.{version-not, length-zero, length-long, length-other, length-right, end-by-length}
+use Rattle.line.proofs.Judging.{version-not, length-zero, length-long, length-other, length-valid, end-by-length}
 use borrow.Author.Needs.{needs}
 use Rattle.line.proofs.rules.end_rule.Statement.{statement}
 use Rattle.line.proofs.rules.end_rule.Tie as tie
@@ -50,7 +50,7 @@ returns-5 c = read-length (c .before .before .before .before) _ (length-other _ 
 returns-6 : tie.Need-returns-6
 returns-6 c =
     read-length (c .before .before .before .before) _
-    (length-right _ _ _ (omega arith) (c .before .before .if4 .left) (sym (c .before .item-count .ensures) ∙ c .if5 .left))
+    (length-valid _ _ _ (omega arith) (c .before .before .if4 .left) (sym (c .before .item-count .ensures) ∙ c .if5 .left))
 
 pub end-rule-spec : {M : Type 1} → statement M
 end-rule-spec =

@@ -4,7 +4,7 @@ use mathlib.Core.List.{List, [], _++_}
 use Prim.Native.Nat.{ℕ}
 use lib.ListN.{take, drop}
 use lib.Seq.{drop-drop}
-use Rattle.line.specs.ReceivingInPlace.{whole}
+use Rattle.line.specs.ReceivingInPlace.{withArray}
 use Rattle.line.specs.declared.head.Head.{Head}
 use Rattle.line.specs.declared.receiver.Receiver.{Receiver}
 use Rattle.line_c.specs.State.{wordBytes, headSize, headBytes, receiverSize, receiverHead, receiverBytes}
@@ -13,12 +13,12 @@ use Rattle.line_c.proofs.receiver_bytes.store_receiver.Statement.{state
 use Rattle.line_c.proofs.receiver_bytes.store_receiver.Tie as tie
 
 -- the array over what stands behind the head
-joined : (h : Head) (receiver : Receiver) (s s₁ s₂ : List ℕ) → whole h (receiver .bits) ≡ receiver
-    → s₁ ≡ receiverHead (whole h []) ++ drop headSize s
+joined : (h : Head) (receiver : Receiver) (s s₁ s₂ : List ℕ) → withArray h (receiver .bits) ≡ receiver
+    → s₁ ≡ receiverHead (withArray h []) ++ drop headSize s
     → s₂ ≡ take headSize s₁ ++ receiver .bits ++ drop receiverSize s₁ → s₂ ≡ receiverBytes receiver ++ drop receiverSize s
 unfolding receiverBytes headBytes wordBytes
 joined h receiver s s₁ s₂ e e₁ e₂ =
-    let f : take headSize s₁ ++ receiver .bits ++ drop receiverSize s₁ ≡ receiverHead (whole h []) ++ receiver .bits ++ drop receiverSize s =
+    let f : take headSize s₁ ++ receiver .bits ++ drop receiverSize s₁ ≡ receiverHead (withArray h []) ++ receiver .bits ++ drop receiverSize s =
     rw (e₁, drop-drop 483 16 s) in
     e₂ ∙ f ∙ ap (λ (r : Receiver). receiverHead r ++ receiver .bits ++ drop receiverSize s) e
 

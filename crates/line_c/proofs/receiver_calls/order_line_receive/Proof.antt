@@ -10,8 +10,8 @@ use lib.ListN.{length, take, drop, length-append, length-drop, take-append-drop}
 use lib.Seq.{length-take-le, drop-at, drop-drop}
 use Rattle.block.specs.Answer as A
 use Rattle.block.specs.Answer.{Answer, refused, done}
-use Rattle.line.specs.Receiving.{arrayBytes, Reading, Report, reported, receive, receiveState, receivedAnswer, Receive}
-use Rattle.line.specs.ReceivingInPlace.{whole, ReceiveInPlace}
+use Rattle.line.specs.Receiving.{arrayBytes, Reception, Report, reported, receive, receiveState, receivedAnswer, Receive}
+use Rattle.line.specs.ReceivingInPlace.{withArray, ReceiveInPlace}
 use Rattle.line.specs.Code.ReceiveSteps.{stepWith}
 use Rattle.line.specs.declared.head.Head.{Head}
 use Rattle.line.specs.declared.head.HeadStep.{HeadStep}
@@ -26,12 +26,12 @@ use Rattle.line_c.proofs.receiver_calls.order_line_receive.Statement.{s
 use Rattle.line_c.proofs.receiver_calls.order_line_receive.Tie as tie
 
 -- the state's bytes, by what the call came to
-kept-refused : (state : List ℕ) (s : Receiver) (a : Answer Reading) (n : ℕ) → reported a ≡ refused n
+kept-refused : (state : List ℕ) (s : Receiver) (a : Answer Reception) (n : ℕ) → reported a ≡ refused n
     → (receivedState state a ≡ state) × (receiveState s a ≡ s)
 kept-refused state s (refused m) n r = (refl, refl)
 kept-refused state s (done x) n r = absurd (let z : _≡_ {A = ℕ} 0 1 = cc in omega arith)
 
-kept-done : (state : List ℕ) (s : Receiver) (a : Answer Reading) (r : Report) → reported a ≡ done r
+kept-done : (state : List ℕ) (s : Receiver) (a : Answer Reception) (r : Report) → reported a ≡ done r
     → receiverOver state (receiveState s a) ≡ receivedState state a
 kept-done state s (refused m) r e = absurd (let z : _≡_ {A = ℕ} 0 1 = cc in omega arith)
 kept-done state s (done x) r e = refl
@@ -59,25 +59,25 @@ module _ (state : List ℕ) where
         simp length-append (omega arith)
 
     -- and another head
-    head-over : (head : Head) (array′ state′ : List ℕ) → state′ ≡ receiverHead (whole head []) ++ drop headSize (with-array array′)
-        → state′ ≡ receiverOver state (whole head array′)
+    head-over : (head : Head) (array′ state′ : List ℕ) → state′ ≡ receiverHead (withArray head []) ++ drop headSize (with-array array′)
+        → state′ ≡ receiverOver state (withArray head array′)
     unfolding receiverBytes
     head-over head array′ state′ e =
         let n : length (take headSize state) ≡ headSize = length-take-le headSize state (omega arith) in
         e
-        ∙ ap (λ (l : List ℕ). receiverHead (whole head []) ++ l)
+        ∙ ap (λ (l : List ℕ). receiverHead (withArray head []) ++ l)
         (drop-at (take headSize state) (array′ ++ drop arrayBytes (drop headSize state)) headSize n
         ∙ ap (λ (l : List ℕ). array′ ++ l) (drop-drop arrayBytes headSize state))
-        ∙ sym (append-assoc (receiverHead (whole head [])) array′ (drop receiverSize state))
+        ∙ sym (append-assoc (receiverHead (withArray head [])) array′ (drop receiverSize state))
 
 module _ (state line : List ℕ) (count : ℕ) (store : List ℕ) (used len : ℕ) where
   unheld : holdsReceiver state ≡ false → ReceiveCall state line count store used len A.spoiled state store used len
   unfolding receiverOf
   unheld h = record { answers = rw h; keeps = rw h; writes = rw h; uses = rw h; ends = rw h }
 
-  module _ (h : holdsReceiver state ≡ true) (head : Head) (e : whole head (array state) ≡ receiverIn state) where
+  module _ (h : holdsReceiver state ≡ true) (head : Head) (e : withArray head (array state) ≡ receiverIn state) where
     abbrev s : Receiver
-    s = whole head (array state)
+    s = withArray head (array state)
 
     receiver-held : receiverOf state ≡ done s
     unfolding receiverOf
@@ -106,7 +106,7 @@ module _ (state line : List ℕ) (count : ℕ) (store : List ℕ) (used len : �
 
       heard : (event : Event) (bits : ℕ) → receivedAnswer (result .answer) ≡ done (record { event = event; used = bits })
           → (number : ℕ) (state′ : List ℕ) (len′ : ℕ) → number ≡ eventNumber event
-          → state′ ≡ receiverHead (whole (result .head) []) ++ drop headSize (with-array state array′)
+          → state′ ≡ receiverHead (withArray (result .head) []) ++ drop headSize (with-array state array′)
           → len′ ≡ eventLength len event → ReceiveCall state line count store used len number state′ store′ bits len′
       heard event bits a number state′ len′ n w l =
           let r = sym (call .answers) ∙ a in

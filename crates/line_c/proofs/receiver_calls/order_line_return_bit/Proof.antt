@@ -7,7 +7,7 @@ use borrow.Author.Tests.{not-true, not-false}
 use lib.ListN.{take, drop}
 use Rattle.block.specs.Answer as A
 use Rattle.line.specs.Receiving.{arrayBytes, receiverInRange}
-use Rattle.line.specs.ReceivingInPlace.{whole}
+use Rattle.line.specs.ReceivingInPlace.{withArray}
 use Rattle.line.specs.declared.head.Head.{Head}
 use Rattle.line_c.specs.State.{flagByte, headSize, receiverSize, holdsReceiver, receiverIn, receiverOf}
 use Rattle.line_c.specs.ReceiverCalls.{ReturnBitCall}
@@ -22,15 +22,15 @@ module _ (state : List ℕ) where
   unfolding receiverOf
   unheld h = record { answers = rw h }
 
-  module _ (h : holdsReceiver state ≡ true) (head : Head) (e : whole head (take arrayBytes (drop headSize state)) ≡ receiverIn state) where
+  module _ (h : holdsReceiver state ≡ true) (head : Head) (e : withArray head (take arrayBytes (drop headSize state)) ≡ receiverIn state) where
     abbrev array : List ℕ
     array = take arrayBytes (drop headSize state)
 
-    out-of-range : receiverInRange (whole head array) ≡ false → ReturnBitCall state A.spoiled
+    out-of-range : receiverInRange (withArray head array) ≡ false → ReturnBitCall state A.spoiled
     unfolding receiverOf
     out-of-range r = record { answers = rw (h, ← e, r) }
 
-    in-its-range : receiverInRange (whole head array) ≡ true → (n : ℕ) → n ≡ flagByte (head .back) → ReturnBitCall state n
+    in-its-range : receiverInRange (withArray head array) ≡ true → (n : ℕ) → n ≡ flagByte (head .back) → ReturnBitCall state n
     unfolding receiverOf
     in-its-range r n b = record { answers = rw (h, ← e, r) b }
 

@@ -8,7 +8,7 @@ use Rattle.crc.specs.Bits.{Bits, bitsOf, bytesOf}
 use Rattle.block.specs.Lengths.{blockLength}
 use Rattle.block.proofs.Lengths.{length-facts}
 use Rattle.line.specs.Receiving.{arrayBytes, overwrite}
-use Rattle.line.specs.ReceivingInPlace.{whole}
+use Rattle.line.specs.ReceivingInPlace.{withArray}
 use Rattle.line.specs.Code.ReceiveSteps.{stepWith, judged, Handed}
 use Rattle.line.specs.declared.head.Head.{Head}
 use Rattle.line.specs.declared.head.HeadStep.{HeadStep}
@@ -19,10 +19,10 @@ use Rattle.line.proofs.head.Head.finish.Tie as tie
 
 -- the same row, judged
 by-row : (h : Head) (array store : List ℕ) (used : ℕ) (row row′ : Bits) (r : HeadStep) (array′ store′ : List ℕ) → row ≡ row′
-    → Handed (whole h array) store (judged (whole h array) row used) (stepWith r array′) store′
-    → Handed (whole h array) store (judged (whole h array) row′ used) (stepWith r array′) store′
+    → Handed (withArray h array) store (judged (withArray h array) row used) (stepWith r array′) store′
+    → Handed (withArray h array) store (judged (withArray h array) row′ used) (stepWith r array′) store′
 by-row h array store used row row′ r array′ store′ e =
-    subst (λ (x : Bits). Handed (whole h array) store (judged (whole h array) x used) (stepWith r array′) store′) e
+    subst (λ (x : Bits). Handed (withArray h array) store (judged (withArray h array) x used) (stepWith r array′) store′) e
 
 judge-requires : tie.Need-judge-requires
 judge-requires c κs =
@@ -38,7 +38,7 @@ same-length-2 c = search needs
 returns : tie.Need-returns
 returns c =
     let a = c .before .before .before .before .before .before .before .before .before .before .before .before in
-    by-row _ _ _ _ _ _ _ _ _ (finished-in-line (whole (a .args .self) (a .args .array .now)) (a .args .line .now) (a .args .missing) (a .pre .1) (c .before .before .before .before .before .before .before .if1 .taken))
+    by-row _ _ _ _ _ _ _ _ _ (finished-in-line (withArray (a .args .self) (a .args .array .now)) (a .args .line .now) (a .args .missing) (a .pre .1) (c .before .before .before .before .before .before .before .if1 .taken))
     (c .before .before .before .before .judge .ensures)
 
 copied-requires : tie.Need-copied-requires
@@ -81,7 +81,7 @@ returns-2 c =
     ∙ ap (λ (x : List ℕ). bytesOf arrayBytes (overwrite (a .args .self .held) new (bitsOf x))) (c .before .before .before .before .before .before .before .before .before .before .before .copied .ensures) in
     by-row _ _ _ _ _ _ _ _ _
     (ap (λ (x : List ℕ). take n (bitsOf x)) put
-    ∙ finished-in-array (whole (a .args .self) (a .args .array .now)) (a .args .line .now) (a .args .missing) (a .pre .1) (a .pre .2) (a .pre .0 .array-length) (omega arith))
+    ∙ finished-in-array (withArray (a .args .self) (a .args .array .now)) (a .args .line .now) (a .args .missing) (a .pre .1) (a .pre .2) (a .pre .0 .array-length) (omega arith))
     (c .before .before .before .before .judge2 .ensures)
 
 pub finish-spec : {M : Type 1} → statement M

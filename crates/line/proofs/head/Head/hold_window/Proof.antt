@@ -34,7 +34,7 @@ returns c =
     let array : List ℕ = a .array .now in
     let b : set (set array 0 (r .result .0)) 1 (r .result .1) ≡ bytesOf 2 (windowBits (a .window)) ++ drop 2 array =
     window-stored array (r .result .0) (r .result .1) (omega arith) ∙ ap (λ (l : List ℕ). l ++ drop 2 array) (r .ensures) in
-    ap₂ (λ (l : List ℕ) (n : ℕ). stepped (record { setup = a .self .setup; bits = l; held = n; row = a .self .row; back = true; taken = a .self .taken; ended = a .self .ended; phase = a .self .phase }) E.None (a .used))
+    ap₂ (λ (l : List ℕ) (n : ℕ). stepped (record { setup = a .self .setup; bits = l; held = n; «bad_row» = a .self .«bad_row»; back = true; taken = a .self .taken; ended = a .self .ended; phase = a .self .phase }) E.None (a .used))
     b (sym (length-binary (a .window .held) (a .window .number)))
 
 pub hold-window-spec : {M : Type 1} → statement M

@@ -6,8 +6,8 @@ use lib.Seq.{length-take-le}
 use Rattle.crc.specs.Bits.{bitsOf}
 use Rattle.crc.proofs.Bytes.{length-bitsOf}
 use Rattle.block.proofs.Lengths.{length-facts}
-use Rattle.line.specs.Receiving.{Reading}
-use Rattle.line.specs.ReceivingInPlace.{whole}
+use Rattle.line.specs.Receiving.{Reception}
+use Rattle.line.specs.ReceivingInPlace.{withArray}
 use Rattle.line.specs.Code.ReceiveSteps.{stepWith, Handed}
 use Rattle.line.proofs.Stepping.{in-step-more, in-step-done}
 use borrow.Author.Needs.{needs}
@@ -38,8 +38,8 @@ returns : tie.Need-returns
 returns c =
     let a = c .before .before .before .before .before .before .before .before .before .before .before .before in
     let call = c .before .before .before .before .finish in
-    subst (λ (x : Reading). Handed (whole (a .args .self) (a .args .array .now)) (a .args .store .now) x (stepWith (call .result) (call .last .1 .0)) (call .last .1 .1 .1 .1 .0))
-    (in-step-done (whole (a .args .self) (a .args .array .now)) (a .args .line .now) (a .args .bits) (a .pre .2) (omega arith))
+    subst (λ (x : Reception). Handed (withArray (a .args .self) (a .args .array .now)) (a .args .store .now) x (stepWith (call .result) (call .last .1 .0)) (call .last .1 .1 .1 .1 .0))
+    (in-step-done (withArray (a .args .self) (a .args .array .now)) (a .args .line .now) (a .args .bits) (a .pre .2) (omega arith))
     (call .ensures)
 
 put-bits-requires : tie.Need-put-bits-requires
@@ -63,7 +63,7 @@ returns-2 c =
     let p = c .before .before .before .before .before .before .before .before .before .before .pre in
     let n : a .bits ≡ length (take (a .bits) (bitsOf (a .line .now))) =
     sym (length-take-le (a .bits) (bitsOf (a .line .now)) (omega (arith, length-bitsOf (a .line .now)))) in
-    in-step-more (whole (a .self) (a .array .now)) (take (a .bits) (bitsOf (a .line .now))) (a .store .now) _ (a .bits) (c .before .before .before .put-bits .ensures) n (omega arith)
+    in-step-more (withArray (a .self) (a .array .now)) (take (a .bits) (bitsOf (a .line .now))) (a .store .now) _ (a .bits) (c .before .before .before .put-bits .ensures) n (omega arith)
 
 pub in-step-spec : {M : Type 1} → statement M
 in-step-spec =

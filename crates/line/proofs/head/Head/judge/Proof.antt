@@ -9,7 +9,7 @@ use Rattle.crc.specs.Bits.{Bits, bitsOf}
 use Rattle.block.specs.Lengths.{blockLength}
 use Rattle.block.specs.Calls.{tooShort}
 use Rattle.line.specs.Receiving.{sync-block, check-fails, judge}
-use Rattle.line.specs.ReceivingInPlace.{whole}
+use Rattle.line.specs.ReceivingInPlace.{withArray}
 use Rattle.line.specs.Code.ReceiveSteps.{ruleOf, stepWith}
 use Rattle.line.specs.declared.head.HeadStep.{HeadStep}
 use Rattle.line.proofs.Handing.{handed-bad, stores-nothing, handed-rule, handed-short, handed-accepts, rule-sync, rule-failed, rule-passed, check-passes, check-not-passed}
@@ -36,8 +36,8 @@ passed-rule c =
 looks-sync-requires : tie.Need-looks-sync-requires
 looks-sync-requires c κs = search needs
 
-well-requires : tie.Need-well-requires
-well-requires c κs = search needs
+after-good-requires : tie.Need-after-good-requires
+after-good-requires c κs = search needs
 
 same-length : tie.Need-same-length
 same-length c = search needs
@@ -47,7 +47,7 @@ returns c =
     let t = c .before .before .before .before in
     let a = t .before .before .before .before .before .args in
     let e = sym (t .before .looks-sync .ensures) ∙ t .if1 .taken in
-    handed-rule _ _ _ _ _ sync-block (rule-sync (a .self .setup .k) (a .self .taken) (a .self .ended) _ e) refl (c .before .before .well .ensures)
+    handed-rule _ _ _ _ _ sync-block (rule-sync (a .self .setup .k) (a .self .taken) (a .self .ended) _ e) refl (c .before .before .after-good .ensures)
 
 check-block-requires : tie.Need-check-block-requires
 check-block-requires c κs = search needs
@@ -55,8 +55,8 @@ check-block-requires c κs = search needs
 enum-known-answer : tie.Need-enum-known-answer
 enum-known-answer c = search needs
 
-bad-requires : tie.Need-bad-requires
-bad-requires c κs = search needs
+after-bad-requires : tie.Need-after-bad-requires
+after-bad-requires c κs = search needs
 
 same-length-2 : tie.Need-same-length-2
 same-length-2 c = search needs
@@ -69,7 +69,7 @@ returns-2 c =
     let e = sym (b .before .looks-sync .ensures) ∙ b .if1 .left in
     let v = check-not-passed (a .args .self .setup .k) (a .pre .ready .known) (a .args .row .now) (a .pre .held) _ (m .before .check-block .ensures) (m .match .keys2) in
     handed-rule _ _ _ _ _ check-fails (rule-failed (a .args .self .setup .k) (a .args .self .taken) (a .args .self .ended) _ e v) refl
-    (c .before .before .bad .ensures ∙ handed-bad (whole (a .args .self) (a .args .array .now)) (a .args .used))
+    (c .before .before .after-bad .ensures ∙ handed-bad (withArray (a .args .self) (a .args .array .now)) (a .args .used))
 
 service-rule-requires : tie.Need-service-rule-requires
 service-rule-requires c κs = search needs
@@ -94,7 +94,7 @@ returns-3 c =
     let short : tooShort (a .store .now) (a .self .taken * a .self .setup .k + a .self .setup .k) ≡ true =
     not-false _ (sym (h .has-room .ensures) ∙ not-true _ (c .before .if2 .taken)) in
     handed-accepts _ _ _ _ _ _ (ap ruleOf (sym (t .enum-told .given .1)) ∙ passed-rule (t .before .before))
-    (handed-short (whole (a .self) (a .array .now)) _ _ _ _ short (ap (λ (r : HeadStep). stepWith r (a .array .now)) (c .refused .ensures)))
+    (handed-short (withArray (a .self) (a .array .now)) _ _ _ _ short (ap (λ (r : HeadStep). stepWith r (a .array .now)) (c .refused .ensures)))
 
 store-item-requires : tie.Need-store-item-requires
 store-item-requires c κs =
@@ -130,12 +130,12 @@ judge-spec =
     tie.close
     (tie.spec
     looks-sync-requires
-    well-requires
+    after-good-requires
     same-length
     returns
     check-block-requires
     enum-known-answer
-    bad-requires
+    after-bad-requires
     same-length-2
     returns-2
     service-rule-requires

@@ -4,7 +4,7 @@ use mathlib.Core.Bool.{true}
 use borrow.Author.Tests.{not-true, not-false, ltb-false}
 use lib.ListN.{length}
 use Rattle.line.specs.Receiving.{arrayBytes, receiverInRange}
-use Rattle.line.specs.ReceivingInPlace.{whole}
+use Rattle.line.specs.ReceivingInPlace.{withArray}
 use Rattle.line.proofs.Calling.{refuses-spoiled, refuses-short, receives}
 use Rattle.line.proofs.InPlace.{another-length, in-place}
 use borrow.Author.Needs.{needs}
@@ -15,7 +15,7 @@ use Rattle.line.proofs.head.Head.receive.Tie as tie
 enough : (c : tie.Else1) → length (c .before .before .before .before .args .array .now) ≡ arrayBytes
 enough c = c .if1 .left
 
-ranged : (c : tie.Else2) → receiverInRange (whole (c .before .before .before .before .before .before .args .self) (c .before .before .before .before .before .before .args .array .now)) ≡ true
+ranged : (c : tie.Else2) → receiverInRange (withArray (c .before .before .before .before .before .before .args .self) (c .before .before .before .before .before .before .args .array .now)) ≡ true
 ranged c = sym (c .before .in-range .ensures (c .before .before .before .before .before .before .args .array .now)) ∙ not-false _ (c .if2 .left)
 
 refused-requires : tie.Need-refused-requires
@@ -37,7 +37,7 @@ returns-2 c =
     let a = c .before .before .before .before .before .before .before .args in
     let e = sym (c .before .before .in-range .ensures (a .array .now)) ∙ not-true _ (c .before .if2 .taken) in
     in-place (a .self) (a .array .now) (a .line .now) (a .bits) (a .store .now) (enough (c .before .before .before)) _ _ _
-    (rw (c .refused2 .ensures) (refuses-spoiled (whole (a .self) (a .array .now)) (a .line .now) (a .bits) (a .store .now) e))
+    (rw (c .refused2 .ensures) (refuses-spoiled (withArray (a .self) (a .array .now)) (a .line .now) (a .bits) (a .store .now) e))
 
 too-short-requires : tie.Need-too-short-requires
 too-short-requires c κs = search needs
@@ -50,7 +50,7 @@ returns-3 c =
     let a = c .before .before .before .before .before .before .before .before .before .args in
     let t = sym (c .before .before .too-short .ensures) ∙ c .before .if3 .taken in
     in-place (a .self) (a .array .now) (a .line .now) (a .bits) (a .store .now) (enough (c .before .before .before .before .before)) _ _ _
-    (rw (c .refused3 .ensures) (refuses-short (whole (a .self) (a .array .now)) (a .line .now) (a .bits) (a .store .now) (ranged (c .before .before .before)) t))
+    (rw (c .refused3 .ensures) (refuses-short (withArray (a .self) (a .array .now)) (a .line .now) (a .bits) (a .store .now) (ranged (c .before .before .before)) t))
 
 read-requires : tie.Need-read-requires
 read-requires c κs = (
@@ -70,7 +70,7 @@ returns-4 c =
     let a = c .before .before .before .before .before .before .before .before .before .before .before .before .before .before .before .args in
     let t = sym (c .before .before .before .before .before .before .before .before .too-short .ensures) ∙ c .before .before .before .before .before .before .before .if3 .left in
     in-place (a .self) (a .array .now) (a .line .now) (a .bits) (a .store .now) (enough (c .before .before .before .before .before .before .before .before .before .before .before)) _ _ _
-    (receives (whole (a .self) (a .array .now)) (a .line .now) (a .bits) (a .store .now) (ranged (c .before .before .before .before .before .before .before .before .before)) t _ _ (c .before .before .before .before .read .ensures))
+    (receives (withArray (a .self) (a .array .now)) (a .line .now) (a .bits) (a .store .now) (ranged (c .before .before .before .before .before .before .before .before .before)) t _ _ (c .before .before .before .before .read .ensures))
 
 pub receive-spec : {M : Type 1} → statement M
 receive-spec =

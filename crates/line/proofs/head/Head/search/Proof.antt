@@ -8,7 +8,7 @@ use lib.ListN.{length, take, drop}
 use Rattle.crc.specs.Bits.{Bits, bitsOf}
 use Rattle.line.specs.Receiving as S
 use Rattle.line.specs.Receiving.{heldBits}
-use Rattle.line.specs.ReceivingInPlace.{whole}
+use Rattle.line.specs.ReceivingInPlace.{withArray}
 use Rattle.line.specs.Code.ReceiveSteps.{WindowInRange, windowBits, stepped, handedBack}
 use Rattle.line.specs.declared.receiving.Event.the-variants as E
 use Rattle.line.proofs.Searching.{window-held, search-found, search-on, search-end}
@@ -18,7 +18,7 @@ use Rattle.line.proofs.head.Head.search.Tie as tie
 abbrev Inv-loop : tie.InvT-loop
 Inv-loop self array₀ line bits window₀ used₀ array window used =
     (array ≡ array₀) × (length array ≡ length array₀) × (used ≤ bits) × (WindowInRange window)
-    × (S.search (whole self array₀) (windowBits window) (drop used (take bits (bitsOf line))) used ≡ S.search (whole self array₀) (heldBits (whole self array₀)) (take bits (bitsOf line)) 0)
+    × (S.search (withArray self array₀) (windowBits window) (drop used (take bits (bitsOf line))) used ≡ S.search (withArray self array₀) (heldBits (withArray self array₀)) (take bits (bitsOf line)) 0)
 
 abbrev μ-loop : tie.MeasureT-loop
 μ-loop self array₀ line bits window₀ used₀ array window used = bits - used
@@ -41,7 +41,7 @@ loop-holds c =
       refl,
       search needs,
       record { held = omega arith; number = rw (e .0) (e .1) },
-      ap (λ (w : Bits). S.search (whole (a .self) (a .array .now)) w (take (a .bits) (bitsOf (a .line .now))) 0)
+      ap (λ (w : Bits). S.search (withArray (a .self) (a .array .now)) w (take (a .bits) (bitsOf (a .line .now))) 0)
           (e .2 ∙ window-held (a .array .now) (a .self .held) (omega arith) (omega arith)),
     )
 
@@ -54,8 +54,8 @@ add-used c = search needs
 ends-sequence-requires : tie.Need-ends-sequence-requires Inv-loop μ-loop
 ends-sequence-requires c κs = search needs
 
-well-requires : tie.Need-well-requires Inv-loop μ-loop
-well-requires c κs = search needs
+after-good-requires : tie.Need-after-good-requires Inv-loop μ-loop
+after-good-requires c κs = search needs
 
 same-length : tie.Need-same-length Inv-loop μ-loop
 same-length c = search needs
@@ -64,9 +64,9 @@ returns : tie.Need-returns Inv-loop μ-loop
 returns c =
     let l = c .before .before .before .before .before .before .before .before .loop in
     let a = c .before .before .before .before .before .before .before .before .before .before .before .before .before .before in
-    c .before .before .well .ensures
+    c .before .before .after-good .ensures
     ∙ ap handedBack
-    (search-found (whole (a .args .self) (a .args .array .now)) (a .args .line .now) (a .args .bits) (a .pre .2) (windowBits (l .window)) (l .used) _ (c .before .before .before .before .before .before .before .loop-test .taken)
+    (search-found (withArray (a .args .self) (a .args .array .now)) (a .args .line .now) (a .args .bits) (a .pre .2) (windowBits (l .window)) (l .used) _ (c .before .before .before .before .before .before .before .loop-test .taken)
     (c .before .before .before .before .before .before .bit-at .ensures) (sym (c .before .before .before .before .before .ends-sequence .ensures) ∙ c .before .before .before .before .if1 .taken) ∙ l .inv .4)
 
 slide-requires : tie.Need-slide-requires Inv-loop μ-loop
@@ -83,7 +83,7 @@ loop-again c =
       l .inv .1,
       omega arith,
       c .slide .ensures .0,
-      search-on (whole (a .args .self) (a .args .array .now)) (a .args .line .now) (a .args .bits) (a .pre .2) (windowBits (l .window)) (l .used) _ (c .before .before .before .before .loop-test .taken)
+      search-on (withArray (a .args .self) (a .args .array .now)) (a .args .line .now) (a .args .bits) (a .pre .2) (windowBits (l .window)) (l .used) _ (c .before .before .before .before .loop-test .taken)
           (c .before .before .before .bit-at .ensures) (sym (c .before .before .ends-sequence .ensures) ∙ c .before .if1 .left) _ (c .slide .ensures .1) ∙ l .inv .4,
     )
 
@@ -98,9 +98,9 @@ returns-2 c =
     let l = c .before .before .before .before .before .loop in
     let a = c .before .before .before .before .before .before .before .before .before .before .before in
     c .before .before .hold-window .ensures
-    ∙ ap (λ (array : List ℕ). stepped (S.searching (whole (a .args .self) array) (windowBits (l .window))) E.None (l .used)) (l .inv .0)
+    ∙ ap (λ (array : List ℕ). stepped (S.searching (withArray (a .args .self) array) (windowBits (l .window))) E.None (l .used)) (l .inv .0)
     ∙ ap handedBack
-    (sym (search-end (whole (a .args .self) (a .args .array .now)) (a .args .line .now) (a .args .bits) (a .pre .2) (windowBits (l .window)) (l .used) (omega arith)) ∙ l .inv .4)
+    (sym (search-end (withArray (a .args .self) (a .args .array .now)) (a .args .line .now) (a .args .bits) (a .pre .2) (windowBits (l .window)) (l .used) (omega arith)) ∙ l .inv .4)
 
 pub search-spec : {M : Type 1} → statement M
 search-spec =
@@ -115,7 +115,7 @@ search-spec =
     bit-at-requires
     add-used
     ends-sequence-requires
-    well-requires
+    after-good-requires
     same-length
     returns
     slide-requires

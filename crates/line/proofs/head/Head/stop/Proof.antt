@@ -6,30 +6,30 @@ use Rattle.line.specs.declared.head.Head.{Head}
 use Rattle.line.specs.declared.receiver.Step.{Step}
 use Rattle.line.specs.declared.rules.Rule as D
 use Rattle.line.specs.Receiving.{stops}
-use Rattle.line.specs.ReceivingInPlace.{whole}
+use Rattle.line.specs.ReceivingInPlace.{withArray}
 use Rattle.line.specs.Code.ReceiveSteps.{ruleOf, handedBack}
 use borrow.Author.Needs.{needs}
 use Rattle.line.proofs.head.Head.stop.Statement.{statement}
 use Rattle.line.proofs.head.Head.stop.Tie as tie
 
 by-rule : (h : Head) (array : List ℕ) (used : ℕ) (r q : D.Rule) (x : Step)
-    → x ≡ handedBack (stops (whole h array) (ruleOf q) [] used) → r ≡ q → x ≡ handedBack (stops (whole h array) (ruleOf r) [] used)
-by-rule h array used r q x e t = e ∙ sym (ap (λ (y : D.Rule). handedBack (stops (whole h array) (ruleOf y) [] used)) t)
+    → x ≡ handedBack (stops (withArray h array) (ruleOf q) [] used) → r ≡ q → x ≡ handedBack (stops (withArray h array) (ruleOf r) [] used)
+by-rule h array used r q x e t = e ∙ sym (ap (λ (y : D.Rule). handedBack (stops (withArray h array) (ruleOf y) [] used)) t)
 
 enum-told : tie.Need-enum-told
 enum-told c = search needs
 
-add-well : tie.Need-add-well
-add-well c = search needs
+add-after-good : tie.Need-add-after-good
+add-after-good c = search needs
 
-well-requires : tie.Need-well-requires
-well-requires c κs = search needs
+after-good-requires : tie.Need-after-good-requires
+after-good-requires c κs = search needs
 
 enum-told-2 : tie.Need-enum-told-2
 enum-told-2 c = search needs
 
-well-requires-2 : tie.Need-well-requires-2
-well-requires-2 c κs = search needs
+after-good-requires-2 : tie.Need-after-good-requires-2
+after-good-requires-2 c κs = search needs
 
 enum-told-3 : tie.Need-enum-told-3
 enum-told-3 c = search needs
@@ -40,8 +40,8 @@ return-one-requires c κs = search needs
 enum-known-rule : tie.Need-enum-known-rule
 enum-known-rule c = search needs
 
-well-requires-3 : tie.Need-well-requires-3
-well-requires-3 c κs = search needs
+after-good-requires-3 : tie.Need-after-good-requires-3
+after-good-requires-3 c κs = search needs
 
 enum-told-4 : tie.Need-enum-told-4
 enum-told-4 c = search needs
@@ -52,26 +52,26 @@ return-one-requires-2 c κs = search needs
 enum-told-5 : tie.Need-enum-told-5
 enum-told-5 c = search needs
 
-well-requires-4 : tie.Need-well-requires-4
-well-requires-4 c κs = search needs
+after-good-requires-4 : tie.Need-after-good-requires-4
+after-good-requires-4 c κs = search needs
 
 enum-told-6 : tie.Need-enum-told-6
 enum-told-6 c = search needs
 
-bad-requires : tie.Need-bad-requires
-bad-requires c κs = search needs
+after-bad-requires : tie.Need-after-bad-requires
+after-bad-requires c κs = search needs
 
 same-length : tie.Need-same-length
 same-length c = search needs
 
 returns : tie.Need-returns
-returns c = by-rule _ _ _ _ _ _ (c .before .before .well .ensures) (c .before .before .before .before .enum-told .given .1)
+returns c = by-rule _ _ _ _ _ _ (c .before .before .after-good .ensures) (c .before .before .before .before .enum-told .given .1)
 
 same-length-2 : tie.Need-same-length-2
 same-length-2 c = search needs
 
 returns-2 : tie.Need-returns-2
-returns-2 c = by-rule _ _ _ _ _ _ (c .before .before .well2 .ensures) (c .before .before .before .before .enum-told2 .given .1)
+returns-2 c = by-rule _ _ _ _ _ _ (c .before .before .after-good2 .ensures) (c .before .before .before .before .enum-told2 .given .1)
 
 same-length-3 : tie.Need-same-length-3
 same-length-3 c = search needs
@@ -83,7 +83,7 @@ same-length-4 : tie.Need-same-length-4
 same-length-4 c = search needs
 
 returns-4 : tie.Need-returns-4
-returns-4 c = by-rule _ _ _ _ _ _ (c .before .before .well3 .ensures) (c .before .before .before .before .before .rule .given .1)
+returns-4 c = by-rule _ _ _ _ _ _ (c .before .before .after-good3 .ensures) (c .before .before .before .before .before .rule .given .1)
 
 same-length-5 : tie.Need-same-length-5
 same-length-5 c = search needs
@@ -95,33 +95,33 @@ same-length-6 : tie.Need-same-length-6
 same-length-6 c = search needs
 
 returns-6 : tie.Need-returns-6
-returns-6 c = by-rule _ _ _ _ _ _ (c .before .before .well4 .ensures) (c .before .before .before .before .enum-told5 .given .1)
+returns-6 c = by-rule _ _ _ _ _ _ (c .before .before .after-good4 .ensures) (c .before .before .before .before .enum-told5 .given .1)
 
 same-length-7 : tie.Need-same-length-7
 same-length-7 c = search needs
 
 returns-7 : tie.Need-returns-7
-returns-7 c = by-rule _ _ _ _ _ _ (c .before .before .bad .ensures) (c .before .before .before .before .enum-told6 .given .1)
+returns-7 c = by-rule _ _ _ _ _ _ (c .before .before .after-bad .ensures) (c .before .before .before .before .enum-told6 .given .1)
 
 pub stop-spec : {M : Type 1} → statement M
 stop-spec =
     tie.close
     (tie.spec
     enum-told
-    add-well
-    well-requires
+    add-after-good
+    after-good-requires
     enum-told-2
-    well-requires-2
+    after-good-requires-2
     enum-told-3
     return-one-requires
     enum-known-rule
-    well-requires-3
+    after-good-requires-3
     enum-told-4
     return-one-requires-2
     enum-told-5
-    well-requires-4
+    after-good-requires-4
     enum-told-6
-    bad-requires
+    after-bad-requires
     same-length
     returns
     same-length-2

@@ -13,7 +13,7 @@ use Rattle.block.specs.Calls.{tooShort, MoveData}
 use Rattle.block.specs.declared.Built.{Built}
 use Rattle.block.proofs.Lengths.{length-facts, length-bytes}
 use Rattle.line.specs.Receiving.{accepts, stops}
-use Rattle.line.specs.ReceivingInPlace.{whole}
+use Rattle.line.specs.ReceivingInPlace.{withArray}
 use Rattle.line.specs.Code.ReceiveSteps.{handedBack, Handed}
 use Rattle.line.specs.declared.receiver.Receiver.{Receiver}
 use Rattle.line.specs.declared.receiver.Step.{Step}
@@ -104,7 +104,7 @@ returns c =
     let m = c .before .before .before .before .before .before in
     let l = m .before .before in
     let a = l .before .before .before .before .before in
-    stored (whole (a .args .self) (a .args .array .now)) (a .pre .0 .ready .known) (a .args .row .now) (a .args .store .now) (a .args .used) (a .pre .0 .held)
+    stored (withArray (a .args .self) (a .args .array .now)) (a .pre .0 .ready .known) (a .args .row .now) (a .args .store .now) (a .args .used) (a .pre .0 .held)
     (λ i. l .before .before .slice-known2 .given i .fits) (a .pre .1) _ _ (m .move-data .ensures) _ (c .before .before .stop .ensures)
 
 pub store-item-spec : {M : Type 1} → statement M

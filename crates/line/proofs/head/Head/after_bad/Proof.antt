@@ -1,12 +1,12 @@
--- `Head::bad` starts a search at the eighth bad in a row, or where rule 7 does. Assumes nothing.
+-- `Head::after_bad` starts a search at the eighth bad in a row, or where rule 7 does. Assumes nothing.
 use mathlib.Core.Path.{sym, _∙_}
 use borrow.Author.Tests.{le-leb, lt-leb}
 use borrow.Author.Needs.{needs}
-use Rattle.line.proofs.head.Head.bad.Statement.{statement}
-use Rattle.line.proofs.head.Head.bad.Tie as tie
+use Rattle.line.proofs.head.Head.after_bad.Statement.{statement}
+use Rattle.line.proofs.head.Head.after_bad.Tie as tie
 
-add-row : tie.Need-add-row
-add-row c = search needs
+add-bad-row : tie.Need-add-bad-row
+add-bad-row c = search needs
 
 return-one-requires : tie.Need-return-one-requires
 return-one-requires c κs = search needs
@@ -39,11 +39,11 @@ returns-3 c =
     let kept = c .before .before .before .before .before in
     c .before .before .after .ensures ∙ sym (simp (lt-leb _ _ (kept .before .if1 .left), kept .if2 .left))
 
-pub bad-spec : {M : Type 1} → statement M
-bad-spec =
+pub after-bad-spec : {M : Type 1} → statement M
+after-bad-spec =
     tie.close
     (tie.spec
-    add-row
+    add-bad-row
     return-one-requires
     same-length
     returns
