@@ -1,17 +1,22 @@
+-- Lemmas of the two ends. Those of one function of the code stand in the folder of its file (sender/, head/, ...).
+-- Loop times: Table. An item: ServiceBits, Items, LastItem (its filling), ItemBlocks (the block that is built).
+-- The sender's range: SenderRange. Bits moved by bytes: BitMoves. A receiving call: ReceivingCall, and in place InPlace;
+-- in search SearchWindow, LineSearch; in step InStepBits, BlockFields (what a block's bytes say), StorePlace (where its data
+-- go), BlockFinished (what is handed back). Demand 3: Delivery. Calls lent in pieces: Pieces. Document 01's examples: Examples.
 pub mod Table
 pub mod ServiceBits
 pub mod Items
-pub mod Filling
-pub mod Building
-pub mod Sending
-pub mod Moved
-pub mod Judging
-pub mod Latest
-pub mod Accepting
-pub mod Handing
-pub mod Stepping
-pub mod Searching
-pub mod Calling
+pub mod LastItem
+pub mod ItemBlocks
+pub mod SenderRange
+pub mod BitMoves
+pub mod BlockFields
+pub mod SearchWindow
+pub mod StorePlace
+pub mod BlockFinished
+pub mod InStepBits
+pub mod LineSearch
+pub mod ReceivingCall
 pub mod InPlace
 pub mod Delivery
 pub mod Pieces

@@ -1,7 +1,8 @@
--- A receiving call may be lent its bits in pieces: in search, in step, under an alarm; two calls, any number. Assumes nothing.
+-- A receiving call may be lent its bits in pieces. In search: Search; in step: Step; in any phase: Reception; any number of
+-- calls: Calls. Assumes nothing.
 pub mod Search
 pub mod Step
-pub mod Reading
+pub mod Reception
 pub mod Calls
 use mathlib.Core.Path.{_≡_, ap, sym, _∙_}
 use native.Mathlib.Omega.{arith}

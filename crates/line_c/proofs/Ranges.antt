@@ -16,7 +16,7 @@ use Rattle.line.specs.declared.sender.Sent.{Sent}
 use Rattle.line.specs.declared.sender.Sent.the-variants as W
 use Rattle.line.specs.declared.sender.Step.{Step}
 use Rattle.line.proofs.Items.{valid-length, itemCount-fits}
-use Rattle.line.proofs.Sending.{in-range, opened-in-range, sendable, send-in-range}
+use Rattle.line.proofs.SenderRange.{in-range, opened-in-range, sendable, send-in-range}
 use Rattle.line_c.specs.State.{SenderFits}
 
 newer-most : (s : Sender) → senderInRange s ≡ true → s .newer ≤ mostItems + 1

@@ -21,7 +21,7 @@ use Rattle.line.specs.Receiving.{arrayBytes, zeroArray, freshReceiver, openRece
 use Rattle.line.specs.declared.receiver.Receiver.{Receiver}
 use Rattle.line.specs.declared.receiving.Phase.{Phase}
 use Rattle.line.specs.declared.receiving.Phase.the-variants as P
-use Rattle.line.proofs.Calling.{InRange, in-range, held-search}
+use Rattle.line.proofs.ReceivingCall.{InRange, in-range, held-search}
 use Rattle.line_c.specs.State.{ReceiverFits}
 
 -- ---- a state in range

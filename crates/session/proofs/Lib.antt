@@ -1,11 +1,11 @@
 pub mod Appending
 pub mod Decimal
-pub mod Hearing
+pub mod ReceivingCalls
 pub mod LineOne
 pub mod Openings
 pub mod Orders
 pub mod Parts
-pub mod Periods
+pub mod PeriodCalls
 pub mod Ranges
 pub mod Sent
 pub mod Shifting

@@ -19,8 +19,8 @@ use Rattle.block.proofs.Packing.{bytesOf-add}
 use Rattle.line.specs.Order.{orderBits, itemBits}
 use Rattle.line.specs.Sending.{Block, synchronising, item, sentBits, send, sendBytes}
 use Rattle.line.proofs.Items.{length-orderBits, length-itemBits}
-use Rattle.line.proofs.Filling.{bytesOf-none}
-use Rattle.line.proofs.Sending.{in-range, sendable}
+use Rattle.line.proofs.LastItem.{bytesOf-none}
+use Rattle.line.proofs.SenderRange.{in-range, sendable}
 use Rattle.line.specs.declared.sender.Sender.{Sender}
 use Rattle.session.specs.Period.{lineBytes, invertFirst}
 

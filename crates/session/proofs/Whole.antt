@@ -18,7 +18,7 @@ use Rattle.line.specs.Order.{longestOrder}
 use Rattle.line.specs.Sending.{openSender, freshSender}
 use Rattle.line.specs.Receiving.{openReceiver, freshReceiver}
 use Rattle.line.proofs.Items.{valid-length}
-use Rattle.line.proofs.Sending.{Openable, opened}
+use Rattle.line.proofs.SenderRange.{Openable, opened}
 use Rattle.line.specs.declared.sender.Sender.{Sender}
 use Rattle.line.specs.declared.receiver.Receiver.{Receiver}
 use Rattle.session.specs.LineOne.{Opening, lineOne, keep, limit, readable, said, readAll, start, next, nextOrder}

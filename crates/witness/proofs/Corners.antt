@@ -17,7 +17,7 @@ use Rattle.line.specs.declared.receiver.Receiver.{Receiver}
 use Rattle.line.specs.declared.receiving.Phase.{Phase}
 use Rattle.line.specs.declared.receiving.Phase.the-variants as P
 use Rattle.line.specs.declared.receiving.Event.the-variants as E
-use Rattle.line.proofs.Delivery.Holding.{length-zeroArray}
+use Rattle.line.proofs.Delivery.WrittenBits.{length-zeroArray}
 use Rattle.line.proofs.Delivery.BitByBit.{bitByBit, Waiting, bit-by-bit}
 
 -- ---- states and blocks

@@ -24,7 +24,7 @@ use Rattle.line.proofs.Delivery.Answers.{runs}
 use Rattle.line.proofs.Delivery.Theorem.{delivery}
 use Rattle.line.specs.declared.receiving.Phase.the-variants as P
 use Rattle.witness.proofs.Tally.{refuses, tallied, Row, Rows, Goes, allCalls, allTally, lastWorld, walk, goes-meets}
-use Rattle.witness.proofs.Periods.{sender, well, between, plain}
+use Rattle.witness.proofs.PeriodRows.{sender, well, between, plain}
 
 abbrev order : List ℕ
 order = 0xa5 ∷ []

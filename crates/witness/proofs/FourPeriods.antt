@@ -17,7 +17,7 @@ use Rattle.line.specs.declared.sender.Next.the-variants.{Sync, Older, Newer}
 use Rattle.line.specs.declared.receiving.Event.the-variants as E
 use Rattle.line.specs.declared.receiving.Phase.the-variants as P
 use Rattle.witness.proofs.Tally.{Tally, Row, Rows, Goes, tally, allCalls, allTally, lastWorld, walk, goes-meets}
-use Rattle.witness.proofs.Periods.{sender, receiver, well, bad, plain, damaged}
+use Rattle.witness.proofs.PeriodRows.{sender, receiver, well, bad, plain, damaged}
 use Rattle.witness.proofs.TwoItems.{order, content, block, initialStore, one, two, w₀}
 
 -- A reading of 1 where 0 was meant, and damage up to a synchronising block, the eighth bad in a row. The five periods

@@ -3,7 +3,7 @@ pub mod Pieces
 pub mod Sends
 pub mod Meets
 pub mod Tally
-pub mod Periods
+pub mod PeriodRows
 pub mod TwoItems
 pub mod Example
 pub mod Repeats

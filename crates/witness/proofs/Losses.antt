@@ -15,7 +15,7 @@ use Rattle.line.specs.declared.sender.Next.the-variants.{Sync, Older, Newer}
 use Rattle.line.specs.declared.receiving.Event.the-variants as E
 use Rattle.line.specs.declared.receiving.Phase.the-variants as P
 use Rattle.witness.proofs.Tally.{Row, Rows, Goes, allCalls, allTally, lastWorld, walk, goes-meets}
-use Rattle.witness.proofs.Periods.{sender, receiver, well, bad, period, plain, damaged}
+use Rattle.witness.proofs.PeriodRows.{sender, receiver, well, bad, period, plain, damaged}
 use Rattle.witness.proofs.TwoItems.{order, content, block, initialStore, one, two, w₀}
 
 -- Item 0 is damaged and its request lost: item 1 brings the sequence alarm, which stays.

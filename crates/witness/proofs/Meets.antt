@@ -16,7 +16,7 @@ use Rattle.line.specs.Sending.{Block, synchronising, item}
 use Rattle.line.specs.Receiving.{meaning}
 use Rattle.line.specs.Course.{Sent, Heard, Entry, send-refused, receive-refused, sent, heard, onSent, onHeard}
 use Rattle.line.specs.Delivery.{All, eventOf, isCancelled, isItem, OnLine, SameOrder, SameStore, Admitted, NotWhole, SyncAtLast, SyncNotData, Assumptions}
-use Rattle.line.proofs.Delivery.Spacing.{implies, implies-true, spaced, spaced-between}
+use Rattle.line.proofs.Delivery.BetweenLosses.{implies, implies-true, spaced, spaced-between}
 use Rattle.line.specs.declared.receiving.Event.{Event}
 use Rattle.line.specs.declared.receiving.Event.the-variants as E
 use Rattle.line.proofs.receiving.Event.{the-type}

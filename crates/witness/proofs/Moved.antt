@@ -15,10 +15,10 @@ use Rattle.line.specs.Receiving.{freshReceiver, zeroArray, place, endRule, serv
 use Rattle.line.specs.Course.{World, opened, course, final}
 use Rattle.line.specs.declared.sender.Next.the-variants.{Sync, Older, Newer}
 use Rattle.line.specs.declared.receiving.Event.the-variants as E
-use Rattle.line.proofs.Delivery.Spacing.{BetweenLosses}
+use Rattle.line.proofs.Delivery.BetweenLosses.{BetweenLosses}
 use Rattle.witness.proofs.Meets.{OtherClauses}
 use Rattle.witness.proofs.Tally.{Row, Rows, Goes, allCalls, allTally, lastWorld, walk, goes-otherwise}
-use Rattle.witness.proofs.Periods.{sender, well, bad, period, plain, damaged}
+use Rattle.witness.proofs.PeriodRows.{sender, well, bad, period, plain, damaged}
 
 -- five data items
 abbrev order : List ℕ

@@ -14,7 +14,7 @@ use Rattle.line.specs.Receiving.{freshReceiver, zeroArray, sequence-found, acce
 use Rattle.line.specs.Pieces.{Piece, call, Pieces}
 use Rattle.line.specs.declared.receiver.Receiver.{Receiver}
 use Rattle.line.specs.declared.receiving.Phase.the-variants as P
-use Rattle.line.proofs.Delivery.Holding.{length-zeroArray}
+use Rattle.line.proofs.Delivery.WrittenBits.{length-zeroArray}
 use Rattle.line.proofs.Pieces.{pieces}
 
 abbrev block : ℕ → Bits

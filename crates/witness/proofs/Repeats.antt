@@ -17,7 +17,7 @@ use Rattle.line.specs.declared.sender.Next.the-variants.{Sync, Older, Newer}
 use Rattle.line.specs.declared.receiving.Event.the-variants as E
 use Rattle.line.specs.declared.receiving.Phase.the-variants as P
 use Rattle.witness.proofs.Tally.{Row, Rows, Goes, allCalls, allTally, lastWorld, walk, goes-meets}
-use Rattle.witness.proofs.Periods.{sender, receiver, well, bad, plain, damaged}
+use Rattle.witness.proofs.PeriodRows.{sender, receiver, well, bad, plain, damaged}
 use Rattle.witness.proofs.TwoItems.{order, content, block, initialStore, one, two, w₀}
 
 -- Item 1 is damaged; the next block is cancelled, and item 1 repeated.

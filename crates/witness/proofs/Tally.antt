@@ -10,7 +10,7 @@ use Rattle.line.specs.Course.{Call, World, Entry, send-refused, receive-refused
 use Rattle.line.specs.Delivery.{some, eventOf, isAlarm, Assumptions}
 use Rattle.line.specs.declared.receiving.Event.{Event}
 use Rattle.line.proofs.Delivery.Prefixes.{course-append, final-append}
-use Rattle.line.proofs.Delivery.Spacing.{spaced, pendsAll, spaced-append, pendsAll-append, BetweenLosses, between-spaced}
+use Rattle.line.proofs.Delivery.BetweenLosses.{spaced, pendsAll, spaced-append, pendsAll-append, BetweenLosses, between-spaced}
 use Rattle.witness.proofs.Meets.{sameBits, entryMeets, eachMeets, OtherClauses, others-meet, meets}
 
 -- what a call did: its refusal; or the block sent, the reading, the return bit then standing and whether the copy is as

@@ -16,8 +16,8 @@ use Rattle.line.specs.Receiving.{arrayBytes, lastBad, Rule, unfinished, 
 use Rattle.line.specs.declared.receiver.Receiver.{Receiver}
 use Rattle.line.specs.declared.receiving.Phase.{Phase}
 use Rattle.line.specs.declared.receiving.Phase.the-variants as P
-use Rattle.line.proofs.Delivery.Judging.{Judged, as-sync, fails, as-data, as-other, judged}
-use Rattle.line.proofs.Delivery.Holding.{length-holding, heldBits-holding}
+use Rattle.line.proofs.Delivery.BlockRules.{Judged, as-sync, fails, as-data, as-other, judged}
+use Rattle.line.proofs.Delivery.WrittenBits.{length-holding, heldBits-holding}
 
 -- one call for each bit, each given the state that the last handed back; the last call's answer
 abbrev pub bitByBit : Receiver → List ℕ → Bits → Answer Reception → Answer Reception

@@ -25,13 +25,13 @@ use Rattle.line.specs.Delivery.{OnlyRefused, isItem, isNew}
 use Rattle.line.specs.declared.sender.Sender.{Sender}
 use Rattle.line.specs.declared.sender.Setup.{Setup}
 use Rattle.line.specs.declared.receiver.Receiver.{Receiver}
-use Rattle.line.proofs.Sending.{range-in}
+use Rattle.line.proofs.SenderRange.{range-in}
 use Rattle.line.proofs.Delivery.Ends.{LineBlock, Basic, Idle, Busy}
 use Rattle.line.proofs.Delivery.Invariant.{send-keeps, read-keeps}
-use Rattle.line.proofs.Delivery.Sending.{sends-block, setup-kept, run-kept}
-use Rattle.line.proofs.Delivery.Ruling.{few}
-use Rattle.line.proofs.Delivery.Hearing.{quiet-idle, not-danger, still-same, still-told}
-use Rattle.line.proofs.Delivery.Splitting.{reception-guaranteed}
+use Rattle.line.proofs.Delivery.SendStep.{sends-block, setup-kept, run-kept}
+use Rattle.line.proofs.Delivery.RuleOnLine.{few}
+use Rattle.line.proofs.Delivery.CallOnBlock.{quiet-idle, not-danger, still-same, still-told}
+use Rattle.line.proofs.Delivery.CallByPhase.{reception-guaranteed}
 use Rattle.line.proofs.Delivery.State.{Session, N, Fit, alarmStands, endsOf, lost′, danger′, Base, IdleLine, BusyLine, Inv, Assumed, Guaranteed, Done, Result, Stays, Begins, Keeps}
 
 -- ---- how a call is answered, its state in range

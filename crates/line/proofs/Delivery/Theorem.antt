@@ -31,12 +31,12 @@ use Rattle.line.specs.declared.receiver.Opening.the-variants as Opening
 use Rattle.line.proofs.Items.{length-orderBits}
 use Rattle.line.proofs.Delivery.Ends.{Basic}
 use Rattle.line.proofs.Delivery.Invariant.{opened-idle}
-use Rattle.line.proofs.Delivery.Holding.{length-zeroArray}
-use Rattle.line.proofs.Delivery.Reading.{held-none}
+use Rattle.line.proofs.Delivery.WrittenBits.{length-zeroArray}
+use Rattle.line.proofs.Delivery.BlockStep.{held-none}
 use Rattle.line.proofs.Delivery.State.{Session, N, Fit, alarmStands, endsOf, Base, IdleLine, Inv}
-use Rattle.line.proofs.Delivery.List.{Okays, okays, losts, dangers, losts-zero, Safe, safe}
-use Rattle.line.proofs.Delivery.Stretch.{brought}
-use Rattle.line.proofs.Delivery.Periods.{within-five}
+use Rattle.line.proofs.Delivery.CallList.{Okays, okays, losts, dangers, losts-zero, Safe, safe}
+use Rattle.line.proofs.Delivery.UndisturbedPeriods.{brought}
+use Rattle.line.proofs.Delivery.FivePeriods.{within-five}
 use Rattle.line.proofs.Delivery.Answers.{answers}
 
 -- ---- the openings

@@ -12,7 +12,7 @@ use Rattle.block.specs.Block.{syncBlock}
 use Rattle.block.proofs.Block.{sync-fails}
 use Rattle.line.specs.Order.{longestOrder, itemService, itemPayload, itemBits}
 use Rattle.line.specs.Receiving.{Rule, sync-block, meaning, serviceRule, judge}
-use Rattle.line.proofs.Delivery.Judging.{item-read, judge-sync, service-case}
+use Rattle.line.proofs.Delivery.BlockRules.{item-read, judge-sync, service-case}
 
 service-not-one : (k r : ℕ) (ended : Bool) (service : ℕ) (payload : Bits)
     → serviceRule k r ended service payload ≡ sync-block → ⊥

@@ -16,9 +16,9 @@ use Rattle.line.specs.Receiving.{arrayBytes, meaning, Reception, receive
 use Rattle.line.specs.Pieces.{Piece, lent, joined, total, Outcome, addUsed, addUsedIfDone, nextCall, nextCalls}
 use Rattle.line.specs.declared.receiver.Receiver.{Receiver}
 use Rattle.block.proofs.Truth.{cond-case, either}
-use Rattle.line.proofs.Calling.{in-range}
+use Rattle.line.proofs.ReceivingCall.{in-range}
 use Rattle.line.proofs.Pieces.Step.{quiet-rule}
-use Rattle.line.proofs.Pieces.Reading.{reads, Onward, Within, splits}
+use Rattle.line.proofs.Pieces.Reception.{reads, Onward, Within, splits}
 
 -- ---- a call that is lent a row of bits
 

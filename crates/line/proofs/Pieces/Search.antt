@@ -12,7 +12,7 @@ use Rattle.crc.proofs.Bytes.{length-bytesOf}
 use Rattle.line.specs.Receiving.{unfinished, sequence-found, meaning, Reception, stops, latest, searching, isSequence, search}
 use Rattle.line.specs.Pieces.{addUsed}
 use Rattle.line.specs.declared.receiver.Receiver.{Receiver}
-use Rattle.line.proofs.Delivery.Scanning.{length-latest}
+use Rattle.line.proofs.Delivery.SearchAnyBits.{length-latest}
 
 -- the window is what was held, and the array's other bytes are as they were
 searching-again : (s : Receiver) (earlier window : Bits) → searching (searching s earlier) window ≡ searching s window

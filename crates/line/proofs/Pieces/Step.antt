@@ -16,10 +16,10 @@ use Rattle.block.proofs.Lengths.{length-facts}
 use Rattle.line.specs.Receiving.{arrayBytes, Rule, unfinished, standing, sequence-found, sync-block, check-fails, accepts, previous, out-of-sequence, ends, wrong-length, ends-again, anything-else, meaning, judge, heldBits, stops, overwrite, holding, missing, finishedRow, inStep}
 use Rattle.line.specs.Pieces.{addUsed}
 use Rattle.line.specs.declared.receiver.Receiver.{Receiver}
-use Rattle.line.proofs.Stepping.{step-on, step-done}
+use Rattle.line.proofs.InStepBits.{step-on, step-done}
 use Rattle.block.proofs.Truth.{either}
-use Rattle.line.proofs.Delivery.Judging.{Judged, as-sync, fails, as-data, as-other, judged}
-use Rattle.line.proofs.Delivery.Holding.{length-overwrite, take-overwrite, drop-overwrite, bitsOf-exact, heldBits-holding}
+use Rattle.line.proofs.Delivery.BlockRules.{Judged, as-sync, fails, as-data, as-other, judged}
+use Rattle.line.proofs.Delivery.WrittenBits.{length-overwrite, take-overwrite, drop-overwrite, bitsOf-exact, heldBits-holding}
 use Rattle.line.proofs.Delivery.BitByBit.{after-holding}
 
 -- a row written behind a row written is both written

@@ -4,7 +4,7 @@ use Prim.Native.Nat.{_-_}
 use native.Mathlib.Nat.{lt-of-le-of-lt}
 use native.Mathlib.Omega.{arith}
 use lib.Pow.{shr-le}
-use Rattle.line.proofs.Moved.{take-byte}
+use Rattle.line.proofs.BitMoves.{take-byte}
 use borrow.Author.Needs.{needs}
 use Rattle.line.proofs.hold.first_bits.Statement.{statement}
 use Rattle.line.proofs.hold.first_bits.Tie as tie

@@ -1,7 +1,7 @@
 -- `join` meets its contract: eight of the sixteen bits of two bytes. Assumes nothing.
 use Prim.Native.Nat.{_*_, _/_, _%_, _^_}
 use lib.Bits.{bitOr, mask-lt}
-use Rattle.line.proofs.Moved.{joined-bits}
+use Rattle.line.proofs.BitMoves.{joined-bits}
 use borrow.Author.Needs.{needs}
 use Rattle.line.proofs.hold.join.Statement.{statement}
 use Rattle.line.proofs.hold.join.Tie as tie

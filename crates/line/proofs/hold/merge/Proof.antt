@@ -1,5 +1,5 @@
 -- `merge` meets its contract: two bytes under a mask and its complement. Assumes nothing.
-use Rattle.line.proofs.Moved.{merged-bits}
+use Rattle.line.proofs.BitMoves.{merged-bits}
 use borrow.Author.Needs.{needs}
 use Rattle.line.proofs.hold.merge.Statement.{statement}
 use Rattle.line.proofs.hold.merge.Tie as tie

@@ -11,7 +11,7 @@ use lib.Seq.{drop-set-lt}
 use mir.Syntax.{w8}
 use mir.Val.{Fits}
 use Rattle.line.specs.Receiving.{overwrite}
-use Rattle.line.proofs.Moved.{held-bits, one-byte-more, set-bytes, last-byte, packed, further}
+use Rattle.line.proofs.BitMoves.{held-bits, one-byte-more, set-bytes, last-byte, packed, further}
 use borrow.Author.Needs.{needs}
 use Rattle.line.proofs.hold.put_bits.Statement.{statement}
 use Rattle.line.proofs.hold.put_bits.Tie as tie

@@ -9,7 +9,7 @@ use lib.ListN.{replicate}
 use Rattle.crc.specs.Bits.{Bits, binary, bitsOf}
 use Rattle.crc.proofs.Rows.{binary-join, binary-mod}
 use Rattle.line.specs.Order.{version, endPayload}
-use Rattle.line.proofs.Filling.{bitsOf-zeros}
+use Rattle.line.proofs.LastItem.{bitsOf-zeros}
 use Rattle.line.proofs.order.end_data.Statement.{statement}
 use Rattle.line.proofs.order.end_data.Tie as tie
 

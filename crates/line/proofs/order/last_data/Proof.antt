@@ -7,7 +7,7 @@ use native.Mathlib.Omega.{arith}
 use lib.ListN.{length, getD, set, take, drop, replicate, length-drop}
 use lib.Seq.{getD-drop}
 use Rattle.crc.specs.Bits.{Bits, binary, bitsOf, bytesOf, number, zeros}
-use Rattle.line.proofs.Filling.{copied, written, packed-whole, packed-rest}
+use Rattle.line.proofs.LastItem.{copied, written, packed-whole, packed-rest}
 use Rattle.line.proofs.order.last_data.Statement.{statement}
 use Rattle.line.proofs.order.last_data.Tie as tie
 

@@ -9,7 +9,7 @@ use Rattle.block.specs.Block.{blockBits}
 use Rattle.block.specs.Calls.{overwritten}
 use Rattle.block.proofs.Lengths.{length-facts}
 use Rattle.line.specs.Order.{endService}
-use Rattle.line.proofs.Building.{built, end-data}
+use Rattle.line.proofs.ItemBlocks.{built, end-data}
 use Rattle.line.proofs.order.write_end.Statement.{statement}
 use Rattle.line.proofs.order.write_end.Tie as tie
 

@@ -9,7 +9,7 @@ use Rattle.block.specs.Calls.{overwritten}
 use Rattle.block.proofs.Lengths.{length-facts}
 use Rattle.line.specs.Order.{itemCount, orderBits}
 use Rattle.line.proofs.Items.{valid-length, itemBits-end}
-use Rattle.line.proofs.Building.{item-start, filled-item, unfilled-item, whole-item, last-item, data-item}
+use Rattle.line.proofs.ItemBlocks.{item-start, filled-item, unfilled-item, whole-item, last-item, data-item}
 use Rattle.line.proofs.order.write_item.Statement.{statement}
 use Rattle.line.proofs.order.write_item.Tie as tie
 

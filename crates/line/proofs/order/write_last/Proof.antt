@@ -11,7 +11,7 @@ use Rattle.block.specs.Calls.{overwritten}
 use Rattle.block.proofs.Lengths.{length-facts}
 use Rattle.line.specs.Order.{letter}
 use Rattle.line.proofs.ServiceBits.{letter-lt16}
-use Rattle.line.proofs.Building.{built, item-byte, last-data}
+use Rattle.line.proofs.ItemBlocks.{built, item-byte, last-data}
 use Rattle.line.proofs.order.write_last.Statement.{statement}
 use Rattle.line.proofs.order.write_last.Tie as tie
 

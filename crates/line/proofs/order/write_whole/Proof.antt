@@ -13,7 +13,7 @@ use Rattle.block.specs.Calls.{overwritten}
 use Rattle.block.proofs.Lengths.{length-facts}
 use Rattle.line.specs.Order.{letter}
 use Rattle.line.proofs.ServiceBits.{letter-lt16}
-use Rattle.line.proofs.Building.{built, item-byte, whole-data}
+use Rattle.line.proofs.ItemBlocks.{built, item-byte, whole-data}
 use Rattle.line.proofs.order.write_whole.Statement.{statement}
 use Rattle.line.proofs.order.write_whole.Tie as tie
 

@@ -1,7 +1,7 @@
 -- `end_length` reads the four bytes behind the version as one number. Assumes nothing.
 use mathlib.Core.Path.{sym}
 use native.Mathlib.Omega.{arith}
-use Rattle.line.proofs.Judging.{four-bytes}
+use Rattle.line.proofs.BlockFields.{four-bytes}
 use borrow.Author.Needs.{needs}
 use Rattle.line.proofs.rules.end_length.Statement.{statement}
 use Rattle.line.proofs.rules.end_length.Tie as tie

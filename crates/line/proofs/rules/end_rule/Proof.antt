@@ -4,7 +4,7 @@ use native.Mathlib.Omega.{arith}
 use mathlib.Core.Bool.{true}
 use Rattle.crc.specs.Bits.{bitsOf}
 use Rattle.line.specs.Receiving.{Rule, endRule, lengthRule}
-use Rattle.line.proofs.Judging.{version-not, length-zero, length-long, length-other, length-valid, end-by-length}
+use Rattle.line.proofs.BlockFields.{version-not, length-zero, length-long, length-other, length-valid, end-by-length}
 use borrow.Author.Needs.{needs}
 use Rattle.line.proofs.rules.end_rule.Statement.{statement}
 use Rattle.line.proofs.rules.end_rule.Tie as tie

@@ -4,7 +4,7 @@ use Prim.Native.Nat.{_/_}
 use mir.Syntax.{w16}
 use mir.Val.{Fits}
 use Rattle.crc.specs.Bits.{number}
-use Rattle.line.proofs.Judging.{other-service, same-service}
+use Rattle.line.proofs.BlockFields.{other-service, same-service}
 use borrow.Author.Needs.{needs}
 use Rattle.line.proofs.rules.looks_sync.Statement.{statement}
 use Rattle.line.proofs.rules.looks_sync.Tie as tie

@@ -11,7 +11,7 @@ use Rattle.block.specs.Lengths.{blockLength}
 use Rattle.block.specs.Block.{payloadOf}
 use Rattle.block.proofs.Lengths.{length-facts}
 use Rattle.line.specs.Receiving.{endRule, serviceRule}
-use Rattle.line.proofs.Handing.{length-data, bits-moved, end-first-bits}
+use Rattle.line.proofs.BlockFinished.{length-data, bits-moved, end-first-bits}
 use borrow.Author.Needs.{needs}
 use Rattle.line.proofs.rules.service_rule.Statement.{statement}
 use Rattle.line.proofs.rules.service_rule.Tie as tie

@@ -2,7 +2,7 @@
 use mathlib.Core.Path.{sym, _∙_}
 use Prim.Native.Nat.{_-_, _/_, _%_, _^_}
 use lib.ListN.{getD}
-use Rattle.line.proofs.Latest.{getD-bitsOf, masked-odd}
+use Rattle.line.proofs.SearchWindow.{getD-bitsOf, masked-odd}
 use borrow.Author.Needs.{needs}
 use Rattle.line.proofs.window.bit_at.Statement.{statement}
 use Rattle.line.proofs.window.bit_at.Tie as tie

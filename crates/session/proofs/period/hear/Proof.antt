@@ -5,7 +5,7 @@ use borrow.Author.Needs.{needs}
 use lib.ListN.{length, take}
 use Rattle.crc.specs.Bits.{bitsOf}
 use Rattle.session.specs.Period.{Lent, Hearing, hear}
-use Rattle.session.proofs.Hearing.{refusal, progress}
+use Rattle.session.proofs.ReceivingCalls.{refusal, progress}
 use Rattle.session.proofs.period.hear.Statement.{statement}
 use Rattle.session.proofs.period.hear.Tie as tie
 use Rattle.session.proofs.period.hear.Reads as reads

@@ -6,7 +6,7 @@ use Rattle.crc.specs.Bits.{bitsOf}
 use Rattle.crc.proofs.Bytes.{length-bytesOf}
 use Rattle.line.specs.declared.receiving.Event.the-variants as E
 use Rattle.session.specs.Period.{lineBytes, arriving, hear}
-use Rattle.session.proofs.Hearing.{arrives, refused-period, event-period}
+use Rattle.session.proofs.ReceivingCalls.{arrives, refused-period, event-period}
 use borrow.Author.Needs.{needs}
 use Rattle.session.proofs.period.heard_period.Statement.{statement}
 use Rattle.session.proofs.period.heard_period.Tie as tie

@@ -2,7 +2,7 @@
 use mathlib.Core.Path.{_≡_, sym, ap, _∙_}
 use native.Mathlib.Omega.{arith}
 use Rattle.session.specs.Period.{Course}
-use Rattle.session.proofs.Periods.{not-sent, BlockSent, sent}
+use Rattle.session.proofs.PeriodCalls.{not-sent, BlockSent, sent}
 use borrow.Author.Needs.{needs}
 use Rattle.session.proofs.period.run_period.Statement.{statement}
 use Rattle.session.proofs.period.run_period.Tie as tie

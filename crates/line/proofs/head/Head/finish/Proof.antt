@@ -12,7 +12,7 @@ use Rattle.line.specs.ReceivingInPlace.{withArray}
 use Rattle.line.specs.Code.ReceiveSteps.{stepWith, judged, Handed}
 use Rattle.line.specs.declared.head.Head.{Head}
 use Rattle.line.specs.declared.head.HeadStep.{HeadStep}
-use Rattle.line.proofs.Stepping.{finished-in-line, finished-in-array}
+use Rattle.line.proofs.InStepBits.{finished-in-line, finished-in-array}
 use borrow.Author.Needs.{needs}
 use Rattle.line.proofs.head.Head.finish.Statement.{statement}
 use Rattle.line.proofs.head.Head.finish.Tie as tie

@@ -9,7 +9,7 @@ use Rattle.crc.specs.Bits.{bytesOf}
 use Rattle.crc.proofs.Rows.{length-binary}
 use Rattle.line.specs.Code.ReceiveSteps.{windowBits, stepped}
 use Rattle.line.specs.declared.receiving.Event.the-variants as E
-use Rattle.line.proofs.Searching.{window-stored}
+use Rattle.line.proofs.LineSearch.{window-stored}
 use borrow.Author.Needs.{needs}
 use Rattle.line.proofs.head.Head.hold_window.Statement.{statement}
 use Rattle.line.proofs.head.Head.hold_window.Tie as tie

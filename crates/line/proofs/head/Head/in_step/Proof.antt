@@ -9,7 +9,7 @@ use Rattle.block.proofs.Lengths.{length-facts}
 use Rattle.line.specs.Receiving.{Reception}
 use Rattle.line.specs.ReceivingInPlace.{withArray}
 use Rattle.line.specs.Code.ReceiveSteps.{stepWith, Handed}
-use Rattle.line.proofs.Stepping.{in-step-more, in-step-done}
+use Rattle.line.proofs.InStepBits.{in-step-more, in-step-done}
 use borrow.Author.Needs.{needs}
 use Rattle.line.proofs.head.Head.in_step.Statement.{statement}
 use Rattle.line.proofs.head.Head.in_step.Tie as tie

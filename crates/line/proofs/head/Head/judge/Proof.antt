@@ -12,7 +12,7 @@ use Rattle.line.specs.Receiving.{sync-block, check-fails, judge}
 use Rattle.line.specs.ReceivingInPlace.{withArray}
 use Rattle.line.specs.Code.ReceiveSteps.{ruleOf, stepWith}
 use Rattle.line.specs.declared.head.HeadStep.{HeadStep}
-use Rattle.line.proofs.Handing.{handed-bad, stores-nothing, handed-rule, handed-short, handed-accepts, rule-sync, rule-failed, rule-passed, check-passes, check-not-passed}
+use Rattle.line.proofs.BlockFinished.{handed-bad, stores-nothing, handed-rule, handed-short, handed-accepts, rule-sync, rule-failed, rule-passed, check-passes, check-not-passed}
 use borrow.Author.Needs.{needs}
 use Rattle.line.proofs.head.Head.judge.Statement.{statement}
 use Rattle.line.proofs.head.Head.judge.Tie as tie

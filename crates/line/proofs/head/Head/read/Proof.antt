@@ -7,7 +7,7 @@ use Rattle.crc.specs.Bits.{bitsOf}
 use Rattle.crc.proofs.Bytes.{length-bitsOf}
 use Rattle.line.specs.Receiving.{heldBits}
 use Rattle.line.specs.ReceivingInPlace.{withArray}
-use Rattle.line.proofs.Calling.{in-range, held-search, held-step, handed-idle, handed-by, handed-search, handed-under-alarm}
+use Rattle.line.proofs.ReceivingCall.{in-range, held-search, held-step, handed-idle, handed-by, handed-search, handed-under-alarm}
 use borrow.Author.Needs.{needs}
 use Rattle.line.proofs.head.Head.read.Statement.{statement}
 use Rattle.line.proofs.head.Head.read.Tie as tie

@@ -5,7 +5,7 @@ use borrow.Author.Tests.{not-true, not-false, ltb-false}
 use lib.ListN.{length}
 use Rattle.line.specs.Receiving.{arrayBytes, receiverInRange}
 use Rattle.line.specs.ReceivingInPlace.{withArray}
-use Rattle.line.proofs.Calling.{refuses-spoiled, refuses-short, receives}
+use Rattle.line.proofs.ReceivingCall.{refuses-spoiled, refuses-short, receives}
 use Rattle.line.proofs.InPlace.{another-length, in-place}
 use borrow.Author.Needs.{needs}
 use Rattle.line.proofs.head.Head.receive.Statement.{statement}

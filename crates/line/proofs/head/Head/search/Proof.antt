@@ -11,7 +11,7 @@ use Rattle.line.specs.Receiving.{heldBits}
 use Rattle.line.specs.ReceivingInPlace.{withArray}
 use Rattle.line.specs.Code.ReceiveSteps.{WindowInRange, windowBits, stepped, handedBack}
 use Rattle.line.specs.declared.receiving.Event.the-variants as E
-use Rattle.line.proofs.Searching.{window-held, search-found, search-on, search-end}
+use Rattle.line.proofs.LineSearch.{window-held, search-found, search-on, search-end}
 use Rattle.line.proofs.head.Head.search.Statement.{statement}
 use Rattle.line.proofs.head.Head.search.Tie as tie
 

@@ -17,8 +17,8 @@ use Rattle.line.specs.ReceivingInPlace.{withArray}
 use Rattle.line.specs.Code.ReceiveSteps.{handedBack, Handed}
 use Rattle.line.specs.declared.receiver.Receiver.{Receiver}
 use Rattle.line.specs.declared.receiver.Step.{Step}
-use Rattle.line.proofs.Accepting.{start-lt, room, put-back, accepted-store}
-use Rattle.line.proofs.Handing.{handed-stored, length-data, data-moved}
+use Rattle.line.proofs.StorePlace.{start-lt, room, put-back, accepted-store}
+use Rattle.line.proofs.BlockFinished.{handed-stored, length-data, data-moved}
 use borrow.Author.Needs.{needs}
 use Rattle.line.proofs.head.Head.store_item.Statement.{statement}
 use Rattle.line.proofs.head.Head.store_item.Tie as tie

@@ -7,7 +7,7 @@ use native.Mathlib.Omega.{arith}
 use Rattle.line.specs.Sending.{senderItems, atLast}
 use Rattle.line.specs.declared.sender.Sender.{Sender}
 use Rattle.line.proofs.Items.{valid-length, itemCount-fits}
-use Rattle.line.proofs.Sending.{in-range}
+use Rattle.line.proofs.SenderRange.{in-range}
 use Rattle.line.proofs.sender.Sender.confirmed.Statement.{statement}
 use Rattle.line.proofs.sender.Sender.confirmed.Tie as tie
 

@@ -8,7 +8,7 @@ use Rattle.block.specs.Answer.{done}
 use Rattle.line.specs.Sending.{item, itemBlock, senderItems}
 use Rattle.line.specs.declared.sender.Sender.{Sender}
 use Rattle.line.proofs.Items.{valid-length}
-use Rattle.line.proofs.Sending.{in-range}
+use Rattle.line.proofs.SenderRange.{in-range}
 use Rattle.line.proofs.sender.Sender.item.Statement.{statement}
 use Rattle.line.proofs.sender.Sender.item.Tie as tie
 

@@ -11,8 +11,8 @@ use Rattle.block.specs.Calls.{cancelBytes}
 use Rattle.line.specs.Order.{orderBits, itemBits}
 use Rattle.line.specs.Sending.{transmit, sentBits}
 use Rattle.line.proofs.Items.{length-orderBits, length-itemBits}
-use Rattle.line.proofs.Sending.{in-range}
-use Rattle.line.proofs.Building.{cancels, cancel-overwritten}
+use Rattle.line.proofs.SenderRange.{in-range}
+use Rattle.line.proofs.ItemBlocks.{cancels, cancel-overwritten}
 use Rattle.line.proofs.sender.Sender.send_newer.Statement.{statement}
 use Rattle.line.proofs.sender.Sender.send_newer.Tie as tie
 

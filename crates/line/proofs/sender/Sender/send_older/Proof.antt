@@ -3,7 +3,7 @@ use borrow.Author.Needs.{needs}
 use mathlib.Core.Path.{refl}
 use native.Mathlib.Omega.{arith}
 use Rattle.line.specs.Sending.{transmit, sentBits}
-use Rattle.line.proofs.Sending.{in-range}
+use Rattle.line.proofs.SenderRange.{in-range}
 use Rattle.line.proofs.sender.Sender.send_older.Statement.{statement}
 use Rattle.line.proofs.sender.Sender.send_older.Tie as tie
 

@@ -2,8 +2,8 @@
 use borrow.Author.Needs.{needs}
 use mathlib.Core.Path.{refl}
 use Rattle.line.specs.Sending.{transmit, sentBits}
-use Rattle.line.proofs.Sending.{in-range}
-use Rattle.line.proofs.Building.{synchronised}
+use Rattle.line.proofs.SenderRange.{in-range}
+use Rattle.line.proofs.ItemBlocks.{synchronised}
 use Rattle.line.proofs.sender.Sender.send_sync.Statement.{statement}
 use Rattle.line.proofs.sender.Sender.send_sync.Tie as tie
 

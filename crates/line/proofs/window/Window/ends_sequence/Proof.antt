@@ -4,7 +4,7 @@ use Prim.Native.Nat.{ℕ}
 use native.Mathlib.Omega.{arith}
 use lib.Dec.{eqb}
 use Rattle.crc.specs.Bits.{number}
-use Rattle.line.proofs.Latest.{no-sequence, sequence}
+use Rattle.line.proofs.SearchWindow.{no-sequence, sequence}
 use borrow.Author.Needs.{needs}
 use Rattle.line.proofs.window.Window.ends_sequence.Statement.{statement}
 use Rattle.line.proofs.window.Window.ends_sequence.Tie as tie

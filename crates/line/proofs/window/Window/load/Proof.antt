@@ -4,7 +4,7 @@ use Prim.Native.Nat.{_^_, _≤_}
 use native.Mathlib.Nat.{lt-of-lt-of-le, le-trans}
 use lib.Dec.{lit≤}
 use lib.Pow.{pow-mono}
-use Rattle.line.proofs.Latest.{loaded-lt, loaded-bits}
+use Rattle.line.proofs.SearchWindow.{loaded-lt, loaded-bits}
 use borrow.Author.Needs.{needs}
 use Rattle.line.proofs.window.Window.load.Statement.{statement}
 use Rattle.line.proofs.window.Window.load.Tie as tie

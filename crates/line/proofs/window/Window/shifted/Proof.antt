@@ -1,5 +1,5 @@
 -- `Window::shifted` puts one bit behind the window's number. Assumes nothing.
-use Rattle.line.proofs.Latest.{shifted}
+use Rattle.line.proofs.SearchWindow.{shifted}
 use borrow.Author.Needs.{needs}
 use Rattle.line.proofs.window.Window.shifted.Statement.{statement}
 use Rattle.line.proofs.window.Window.shifted.Tie as tie

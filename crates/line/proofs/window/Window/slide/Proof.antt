@@ -4,7 +4,7 @@ use Prim.Native.Nat.{ℕ, _+_, _^_, _<_}
 use native.Mathlib.Omega.{arith}
 use lib.Bits.{bitAnd, mask-lt}
 use Rattle.crc.specs.Bits.{binary}
-use Rattle.line.proofs.Latest.{shifted-lt, latest-more, latest-full}
+use Rattle.line.proofs.SearchWindow.{shifted-lt, latest-more, latest-full}
 use borrow.Author.Needs.{needs}
 use Rattle.line.proofs.window.Window.slide.Statement.{statement}
 use Rattle.line.proofs.window.Window.slide.Tie as tie

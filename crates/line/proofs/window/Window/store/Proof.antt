@@ -1,5 +1,5 @@
 -- `Window::store` packs the window into two bytes. Assumes nothing.
-use Rattle.line.proofs.Latest.{high-lt, low-lt, stored-bytes}
+use Rattle.line.proofs.SearchWindow.{high-lt, low-lt, stored-bytes}
 use borrow.Author.Needs.{needs}
 use Rattle.line.proofs.window.Window.store.Statement.{statement}
 use Rattle.line.proofs.window.Window.store.Tie as tie

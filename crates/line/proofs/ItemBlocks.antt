@@ -21,7 +21,7 @@ use Rattle.block.proofs.Lengths.{length-facts, length-bytes}
 use Rattle.block.proofs.Block.{length-cancelled}
 use Rattle.line.specs.Order.{itemCount, letter, filled, orderBits, version, endPayload, itemBits}
 use Rattle.line.proofs.Items.{itemCount-least, item-within, length-orderBits, itemService-data, itemPayload-data}
-use Rattle.line.proofs.Filling.{take-zeros, drop-take, drop-bytes}
+use Rattle.line.proofs.LastItem.{take-zeros, drop-take, drop-bytes}
 
 -- ---- the calls
 

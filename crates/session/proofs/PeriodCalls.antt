@@ -23,7 +23,7 @@ use Rattle.session.specs.declared.period.Outcome.the-variants as O
 use Rattle.session.specs.declared.period.Reading.{Reception}
 use Rattle.session.specs.declared.period.Sending.{Sending}
 use Rattle.session.specs.declared.period.Sending.the-variants as W
-use Rattle.session.proofs.Hearing.{held-bits, lent-packed}
+use Rattle.session.proofs.ReceivingCalls.{held-bits, lent-packed}
 use Rattle.session.proofs.Sent.{on-line}
 
 -- what is shown of a sending call says what it answered

@@ -17,7 +17,7 @@ use Rattle.crc.proofs.Rows.{bit-lt, length-binary, number-binary, number-append
 use Rattle.crc.proofs.Bytes.{drop-bitsOf, bytesOf-bitsOf, bytesOf-zeros}
 use Rattle.block.specs.Block.{syncSequence}
 use Rattle.line.specs.Receiving.{latest, isSequence}
-use Rattle.line.proofs.Moved.{take-binary, drop-binary}
+use Rattle.line.proofs.BitMoves.{take-binary, drop-binary}
 
 -- ---- a bit of a slice
 

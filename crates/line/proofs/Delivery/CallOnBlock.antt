@@ -27,9 +27,9 @@ use Rattle.line.proofs.Delivery.Ends.{Ends, LineBlock, Reads, Busy}
 use Rattle.line.proofs.Delivery.Ends as D
 use Rattle.line.proofs.Delivery.Invariant.{read-keeps}
 use Rattle.line.proofs.Delivery.Progress.{ending, endingWith}
-use Rattle.line.proofs.Delivery.Reading.{After, after-is, none-held, held-none}
-use Rattle.line.proofs.Delivery.Ruling.{Ruling}
-use Rattle.line.proofs.Delivery.Storing.{store-takes, store-after}
+use Rattle.line.proofs.Delivery.BlockStep.{After, after-is, none-held, held-none}
+use Rattle.line.proofs.Delivery.RuleOnLine.{Ruling}
+use Rattle.line.proofs.Delivery.StoredItem.{store-takes, store-after}
 use Rattle.line.proofs.Delivery.State.{Session, N, Fit, alarmStands, endsOf, Held, Stored, Base, BusyLine, Assumed, Guaranteed, Result}
 use Rattle.line.proofs.Delivery.State as S
 

@@ -33,8 +33,8 @@ use Rattle.line.specs.declared.receiver.Step.{Step}
 use Rattle.line.specs.declared.rules.Rule as D
 use Rattle.line.specs.declared.rules.Rule.the-variants as C
 use Rattle.line.proofs.rules.Rule as code
-use Rattle.line.proofs.Filling.{drop-take}
-use Rattle.line.proofs.Moved.{whole-bytes}
+use Rattle.line.proofs.LastItem.{drop-take}
+use Rattle.line.proofs.BitMoves.{whole-bytes}
 
 -- ---- the store
 

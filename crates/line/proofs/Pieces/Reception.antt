@@ -18,11 +18,11 @@ use Rattle.line.specs.declared.receiving.Phase.{Phase}
 use Rattle.line.specs.declared.receiving.Phase.the-variants as P
 use Rattle.line.specs.declared.receiving.Event.{Event}
 use Rattle.line.specs.declared.receiving.Event.the-variants as E
-use Rattle.line.proofs.Stepping.{held-on, step-on, step-done}
-use Rattle.line.proofs.Calling.{InRange, held-search, reception-some}
+use Rattle.line.proofs.InStepBits.{held-on, step-on, step-done}
+use Rattle.line.proofs.ReceivingCall.{InRange, held-search, reception-some}
 use Rattle.block.proofs.Truth.{either}
-use Rattle.line.proofs.Delivery.Judging.{judged}
-use Rattle.line.proofs.Delivery.Holding.{length-heldBits, heldBits-searching}
+use Rattle.line.proofs.Delivery.BlockRules.{judged}
+use Rattle.line.proofs.Delivery.WrittenBits.{length-heldBits, heldBits-searching}
 use Rattle.line.proofs.Pieces.Search.{Passed, Found, unfound, search-splits, search-addUsed}
 use Rattle.line.proofs.Pieces.Step.{step-addUsed, step-within, judged-event}
 

@@ -14,7 +14,7 @@ use Rattle.line.specs.Code.ReceiveSteps.{stepped, judged, Handed}
 use Rattle.line.specs.declared.receiver.Receiver.{Receiver}
 use Rattle.line.specs.declared.receiving.Event.the-variants as E
 use Rattle.line.specs.declared.receiver.Step.{Step}
-use Rattle.line.proofs.Handing.{handed-plain}
+use Rattle.line.proofs.BlockFinished.{handed-plain}
 
 -- the first bits of an array into which new ones were written
 module _ (array : List ℕ) (new : Bits) (held : ℕ) (h : held + length new ≤ 8 * length array) where

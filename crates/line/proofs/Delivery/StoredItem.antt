@@ -13,7 +13,7 @@ use Rattle.crc.proofs.Bytes.{length-bitsOf}
 use Rattle.line.specs.Order.{filled, itemPayload}
 use Rattle.line.specs.Receiving.{storeAt}
 use Rattle.line.proofs.Items.{item-within, length-itemPayload, filled-next}
-use Rattle.line.proofs.Delivery.Holding.{take-overwrite, drop-overwrite, bitsOf-storeAt, length-storeAt}
+use Rattle.line.proofs.Delivery.WrittenBits.{take-overwrite, drop-overwrite, bitsOf-storeAt, length-storeAt}
 use Rattle.line.proofs.Delivery.State.{Session, N, Fit, Stored}
 
 module _ (o : Session) (fit : Fit o) (r : ℕ) (store : List ℕ) (held : Stored o r store) (h : r < N o) where

@@ -20,11 +20,11 @@ use Rattle.line.specs.declared.receiving.Phase.the-variants as P
 use Rattle.line.specs.declared.receiving.Event.the-variants as E
 use Rattle.line.proofs.Delivery.Ends.{LineBlock, Busy}
 use Rattle.line.proofs.Delivery.Ends as D
-use Rattle.line.proofs.Delivery.Holding.{length-searching, heldBits-searching}
-use Rattle.line.proofs.Delivery.Scanning.{latest16, length-latest, GoesOn, search-reads, sync-ends}
-use Rattle.line.proofs.Delivery.Reading.{same-sender}
-use Rattle.line.proofs.Delivery.Ruling.{found-ruling, sync-line-block}
-use Rattle.line.proofs.Delivery.Hearing.{ReceptionKept, whole-copy, search-step, quiet-unfinished, pass, finish}
+use Rattle.line.proofs.Delivery.WrittenBits.{length-searching, heldBits-searching}
+use Rattle.line.proofs.Delivery.SearchAnyBits.{latest16, length-latest, GoesOn, search-reads, sync-ends}
+use Rattle.line.proofs.Delivery.BlockStep.{same-sender}
+use Rattle.line.proofs.Delivery.RuleOnLine.{found-ruling, sync-line-block}
+use Rattle.line.proofs.Delivery.CallOnBlock.{ReceptionKept, whole-copy, search-step, quiet-unfinished, pass, finish}
 use Rattle.line.proofs.Delivery.State.{Session, N, Fit, inSearch, alarmStands, endsOf, Base, BusyLine}
 use Rattle.line.proofs.Delivery.State as S
 

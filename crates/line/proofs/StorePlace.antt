@@ -18,8 +18,8 @@ use Rattle.block.proofs.Lengths.{length-facts, length-bytes}
 use Rattle.block.proofs.Truth.{either}
 use Rattle.line.specs.Order.{mostItems}
 use Rattle.line.specs.Receiving.{storeAt}
-use Rattle.line.proofs.Building.{item-byte}
-use Rattle.line.proofs.Moved.{whole-bytes, placed-store}
+use Rattle.line.proofs.ItemBlocks.{item-byte}
+use Rattle.line.proofs.BitMoves.{whole-bytes, placed-store}
 
 module _ (k taken : ℕ) (known : isLength k ≡ true) where
   pub start-lt : taken ≤ mostItems → taken * (k / 8) ≤ mostItems * 480

@@ -25,8 +25,8 @@ use Rattle.line.proofs.Delivery.Ends.{Ends, LineBlock, Sends}
 use Rattle.line.proofs.Delivery.Progress.{rank-low, rank-high, between-of}
 use Rattle.line.proofs.Delivery.State.{Session, N, Fit, alarmStands, endsOf, lost′, danger′, Base, CopyOf, syncing, whole, damaged, IdleLine, BusyLine, Inv, Assumed, Begins}
 use Rattle.line.proofs.Delivery.OneCall.{SendAnswered, refuses, begins, ReceiveAnswered, send-answered, receive-answered, sender-in-range, receiver-in-range, idle-hears, idle-sends, send-call, hear-call}
-use Rattle.line.proofs.Delivery.List.{Okays}
-use Rattle.line.proofs.Delivery.Stretch.{brought, Between, During, Short, Shorts, short-nil, skip, short-hear, okays-next, okays-same, still-open, append-nil-left}
+use Rattle.line.proofs.Delivery.CallList.{Okays}
+use Rattle.line.proofs.Delivery.UndisturbedPeriods.{brought, Between, During, Short, Shorts, short-nil, skip, short-hear, okays-next, okays-same, still-open, append-nil-left}
 
 -- ---- a block that arrives as sent
 

@@ -23,9 +23,9 @@ use Rattle.line.proofs.Delivery.Ends.{LineBlock, Reads, During}
 use Rattle.line.proofs.Delivery.Ends as D
 use Rattle.line.proofs.Delivery.Invariant.{neighbour}
 use Rattle.line.proofs.Delivery.Progress.{endingWith}
-use Rattle.line.proofs.Delivery.Judging as J
-use Rattle.line.proofs.Delivery.Judging.{Unharmed, Judged, judged, judge-item, judge-fails, judge-sync}
-use Rattle.line.proofs.Delivery.Reading.{endsBlock, same-sender, good-in-step, unharmed-reads, fails-reads, other-reads}
+use Rattle.line.proofs.Delivery.BlockRules as J
+use Rattle.line.proofs.Delivery.BlockRules.{Unharmed, Judged, judged, judge-item, judge-fails, judge-sync}
+use Rattle.line.proofs.Delivery.BlockStep.{endsBlock, same-sender, good-in-step, unharmed-reads, fails-reads, other-reads}
 use Rattle.line.proofs.Delivery.State.{Session, N, Fit, alarmStands, endsOf, BusyLine, CopyOf, syncing, whole, damaged}
 use Rattle.line.proofs.Delivery.State as S
 

@@ -20,9 +20,9 @@ use Rattle.line.specs.declared.receiving.Phase.the-variants as P
 use Rattle.line.specs.declared.receiving.Event.the-variants as E
 use Rattle.line.proofs.Delivery.Ends.{LineBlock, Reads, SameSender, NotWhole}
 use Rattle.line.proofs.Delivery.Ends as D
-use Rattle.line.proofs.Delivery.Holding.{length-zeroArray}
-use Rattle.line.proofs.Delivery.Judging as J
-use Rattle.line.proofs.Delivery.Judging.{Unharmed}
+use Rattle.line.proofs.Delivery.WrittenBits.{length-zeroArray}
+use Rattle.line.proofs.Delivery.BlockRules as J
+use Rattle.line.proofs.Delivery.BlockRules.{Unharmed}
 use Rattle.line.proofs.Delivery.Progress.{ending}
 use Rattle.line.proofs.Delivery.State.{Session, N, inSearch, alarmStands, Held}
 use Rattle.line.proofs.Delivery.State as S

@@ -11,7 +11,7 @@ use Rattle.line.specs.Course.{World, Call, Entry, entry, next, course, f
 use Rattle.line.specs.Delivery.{All, some, count, isNew, isEnd, isAlarm, isLost, isGood, reportsEnd, OnLine, SameOrder, SameStore, Admitted, NotWhole, SyncAtLast, SyncNotData, OnlyRefused, Assumptions}
 use Rattle.line.proofs.Delivery.State.{Session, Fit, alarmStands, lost′, danger′, Inv, Assumed, Keeps}
 use Rattle.line.proofs.Delivery.OneCall.{call-keeps}
-use Rattle.line.proofs.Delivery.Spacing.{pends, spaced, spaced-head, spaced-tail, between-spaced}
+use Rattle.line.proofs.Delivery.BetweenLosses.{pends, spaced, spaced-head, spaced-tail, between-spaced}
 
 -- ---- what is supposed, entry by entry
 

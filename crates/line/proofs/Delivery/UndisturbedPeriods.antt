@@ -20,7 +20,7 @@ use Rattle.line.proofs.Delivery.Ends.{Ends, LineBlock, Sends, Idle}
 use Rattle.line.proofs.Delivery.Progress.{rank, rank-low, rank-falls}
 use Rattle.line.proofs.Delivery.State.{Session, N, Fit, alarmStands, endsOf, danger′, Base, whole, IdleLine, BusyLine, Guaranteed, Done}
 use Rattle.line.proofs.Delivery.OneCall.{ReceiveAnswered, idle-hears, busy-hears, done-idle}
-use Rattle.line.proofs.Delivery.List.{Okays}
+use Rattle.line.proofs.Delivery.CallList.{Okays}
 
 -- a new block or the end
 abbrev pub brought : Entry → Bool

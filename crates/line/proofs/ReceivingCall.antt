@@ -22,8 +22,8 @@ use Rattle.line.specs.declared.receiving.Phase.the-variants as P
 use Rattle.line.specs.declared.receiving.Event.{Event}
 use Rattle.line.specs.declared.receiving.Received.the-variants as R
 use Rattle.line.specs.declared.receiver.Step.{Step}
-use Rattle.line.proofs.Handing.{handed-plain}
-use Rattle.line.proofs.Searching.{search-stores}
+use Rattle.line.proofs.BlockFinished.{handed-plain}
+use Rattle.line.proofs.LineSearch.{search-stores}
 
 -- ---- the range
 

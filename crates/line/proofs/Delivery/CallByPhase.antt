@@ -19,12 +19,12 @@ use Rattle.line.specs.declared.receiving.Event.{Event}
 use Rattle.line.specs.declared.receiving.Event.the-variants as E
 use Rattle.line.proofs.Delivery.Ends.{LineBlock, Busy}
 use Rattle.line.proofs.Delivery.Ends as D
-use Rattle.line.proofs.Delivery.Reading.{same-sender}
-use Rattle.line.proofs.Delivery.Hearing.{ReceptionKept, none-of-length, Quiet, quiet-idle, still-same, alarm-lost, pass}
+use Rattle.line.proofs.Delivery.BlockStep.{same-sender}
+use Rattle.line.proofs.Delivery.CallOnBlock.{ReceptionKept, none-of-length, Quiet, quiet-idle, still-same, alarm-lost, pass}
 use Rattle.line.proofs.Delivery.State.{Session, N, Fit, alarmStands, Held, Base, BusyLine}
 use Rattle.line.proofs.Delivery.State as S
-use Rattle.line.proofs.Delivery.InStep.{in-step}
-use Rattle.line.proofs.Delivery.InSearch.{in-search}
+use Rattle.line.proofs.Delivery.CallInStep.{in-step}
+use Rattle.line.proofs.Delivery.CallInSearch.{in-search}
 
 module _ (o : Session) (fit : Fit o) (w : World) (l d : ℕ) (copy : Bits) (f : LineBlock)
     (line : BusyLine o w l d copy f) (base : Base o w) (lent : Bits) (store : List ℕ) where

@@ -17,7 +17,7 @@ use Rattle.crc.proofs.Rows.{length-binary, binary-mod, binary-join}
 use Rattle.crc.proofs.Bytes.{length-bitsOf, take-bitsOf, drop-bitsOf, bitsOf-append, bitsOf-last, bitsOf-bytesOf, bytesOf-bitsOf}
 use Rattle.block.proofs.Packing.{binary-split}
 use Rattle.line.specs.Receiving.{overwrite, storeAt}
-use Rattle.line.proofs.Filling.{take-bytes, drop-bytes}
+use Rattle.line.proofs.LastItem.{take-bytes, drop-bytes}
 
 -- ---- parts of a byte
 
