@@ -87,7 +87,7 @@ isGood = onHeard false (λ y. isItem (y .block) && meaning (y .rule) .checked)
 -- the next bits of the copy that are not yet used.
 abbrev pub OnLine : ℕ → Entry → Type 0
 OnLine k e =
-    onSent (onHeard (Unit {0}) (λ y. (later : Bits) × (y .left ≡ y .lent ++ later)) e)
+    onSent (onHeard (Unit {0}) (λ y. (remaining : Bits) × (y .left ≡ y .lent ++ remaining)) e)
     (λ x. (x .unused ≡ []) × (length (x .arrives) ≡ blockLength k)) e
 
 -- each sending call is lent the same order

@@ -13,7 +13,7 @@ use Rattle.line.specs.declared.receiving.Received.the-variants as R
 use Rattle.line.specs.declared.receiver.Step.{Step}
 use Rattle.line.specs.declared.receiver.Receiver.{Receiver}
 use Rattle.line.specs.declared.receiving.Event.{Event}
-use Rattle.session.specs.Period.{lineBytes, invertFirst, arriving, Lent, disturbed, later, Hearing, hearing, answered, hear, heardCourse}
+use Rattle.session.specs.Period.{lineBytes, invertFirst, arriving, Lent, disturbed, lastEvent, Hearing, hearing, answered, hear, heardCourse}
 use Rattle.line.specs.declared.sender.Sender.{Sender}
 use Rattle.session.specs.declared.period.Block.{Block}
 use Rattle.session.specs.declared.period.Heard.{Heard}
@@ -37,13 +37,13 @@ hear-calls (suc f) zero s (b ∷ bs) store last hf hg = absurd (omega arith)
 hear-calls (suc f) (suc g) s [] store last hf hg = refl
 hear-calls (suc f) (suc g) s (b ∷ bs) store last hf hg = by-answer (receive s (bytesOf lineBytes (b ∷ bs)) (length (b ∷ bs)) store) refl
     (λ x n.
-    hear-calls f g (x .state) (drop (x .used) (b ∷ bs)) (receiveStore s store (done x)) (later last (meaning (x .rule) .event))
+    hear-calls f g (x .state) (drop (x .used) (b ∷ bs)) (receiveStore s store (done x)) (lastEvent last (meaning (x .rule) .event))
     (rw length-drop (omega arith)) (rw length-drop (omega arith)))
   where
     by-answer : (a : Answer Reception) → receive s (bytesOf lineBytes (b ∷ bs)) (length (b ∷ bs)) store ≡ a
         → ((x : Reception) → 0 < x .used
-        → hear f (x .state) (drop (x .used) (b ∷ bs)) (receiveStore s store (done x)) (later last (meaning (x .rule) .event))
-        ≡ hear g (x .state) (drop (x .used) (b ∷ bs)) (receiveStore s store (done x)) (later last (meaning (x .rule) .event)))
+        → hear f (x .state) (drop (x .used) (b ∷ bs)) (receiveStore s store (done x)) (lastEvent last (meaning (x .rule) .event))
+        ≡ hear g (x .state) (drop (x .used) (b ∷ bs)) (receiveStore s store (done x)) (lastEvent last (meaning (x .rule) .event)))
         → answered (hear f) s (b ∷ bs) store last a ≡ answered (hear g) s (b ∷ bs) store last a
     by-answer (refused n) e next = refl
     by-answer (done x) e next = next x (receive-uses s (bytesOf lineBytes (b ∷ bs)) (length (b ∷ bs)) store x e (omega arith) .0)
@@ -70,7 +70,7 @@ moved bits used h u =
 -- one call more: what it leaves is lent, and the calls from there on give the rest
 module _ (s : Receiver) (store : List ℕ) (last : Event) (x : Reception) where
   rest : Bits → Hearing
-  rest bits = hear (length bits) (x .state) bits (receiveStore s store (done x)) (later last (meaning (x .rule) .event))
+  rest bits = hear (length bits) (x .state) bits (receiveStore s store (done x)) (lastEvent last (meaning (x .rule) .event))
 
   first-call : (bits : Bits) → receive s (bytesOf lineBytes bits) (length bits) store ≡ done x → 0 < length bits
       → hear (length bits) s bits store last ≡ rest (drop (x .used) bits)
@@ -80,14 +80,14 @@ module _ (s : Receiver) (store : List ℕ) (last : Event) (x : Reception) where
       let u = receive-uses s (bytesOf lineBytes (b ∷ bs)) (length (b ∷ bs)) store x e h in
       rw e
       (hear-calls (length bs) (length (drop (x .used) (b ∷ bs))) (x .state) (drop (x .used) (b ∷ bs)) (receiveStore s store (done x))
-      (later last (meaning (x .rule) .event)) (rw length-drop (omega arith)) (omega arith))
+      (lastEvent last (meaning (x .rule) .event)) (rw length-drop (omega arith)) (omega arith))
 
   pub record More (line : List ℕ) (left : ℕ) (line′ : List ℕ) : Type 0 where
     pub uses : (0 < x .used) × (x .used ≤ left)
     pub lent : Lent line′ (left - x .used)
     pub goes-on : hear left s (take left (bitsOf line)) store last
         ≡ hear (left - x .used) (x .state) (take (left - x .used) (bitsOf line′)) (receiveStore s store (done x))
-        (later last (meaning (x .rule) .event))
+        (lastEvent last (meaning (x .rule) .event))
 
   packed-more : (bits : Bits) → length bits ≤ 8 * lineBytes → 0 < length bits
       → receive s (bytesOf lineBytes bits) (length bits) store ≡ done x
@@ -159,7 +159,7 @@ module _ (s : Receiver) (line : List ℕ) (left : ℕ) (store : List ℕ) (last 
     pub uses : (0 < used) × (used ≤ left)
     pub lent-next : Lent line′ (left - used)
     pub goes-on : hear left s (take left (bitsOf line)) store last
-        ≡ hear (left - used) (step .state) (take (left - used) (bitsOf line′)) store′ (later last event)
+        ≡ hear (left - used) (step .state) (take (left - used) (bitsOf line′)) store′ (lastEvent last event)
 
   progress-at : (x : Reception) (event : Event) (used : ℕ) → receive s line left store ≡ done x → event ≡ meaning (x .rule) .event
       → used ≡ x .used → Progress event used (bytesOf (length line) (drop used (bitsOf line)))

@@ -64,15 +64,15 @@ disturbed K.Turned line = line
 disturbed K.Damaged line = set line 0 (bitXor (getD line 0 0) 128)
 
 -- the last event other than none
-abbrev pub later : Event → Event → Event
-later last E.None = last
-later last E.Sync = E.Sync
-later last E.Bad = E.Bad
-later last E.Accepted = E.Accepted
-later last E.Previous = E.Previous
-later last E.SequenceAlarm = E.SequenceAlarm
-later last E.LengthAlarm = E.LengthAlarm
-later last (E.Ended L) = E.Ended L
+abbrev pub lastEvent : Event → Event → Event
+lastEvent last E.None = last
+lastEvent last E.Sync = E.Sync
+lastEvent last E.Bad = E.Bad
+lastEvent last E.Accepted = E.Accepted
+lastEvent last E.Previous = E.Previous
+lastEvent last E.SequenceAlarm = E.SequenceAlarm
+lastEvent last E.LengthAlarm = E.LengthAlarm
+lastEvent last (E.Ended L) = E.Ended L
 
 -- the receiver, the last event or the refusal, and the store
 pub record Hearing : Type 0 where
@@ -86,7 +86,7 @@ hearing s last store = record { heard = record { receiver = s; last = last }; st
 abbrev pub answered : (Receiver → Bits → List ℕ → Event → Hearing) → Receiver → Bits → List ℕ → Event → Answer Reception → Hearing
 answered next s bits store last (refused n) = hearing s (L.Refused n) store
 answered next s bits store last (done x) =
-    next (x .state) (drop (x .used) bits) (receiveStore s store (done x)) (later last (meaning (x .rule) .event))
+    next (x .state) (drop (x .used) bits) (receiveStore s store (done x)) (lastEvent last (meaning (x .rule) .event))
 
 -- Calls, each lent the bits not yet used, until none is left or a call is refused. A call uses at least one bit, so that
 -- there are no more calls than bits: the number of calls only ends the recursion.

@@ -5,7 +5,7 @@ ghost use lib.ListN.{length, take};
 ghost use Rattle.crc.specs.Bits.{bitsOf};
 ghost use Rattle.line.specs.Sending.{sentAnswer};
 ghost use Rattle.session.specs.Period as P;
-ghost use Rattle.session.specs.Period.{Lent, readingOf, arriving, disturbed, later, ifUsed, shownSending, heardCourse, RunPeriod};
+ghost use Rattle.session.specs.Period.{Lent, readingOf, arriving, disturbed, lastEvent, ifUsed, shownSending, heardCourse, RunPeriod};
 use crate::shift::drop_bits;
 use block::OVERHEAD;
 use line::receiver::Receiver;
@@ -85,8 +85,8 @@ fn reading_of(kind: Kind, back: bool) -> bool
     }
 }
 
-fn later_of(last: Event, event: Event) -> Event
-    ensures { λ r. ⌜ r ≡ later last event ⌝ }
+fn last_event(last: Event, event: Event) -> Event
+    ensures { λ r. ⌜ r ≡ lastEvent last event ⌝ }
 {
     match event {
         Event::None => last,
@@ -156,7 +156,7 @@ fn hear(receiver: Receiver, line: &mut [u8], count: usize, store: &mut [u8]) -> 
                 };
             }
             Received::Used { event, bits } => {
-                last = later_of(last, event);
+                last = last_event(last, event);
                 drop_bits(line, bits);
                 left -= bits;
             }

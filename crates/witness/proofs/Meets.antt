@@ -71,7 +71,7 @@ begins [] y = true
 begins (a ∷ x) [] = false
 begins (a ∷ x) (b ∷ y) = sameBit a b && begins x y
 
-begins-with : (x y : Bits) → begins x y ≡ true → (later : Bits) × (y ≡ x ++ later)
+begins-with : (x y : Bits) → begins x y ≡ true → (remaining : Bits) × (y ≡ x ++ remaining)
 begins-with [] y h = (y, refl)
 begins-with (a ∷ x) [] h = absurd (false≢true h)
 begins-with (a ∷ x) (b ∷ y) h =

@@ -72,14 +72,14 @@ module _ (o : Session) (fit : Fit o) (w : World) (l d : ℕ) (copy : Bits) (f : 
     window = line .held .search searches .1
 
     -- had they been the last of an unharmed synchronising block, the sequence would have been found
-    not-unharmed : (later : Bits) → w .left ≡ lent ++ later → later ≡ []
+    not-unharmed : (remaining : Bits) → w .left ≡ lent ++ remaining → remaining ≡ []
         → (lent ≡ []) ⊎ (isSequence (latest16 ((earlier ++ line .used) ++ lent)) ≡ false) → copy ≡ syncBlock (o .k) → ⊥
-    not-unharmed later split z (inl e) c = line .more (split ∙ ap₂ _++_ e z)
-    not-unharmed later split z (inr e) c =
+    not-unharmed remaining split z (inl e) c = line .more (split ∙ ap₂ _++_ e z)
+    not-unharmed remaining split z (inr e) c =
         true≢false
         (sym (ap (λ (y : Bits). isSequence (latest16 y))
         (append-assoc earlier (line .used) lent
-        ∙ ap (λ (y : Bits). earlier ++ y) (sym (whole-copy o w l d copy f line lent later split z) ∙ c)) ∙ sync-ends (o .k) earlier)
+        ∙ ap (λ (y : Bits). earlier ++ y) (sym (whole-copy o w l d copy f line lent remaining split z) ∙ c)) ∙ sync-ends (o .k) earlier)
         ∙ e)
 
     abbrev then : Receiver

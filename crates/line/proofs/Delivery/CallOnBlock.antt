@@ -122,7 +122,7 @@ module _ (o : Session) (fit : Fit o) (w : World) (l d : ℕ) (copy : Bits) (f : 
   alarm-lost a = ⊎-elim (λ b. b .lost) (λ b. absurd (omega (arith, ap bit a, b .0 .alarm))) (line .busy .state)
 
   -- no event, or a standing alarm's: the bits go by
-  module _ (later : Bits) (split : w .left ≡ lent ++ later) (x : Rule) (n : ℕ) (t : Receiver) (all : n ≡ length lent)
+  module _ (remaining : Bits) (split : w .left ≡ lent ++ remaining) (x : Rule) (n : ℕ) (t : Receiver) (all : n ≡ length lent)
       (q : Quiet (alarmStands (w .receiver .phase)) x) (s : Still o (w .receiver) t) where
     abbrev pub t-ends : Ends
     t-ends = S.ends (w .sender) t l d
@@ -134,14 +134,14 @@ module _ (o : Session) (fit : Fit o) (w : World) (l d : ℕ) (copy : Bits) (f : 
       pub clean : f ≡ LineBlock.sync → copy ≡ syncBlock (o .k) → alarmStands (w .receiver .phase) ≡ false
           → meaning x .event ≡ E.Sync
 
-    now : drop n (w .left) ≡ later
-    now = ap₂ drop all split ∙ drop-at lent later (length lent) refl
+    now : drop n (w .left) ≡ remaining
+    now = ap₂ drop all split ∙ drop-at lent remaining (length lent) refl
 
     danger-kept : cond (isItem (w .block) && meaning x .checked) 0 d ≡ d
     danger-kept = not-danger (alarmStands (w .receiver .phase)) x q (isItem (w .block)) d
 
     pub pass : Held t (line .used ++ lent) → Busy (N o) t-ends (w .sender .next) f
-        → (alarmStands (w .receiver .phase) ≡ false → t-ends ≡ endsOf w l d) → (later ≡ [] → AtLast)
+        → (alarmStands (w .receiver .phase) ≡ false → t-ends ≡ endsOf w l d) → (remaining ≡ [] → AtLast)
         → After-call (record { rule = x; row = []; used = n; state = t })
     unfolding now danger-kept
     pass held busy ends-same last =
@@ -162,7 +162,7 @@ module _ (o : Session) (fit : Fit o) (w : World) (l d : ℕ) (copy : Bits) (f : 
                 record {
                   used = line .used ++ lent;
                   split = line .split ∙ ap (λ (y : Bits). line .used ++ y) split
-                      ∙ sym (append-assoc (line .used) lent later)
+                      ∙ sym (append-assoc (line .used) lent remaining)
                       ∙ ap (λ (y : Bits). (line .used ++ lent) ++ y) (sym now);
                   more = λ e. z (sym now ∙ e);
                   long = line .long;
@@ -174,7 +174,7 @@ module _ (o : Session) (fit : Fit o) (w : World) (l d : ℕ) (copy : Bits) (f : 
                 refl,
                 (λ a. ap (λ (m : ℕ). S.ends (w .sender) t l m) danger-kept ∙ ends-same a),
               ))
-              (empty-or-not later);
+              (empty-or-not remaining);
           guaranteed = still-told o w l base lent store same x n t q s alarm-lost;
         }
 
@@ -258,19 +258,19 @@ pub search-step : {p : Phase} → p ≡ P.Search → p ≡ P.InStep → ⊥
 search-step {p} a b = let z : _≡_ {A = ℕ} 0 1 = cc in omega arith
 
 module _ (o : Session) (w : World) (l d : ℕ) (copy : Bits) (f : LineBlock) (line : BusyLine o w l d copy f) (lent : Bits) where
-  pub used-with : (later : Bits) → w .left ≡ lent ++ later
-      → length (line .used) + (length lent + length later) ≡ blockLength (o .k)
-  used-with later split =
+  pub used-with : (remaining : Bits) → w .left ≡ lent ++ remaining
+      → length (line .used) + (length lent + length remaining) ≡ blockLength (o .k)
+  used-with remaining split =
       omega (
         arith,
         length-append (line .used) (w .left),
         ap length (line .split),
         ap length split,
-        length-append lent later,
+        length-append lent remaining,
         line .long,
       )
 
   -- all bits of the block are lent
-  pub whole-copy : (later : Bits) → w .left ≡ lent ++ later → later ≡ [] → copy ≡ line .used ++ lent
-  whole-copy later split z =
+  pub whole-copy : (remaining : Bits) → w .left ≡ lent ++ remaining → remaining ≡ [] → copy ≡ line .used ++ lent
+  whole-copy remaining split z =
       line .split ∙ ap (λ (y : Bits). line .used ++ y) (split ∙ ap (λ (y : Bits). lent ++ y) z ∙ append-nil lent)

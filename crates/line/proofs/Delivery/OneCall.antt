@@ -151,9 +151,9 @@ module _ (o : Session) (fit : Fit o) where
       lost : alarmStands (w .receiver .phase) ≡ true → l ≡ 1
       lost a = ⊎-elim (λ c. c .lost) (λ c. absurd (omega (arith, ap bit a, c .alarm))) (g .idle .state)
 
-  nothing-lent : (lent later : Bits) → [] ≡ lent ++ later → lent ≡ []
-  nothing-lent [] later e = refl
-  nothing-lent (b ∷ lent) later e = absurd (let z : _≡_ {A = ℕ} 0 1 = cc in omega arith)
+  nothing-lent : (lent remaining : Bits) → [] ≡ lent ++ remaining → lent ≡ []
+  nothing-lent [] remaining e = refl
+  nothing-lent (b ∷ lent) remaining e = absurd (let z : _≡_ {A = ℕ} 0 1 = cc in omega arith)
 
   idle-is : (r : Receiver) (lent : Bits) (count : ℕ) → count ≡ 0 → reception r lent count ≡ idle r
   unfolding reception

@@ -10,7 +10,7 @@ use Rattle.session.proofs.period.hear.Statement.{statement}
 use Rattle.session.proofs.period.hear.Tie as tie
 use Rattle.session.proofs.period.hear.Reads as reads
 use Rattle.session.proofs.period.hear.Lts as lts
-use Rattle.session.proofs.period.later_of.Reads as later-of-reads
+use Rattle.session.proofs.period.last_event.Reads as last-event-reads
 use Rattle.session.proofs.shift.drop_bits.Reads as drop-bits-reads
 
 abbrev Inv-loop : tie.InvT-loop
@@ -49,8 +49,8 @@ returns c =
 enum-known-answer-2 : tie.Need-enum-known-answer-2 Inv-loop μ-loop
 enum-known-answer-2 c = search needs
 
-later-of-requires : tie.Need-later-of-requires Inv-loop μ-loop
-later-of-requires c κs = tt
+last-event-requires : tie.Need-last-event-requires Inv-loop μ-loop
+last-event-requires c κs = tt
 
 drop-bits-requires : tie.Need-drop-bits-requires Inv-loop μ-loop
 drop-bits-requires c κs = tt
@@ -84,7 +84,7 @@ loop-again c =
       rw (d .ensures) (m .lent-next),
       d .kept .0 ∙ l .inv .1,
       r .kept .1 .1 .1 .0 ∙ l .inv .2,
-      rw (d .ensures, c .before .before .before .before .later-of .ensures) (sym (m .goes-on) ∙ l .inv .3),
+      rw (d .ensures, c .before .before .before .before .last-event .ensures) (sym (m .goes-on) ∙ l .inv .3),
     )
 
 same-length-3 : tie.Need-same-length-3 Inv-loop μ-loop
@@ -114,7 +114,7 @@ hear-spec =
     same-length-2
     returns
     enum-known-answer-2
-    later-of-requires
+    last-event-requires
     drop-bits-requires
     sub-left
     loop-less
