@@ -8,9 +8,7 @@ use lib.ListN.{take, drop}
 use Rattle.crc.specs.Bits.{Bits, bitsOf}
 use Rattle.block.specs.Answer.{Answer, refused, done}
 use Rattle.line.specs.Order.{orderBits}
-use Rattle.line.specs.Sending as S
-use Rattle.line.specs.Sending.{Block, synchronising, transmit, send, sendState, sendBytes, plainBits, sentBits, sentAnswer, Send}
-use Rattle.line.specs.Receiving as R
+use Rattle.line.specs.Sending.{Block, synchronising, send, sendState, sendBytes, plainBits, sentBits, sentAnswer, Send}
 use Rattle.line.specs.Receiving.{Rule, Reception, Report, receive, receiveState, receiveStore, reported, receivedAnswer, Receive}
 use Rattle.line.specs.declared.sender.Sender.{Sender}
 use Rattle.line.specs.declared.sender.Step as SenderStep

@@ -34,9 +34,9 @@ abbrev pub some : {A : Type 0} → (A → Bool) → List A → Bool
 some f [] = false
 some f (x ∷ xs) = f x || some f xs
 
-abbrev pub count : (Entry → Bool) → List Entry → ℕ
-count f [] = 0
-count f (e ∷ es) = cond (f e) 1 0 + count f es
+abbrev pub sum : (Entry → ℕ) → List Entry → ℕ
+sum f [] = 0
+sum f (e ∷ es) = f e + sum f es
 
 -- ---- the words of demand 3
 
@@ -147,12 +147,8 @@ abbrev pub group : List Entry → Grouped
 group [] = record { loose = []; periods = [] }
 group (e ∷ es) = grouped e (group es)
 
-abbrev pub usedBy : Entry → ℕ
-usedBy = onHeard 0 (λ y. y .used)
-
 abbrev pub usedBits : List Entry → ℕ
-usedBits [] = 0
-usedBits (e ∷ es) = usedBy e + usedBits es
+usedBits = sum (onHeard 0 (λ y. y .used))
 
 -- "undisturbed": all n bits arrive as sent, and the reading equals the return bit then standing
 pub record Undisturbed (k : ℕ) (p : Period) : Type 0 where
@@ -178,7 +174,7 @@ OnlyRefused (heard y) = Unit {0}
 
 -- r, the number of accepted blocks
 abbrev pub accepted : List Entry → ℕ
-accepted es = count isNew es
+accepted = sum (λ e. cond (isNew e) 1 0)
 
 pub record Guarantees (k L : ℕ) (content : Bits) (initialStore : List ℕ) (es : List Entry) (w : World) : Type 0 where
   -- the store holds the beginning of the order, no block missing, doubled or moved, and the rest is as first lent

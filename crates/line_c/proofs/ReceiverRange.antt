@@ -55,8 +55,8 @@ Fits x = ReceiverFits (x .state)
 
 module _ (s : Receiver) (r : InRange s) (f : ReceiverFits s) where
   blank-fits : (bad-row : ℕ) (back : Bool) (taken : ℕ) (ended : Bool) (phase : Phase) → bad-row ≤ 8 → taken ≤ s .taken + 1
-      → ReceiverFits (blank s row back taken ended phase)
-  blank-fits row back taken ended phase h g =
+      → ReceiverFits (blank s bad-row back taken ended phase)
+  blank-fits bad-row back taken ended phase h g =
       record {
         k = f .k;
         held = omega arith;

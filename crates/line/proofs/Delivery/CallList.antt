@@ -8,7 +8,7 @@ use Prim.Native.Nat.{ℕ, _+_}
 use Rattle.crc.specs.Bits.{bit}
 use Rattle.block.proofs.Truth.{or-true, or-false, or-no}
 use Rattle.line.specs.Course.{World, Call, Entry, entry, next, course, final}
-use Rattle.line.specs.Delivery.{All, some, count, isNew, isEnd, isAlarm, isLost, isGood, reportsEnd, OnLine, SameOrder, SameStore, Admitted, NotWhole, SyncAtLast, SyncNotData, OnlyRefused, Assumptions}
+use Rattle.line.specs.Delivery.{All, some, accepted, isNew, isEnd, isAlarm, isLost, isGood, reportsEnd, OnLine, SameOrder, SameStore, Admitted, NotWhole, SyncAtLast, SyncNotData, OnlyRefused, Assumptions}
 use Rattle.line.proofs.Delivery.State.{Session, Fit, alarmStands, lost′, danger′, Inv, Assumed, Keeps}
 use Rattle.line.proofs.Delivery.OneCall.{call-keeps}
 use Rattle.line.proofs.Delivery.BetweenLosses.{pends, spaced, spaced-head, spaced-tail, between-spaced}
@@ -86,7 +86,7 @@ losts-zero (e ∷ es) = go (isLost e) (losts-zero es)
 
 pub record Safe (o : Session) (w : World) (l d : ℕ) (es : List Entry) (w′ : World) : Type 0 where
   pub inv : Inv o w′ (losts l es) (dangers d es)
-  pub taken : w′ .receiver .taken ≡ count isNew es + w .receiver .taken
+  pub taken : w′ .receiver .taken ≡ accepted es + w .receiver .taken
   pub ended : w′ .receiver .ended ≡ (w .receiver .ended || some isEnd es)
   pub length : (M : ℕ) → some (reportsEnd M) es ≡ true → M ≡ o .L
   pub alarm : (before behind : List Entry) (e : Entry) → es ≡ before ++ (e ∷ behind) → isAlarm e ≡ true → losts l before ≡ 1
