@@ -113,7 +113,10 @@ impl Receiver {
 
     /// No bits, or an alarm that stands.
     fn alarm_or_none(&mut self, bits: usize) -> Received {
-        let event = self.alarm.map_or(Event::None, Alarm::event);
+        let event = match self.alarm {
+            None => Event::None,
+            Some(alarm) => alarm.event(),
+        };
         if bits > 0 {
             self.return_bit = true;
             self.bad_row = 0;
