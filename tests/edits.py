@@ -3,7 +3,7 @@
 
 For an edit in must-fail/ itself, rt ci checks the whole crate from nothing. Here a crate is checked as it is, over the
 record that rt dev keeps; then with each edit over that record, so that only what the edit reaches is checked again; and at
-the end as it is once more. It works on copies, in target/edits/NAME; what the prover said is in LABEL.log there. Without
+the end as it is once more. It works on copies, in target/edits/NAME; the output is in LABEL.log there. Without
 arguments every crate is tried, else those named.
 """
 
@@ -43,16 +43,16 @@ def edited(crate, edit):
     return texts
 
 
-def verdict(status, said):
+def verdict(status, output):
     """What a check came to."""
     if status == 0:
         return "proved"
-    if status == 1 and re.search(r"^logic=not-proved", said, re.MULTILINE):
+    if status == 1 and re.search(r"^logic=not-proved", output, re.MULTILINE):
         return "refused"
     return f"no verdict (exit {status})"
 
 
-def comes_to(wanted, tree, name, label):
+def check_gives(wanted, tree, name, label):
     """Whether a check of the crate comes to the verdict that is wanted; prints a line about it."""
     began = time.monotonic()
     run = subprocess.run(["rt", "dev", name], cwd=tree, stdout=subprocess.PIPE, stderr=subprocess.STDOUT, text=True)
@@ -74,7 +74,7 @@ def try_edit(tree, name, edit):
     before = {path: path.read_text() for path in texts}
     for path, text in texts.items():
         path.write_text(text)
-    refused = comes_to("refused", tree, name, edit.stem)
+    refused = check_gives("refused", tree, name, edit.stem)
     for path, text in before.items():
         path.write_text(text)
     return refused
@@ -88,9 +88,9 @@ def try_edits(name, edits):
     shutil.copy(ROOT / "crates.txt", tree)
     shutil.copytree(ROOT / "target" / "stamp", tree / "target" / "stamp")
     (tree / "target" / "rlib").symlink_to(ROOT / "target" / "rlib")
-    results = [comes_to("proved", tree, name, AS_IT_IS)]
+    results = [check_gives("proved", tree, name, AS_IT_IS)]
     results += [try_edit(tree, name, edit) for edit in edits]
-    results += [comes_to("proved", tree, name, AS_IT_IS)]
+    results += [check_gives("proved", tree, name, AS_IT_IS)]
     return results.count(False)
 
 

@@ -153,13 +153,13 @@ static void machine_on_bits(struct machine *machine, uint8_t byte, size_t bits)
 /* ---- the noise: the same at each run ---- */
 
 /*
- * One block in eight is damaged, and of each 64 the ten from the 20th on, so that a search and resynchronising are seen.
+ * One block in eight is damaged, and all ten of an outage in each 64, so that a search and resynchronising are seen.
  * The damage is an even number of bits within 16 adjacent places; with a cancelled block's inverted last bit that makes
  * an odd number. Either is damage that the check finds. A return reading of 0 is turned into 1 in one block of 32, which
  * costs a repeat. A reading of 1 is never turned: no repeat request is lost.
  */
 struct noise {
-    uint32_t word;
+    uint32_t random; /* the state of the random numbers (xorshift) */
     unsigned long period;
     size_t first;   /* the first damaged bit */
     uint16_t burst; /* the damage from there on, the first bit on top; 0 in a block that stays whole */
@@ -167,21 +167,21 @@ struct noise {
 
 static uint32_t noise_below(struct noise *noise, uint32_t limit)
 {
-    noise->word ^= noise->word << 13;
-    noise->word ^= noise->word >> 17;
-    noise->word ^= noise->word << 5;
-    return noise->word % limit;
+    noise->random ^= noise->random << 13;
+    noise->random ^= noise->random >> 17;
+    noise->random ^= noise->random << 5;
+    return noise->random % limit;
 }
 
 static void noise_begin_block(struct noise *noise, size_t n)
 {
-    bool in_row = noise->period % 64 >= 20 && noise->period % 64 < 30;
+    bool in_outage = noise->period % 64 >= 20 && noise->period % 64 < 30;
     bool odd = false;
     unsigned i;
 
     noise->period++;
     noise->burst = 0;
-    if (noise_below(noise, 8) != 0 && !in_row)
+    if (noise_below(noise, 8) != 0 && !in_outage)
         return;
     noise->first = noise_below(noise, (uint32_t)(n - 15));
     noise->burst = (uint16_t)(0x8000u | noise_below(noise, 0x8000));
@@ -228,7 +228,7 @@ static uint8_t run_period(struct office *office, struct machine *machine, struct
     return 0;
 }
 
-static unsigned long times(const struct machine *machine, uint8_t event)
+static unsigned long event_count(const struct machine *machine, uint8_t event)
 {
     return machine->events[event - ORDER_LINE_EVENT_NONE];
 }
@@ -239,13 +239,13 @@ static void print_summary(const struct office *office, const struct machine *mac
            (unsigned long)office->order_bytes, (unsigned long)k, periods, office->synchronising, office->cancelled,
            office->repeats);
     printf("events: %lu sync, %lu bad, %lu accepted, %lu previous, %lu ended, %lu alarms\n",
-           times(machine, ORDER_LINE_EVENT_SYNC), times(machine, ORDER_LINE_EVENT_BAD),
-           times(machine, ORDER_LINE_EVENT_ACCEPTED), times(machine, ORDER_LINE_EVENT_PREVIOUS),
-           times(machine, ORDER_LINE_EVENT_ENDED),
-           times(machine, ORDER_LINE_EVENT_SEQUENCE_ALARM) + times(machine, ORDER_LINE_EVENT_LENGTH_ALARM));
+           event_count(machine, ORDER_LINE_EVENT_SYNC), event_count(machine, ORDER_LINE_EVENT_BAD),
+           event_count(machine, ORDER_LINE_EVENT_ACCEPTED), event_count(machine, ORDER_LINE_EVENT_PREVIOUS),
+           event_count(machine, ORDER_LINE_EVENT_ENDED),
+           event_count(machine, ORDER_LINE_EVENT_SEQUENCE_ALARM) + event_count(machine, ORDER_LINE_EVENT_LENGTH_ALARM));
 }
 
-/* Whether the order arrived; says in words if not. */
+/* Whether the order arrived; prints why not. */
 static bool arrived_whole(const struct office *office, const struct machine *machine, uint8_t rest)
 {
     if (rest == ORDER_LINE_GAVE_UP)

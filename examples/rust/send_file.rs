@@ -153,12 +153,13 @@ impl Machine {
 
 // ---- the noise: the same at each run
 
-/// One block in eight is damaged, and of each 64 the ten from the 20th on, so that a search and resynchronising are seen.
+/// One block in eight is damaged, and all ten of an outage in each 64, so that a search and resynchronising are seen.
 /// The damage is an even number of bits within 16 adjacent places; with a cancelled block's inverted last bit that makes
 /// an odd number. Either is damage that the check finds. A return reading of 0 is turned into 1 in one block of 32, which
 /// costs a repeat. A reading of 1 is never turned: no repeat request is lost.
 struct Noise {
-    word: u32,
+    /// The state of the random numbers (xorshift).
+    random: u32,
     period: usize,
     /// The first damaged bit.
     first: usize,
@@ -169,7 +170,7 @@ struct Noise {
 impl Noise {
     fn new() -> Noise {
         Noise {
-            word: 1968,
+            random: 1968,
             period: 0,
             first: 0,
             burst: 0,
@@ -177,17 +178,17 @@ impl Noise {
     }
 
     fn below(&mut self, limit: u32) -> u32 {
-        self.word ^= self.word << 13;
-        self.word ^= self.word >> 17;
-        self.word ^= self.word << 5;
-        self.word % limit
+        self.random ^= self.random << 13;
+        self.random ^= self.random >> 17;
+        self.random ^= self.random << 5;
+        self.random % limit
     }
 
     fn begin_block(&mut self, n: usize) {
-        let in_row = (20..30).contains(&(self.period % 64));
+        let in_outage = (20..30).contains(&(self.period % 64));
         self.period += 1;
         self.burst = 0;
-        if self.below(8) != 0 && !in_row {
+        if self.below(8) != 0 && !in_outage {
             return;
         }
         self.first = self.below(n as u32 - 15) as usize;

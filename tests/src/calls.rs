@@ -13,7 +13,7 @@ use crate::reference::sender;
 use crate::reference::session;
 use crate::table;
 
-/// "The block": building one and reading one.
+/// "The block".
 pub trait Blocks {
     /// 0 or the refusal's number.
     fn build_block(&self, k: usize, service: u8, payload: &[u8], block: &mut [u8]) -> u8;
@@ -40,7 +40,7 @@ pub trait SendingEnd {
     /// 0 or the refusal's number.
     fn open_sender(&self, opening: Opening, order: &[u8], state: &mut [u8]) -> u8;
 
-    /// The word of the block that goes out, or the refusal's number.
+    /// The answer's word, or the refusal's number.
     fn send(&self, state: &mut [u8], order: &[u8], reading: bool, block: &mut [u8]) -> u32;
 
     /// Whether the sender goes on, is finished or gave up, or the refusal's number.
@@ -152,8 +152,8 @@ impl RunProgram for Reference {
     }
 }
 
-/// The table-driven sibling, which is compared too: a fast wrong answer measures nothing. What it
-/// does not have of its own, and the benchmark does not measure, is the second implementation's.
+/// The table-driven sibling, which is compared too: the speed of a wrong answer is worth nothing.
+/// What it lacks, and the benchmark does not measure, is the second implementation's.
 pub struct TableDriven;
 
 impl LoopTimes for TableDriven {

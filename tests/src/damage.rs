@@ -30,7 +30,7 @@ pub enum Damage {
 }
 
 /// The kinds that demand 3 admits.
-pub const ADMITTED: [Damage; 5] = [
+pub const ADMITTED_KINDS: [Damage; 5] = [
     Damage::Nothing,
     Damage::FirstBit,
     Damage::OneBit,
@@ -39,7 +39,7 @@ pub const ADMITTED: [Damage; 5] = [
 ];
 
 /// Kinds beyond those of demand 3, though a pattern of theirs may happen to be admitted.
-pub const FURTHER: [Damage; 4] = [
+pub const OTHER_KINDS: [Damage; 4] = [
     Damage::LongBurst,
     Damage::TwoBits,
     Damage::Undetected,
@@ -51,8 +51,8 @@ impl Damage {
     pub fn pattern(self, rng: &mut Rng, n: usize) -> Bits {
         match self {
             Damage::Nothing => vec![false; n],
-            Damage::FirstBit => single(n, 0),
-            Damage::OneBit => single(n, rng.below(n)),
+            Damage::FirstBit => single_bit(n, 0),
+            Damage::OneBit => single_bit(n, rng.below(n)),
             Damage::OddBits => odd_bits(rng, n),
             Damage::Burst => {
                 let width = rng.between(2, ADMITTED_SPAN);
@@ -93,14 +93,14 @@ pub fn invert(bits: &mut [bool], pattern: &[bool]) {
     }
 }
 
-fn single(n: usize, place: usize) -> Bits {
+fn single_bit(n: usize, place: usize) -> Bits {
     let mut pattern = vec![false; n];
     pattern[place] = true;
     pattern
 }
 
 fn two_bits(rng: &mut Rng, n: usize) -> Bits {
-    let mut pattern = single(n, rng.below(n));
+    let mut pattern = single_bit(n, rng.below(n));
     let place = rng.below(n);
     pattern[place] ^= true;
     pattern
@@ -150,7 +150,7 @@ mod tests {
     #[test]
     fn the_admitted_kinds_are_admitted_and_found() {
         let mut rng = Rng::new(2);
-        for damage in ADMITTED {
+        for damage in ADMITTED_KINDS {
             for _ in 0..500 {
                 let pattern = damage.pattern(&mut rng, 260);
                 assert!(is_admitted(&pattern), "{damage:?}");

@@ -1,6 +1,6 @@
 //! Demand 3 along one list of calls: what it supposes of the line, and what it then claims.
 //!
-//! The list is told call by call. While every supposition has held so far, every claim is checked
+//! The list is given call by call. While every supposition has held so far, every claim is checked
 //! after each call; from the first one that breaks, nothing is claimed.
 
 use crate::damage::{invert, is_admitted};
@@ -27,7 +27,7 @@ pub enum Supposition {
     GoodBlock,
 }
 
-/// A claim that does not hold, in the words of demand 3.
+/// A claim that does not hold, as demand 3 states it.
 pub type Failure = String;
 
 /// A sending call; `block` and `arrives` are empty if it is refused.
@@ -63,8 +63,8 @@ struct Period {
     in_step: bool,
     passes: bool,
     used: usize,
-    /// A new block or the end.
-    news: bool,
+    /// It brought a new block or the end.
+    progress: bool,
 }
 
 /// A list of calls so far.
@@ -72,20 +72,20 @@ pub struct Delivery {
     k: usize,
     length: usize,
     /// The order with its zero filling.
-    filled: Vec<u8>,
+    filled_order: Vec<u8>,
     /// The store as first lent.
-    first: Vec<u8>,
+    initial_store: Vec<u8>,
     /// r: the number of *accepted* in the list.
     accepted: usize,
     ended: bool,
     alarmed: bool,
     finished: bool,
     gave_up: bool,
-    lost: usize,
+    lost_requests: usize,
     /// Whether a good block was read since the last loss.
     good_since_loss: bool,
     /// Undisturbed periods in a row that brought neither a new block nor the end.
-    waiting: usize,
+    without_progress: usize,
     period: Option<Period>,
     broken: Option<Supposition>,
 }
@@ -93,23 +93,26 @@ pub struct Delivery {
 impl Delivery {
     /// Both ends have just been opened, with the same k.
     pub fn new(k: usize, length: usize, order: &[u8], store: &[u8]) -> Delivery {
-        let filled: Bits = (0..items(k, length))
+        let filled_order: Bits = (0..items(k, length))
             .flat_map(|item| item_payload(k, length, order, item))
             .collect();
-        assert!(8 * store.len() >= filled.len(), "a store of N times k bits");
+        assert!(
+            8 * store.len() >= filled_order.len(),
+            "a store of N times k bits"
+        );
         Delivery {
             k,
             length,
-            filled: pack(&filled),
-            first: store.to_vec(),
+            filled_order: pack(&filled_order),
+            initial_store: store.to_vec(),
             accepted: 0,
             ended: false,
             alarmed: false,
             finished: false,
             gave_up: false,
-            lost: 0,
+            lost_requests: 0,
             good_since_loss: false,
-            waiting: 0,
+            without_progress: 0,
             period: None,
             broken: None,
         }
@@ -121,8 +124,8 @@ impl Delivery {
     }
 
     /// The number of lost requests.
-    pub fn lost(&self) -> usize {
-        self.lost
+    pub fn lost_requests(&self) -> usize {
+        self.lost_requests
     }
 
     /// Whether the end was reported.
@@ -130,7 +133,7 @@ impl Delivery {
         self.ended
     }
 
-    pub fn sent(&mut self, call: &Sending) -> Result<(), Failure> {
+    pub fn after_sending(&mut self, call: &Sending) -> Result<(), Failure> {
         if self.broken.is_some() {
             return Ok(());
         }
@@ -144,7 +147,7 @@ impl Delivery {
         self.finished |= call.after.finished;
         self.gave_up |= call.after.gave_up();
         claim(
-            self.broken.is_some() || self.lost > 0 || !self.finished || self.ended,
+            self.broken.is_some() || self.lost_requests > 0 || !self.finished || self.ended,
             "none lost: a finished sender means the machine reported the end",
         )
     }
@@ -152,13 +155,13 @@ impl Delivery {
     /// Also holds of every list: refused only at rest or for a short slice.
     fn refused_sending(&self, call: &Sending, number: u8) -> Result<(), Failure> {
         let short = 8 * call.order_bytes < self.length || call.block_bytes < block_bytes(self.k);
-        let right = match number {
+        let allowed = match number {
             REST => call.before.rests(),
             SHORT => short,
             _ => false,
         };
         claim(
-            right,
+            allowed,
             "a sending call is refused at rest or for a short slice",
         )
     }
@@ -172,10 +175,10 @@ impl Delivery {
         };
         let lost = used && !call.reading && call.receiver.return_bit;
         if lost {
-            let bare = self.lost > 0 && !self.good_since_loss;
-            self.lost += 1;
+            let no_good_block = self.lost_requests > 0 && !self.good_since_loss;
+            self.lost_requests += 1;
             self.good_since_loss = false;
-            if bare && !self.alarmed {
+            if no_good_block && !self.alarmed {
                 return Some(Supposition::GoodBlock);
             }
         }
@@ -198,17 +201,17 @@ impl Delivery {
             in_step: !call.receiver.search && call.receiver.alarm.is_none(),
             passes: passes(call.arrives),
             used: 0,
-            news: false,
+            progress: false,
         }
     }
 
-    pub fn received(&mut self, call: &Receiving) -> Result<(), Failure> {
+    pub fn after_receiving(&mut self, call: &Receiving) -> Result<(), Failure> {
         if self.broken.is_some() {
             return Ok(());
         }
         match call.received {
             Received::Refused(number) => self.refused_receiving(call, number),
-            Received::Heard { event, used } => {
+            Received::Reported { event, used } => {
                 self.use_bits(event, used);
                 if self.broken.is_some() {
                     return Ok(());
@@ -239,20 +242,24 @@ impl Delivery {
         period.used += used;
         let last = period.used == n;
         let read = used > 0 && period.in_step && last;
-        period.news |= matches!(event, Event::Accepted | Event::Ended(_));
+        period.progress |= matches!(event, Event::Accepted | Event::Ended(_));
         if event == Event::Sync && !(period.synchronising && last) {
             self.broken = Some(Supposition::OnlySynchronising);
         }
-        let quiet = matches!(event, Event::None | Event::Sync | Event::Bad);
-        if period.synchronising && !quiet && !self.alarmed {
+        let as_data_or_end = !matches!(event, Event::None | Event::Sync | Event::Bad);
+        if period.synchronising && as_data_or_end && !self.alarmed {
             self.broken = Some(Supposition::NeverData);
         }
         if read && !period.synchronising && period.passes {
             self.good_since_loss = true;
         }
         if used > 0 && last {
-            let waits = period.undisturbed && !period.news;
-            self.waiting = if waits { self.waiting + 1 } else { 0 };
+            let without_progress = period.undisturbed && !period.progress;
+            self.without_progress = if without_progress {
+                self.without_progress + 1
+            } else {
+                0
+            };
         }
     }
 
@@ -267,7 +274,10 @@ impl Delivery {
             }
             Event::SequenceAlarm | Event::LengthAlarm => {
                 self.alarmed = true;
-                claim(self.lost > 0, "an alarm only if a request was lost")?;
+                claim(
+                    self.lost_requests > 0,
+                    "an alarm only if a request was lost",
+                )?;
             }
             _ => {}
         }
@@ -277,27 +287,27 @@ impl Delivery {
     fn claim_store(&self, store: &[u8]) -> Result<(), Failure> {
         let taken = self.accepted * self.k / 8;
         claim(
-            taken <= self.filled.len() && store[..taken] == self.filled[..taken],
+            taken <= self.filled_order.len() && store[..taken] == self.filled_order[..taken],
             "the store holds the beginning of the order",
         )?;
         claim(
-            store[taken..] == self.first[taken..],
+            store[taken..] == self.initial_store[taken..],
             "the rest of the store is as first lent",
         )
     }
 
     fn claim_progress(&self) -> Result<(), Failure> {
         claim(
-            self.lost > 0 || self.gave_up || self.ended || self.waiting < 6,
+            self.lost_requests > 0 || self.gave_up || self.ended || self.without_progress < 6,
             "six undisturbed periods bring a new block or the end",
         )
     }
 }
 
-fn claim(holds: bool, words: &str) -> Result<(), Failure> {
+fn claim(holds: bool, statement: &str) -> Result<(), Failure> {
     match holds {
         true => Ok(()),
-        false => Err(format!("demand 3 fails: {words}")),
+        false => Err(format!("demand 3 fails: {statement}")),
     }
 }
 

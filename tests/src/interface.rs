@@ -2,14 +2,14 @@
 //! numbers. The layouts and the numbers are those that `include/order_line.h` gives.
 
 use crate::reference::block::Read;
-use crate::reference::receiver::{Alarm, Event, Received, Receiver, HOLD_BYTES};
+use crate::reference::receiver::{Alarm, Event, Received, Receiver, HELD_BYTES};
 use crate::reference::refusal::{Refusal, SPOILED};
 use crate::reference::sender::{Next, Sender, Sent};
 
 /// Both layouts begin with three numbers of four bytes, the lowest first, and four bytes.
 const HEAD_BYTES: usize = 16;
 pub const SENDER_BYTES: usize = HEAD_BYTES;
-pub const RECEIVER_BYTES: usize = HEAD_BYTES + HOLD_BYTES;
+pub const RECEIVER_BYTES: usize = HEAD_BYTES + HELD_BYTES;
 
 /// What `sender_rest` answers besides 7.
 pub const GOING_ON: u8 = 0;
@@ -26,7 +26,7 @@ const EVENT_SEQUENCE_ALARM: u8 = 69;
 const EVENT_LENGTH_ALARM: u8 = 70;
 const EVENT_ENDED: u8 = 71;
 
-/// Answers of reading a block; a passed one has its service bits added.
+/// Answers of `read_block`; a passed one has its service bits added.
 const PASSED: u16 = 0x100;
 const FAILED: u16 = 0x200;
 
@@ -40,15 +40,24 @@ const NUMBER_SHIFT: u32 = 16;
 
 const NEXT: [Next; 3] = [Next::Synchronising, Next::Older, Next::Newer];
 
-fn load_word(bytes: &[u8], at: usize) -> usize {
-    let mut four = [0; 4];
-    four.copy_from_slice(&bytes[at..at + 4]);
-    u32::from_le_bytes(four) as usize
+/// The three numbers at the beginning of a layout.
+fn load_words(bytes: &[u8]) -> [usize; 3] {
+    [0, 4, 8].map(|at| {
+        let mut four = [0; 4];
+        four.copy_from_slice(&bytes[at..at + 4]);
+        u32::from_le_bytes(four) as usize
+    })
 }
 
 /// Writes the lowest four bytes of a number.
 pub fn store_word(bytes: &mut [u8], at: usize, number: usize) {
     bytes[at..at + 4].copy_from_slice(&(number as u32).to_le_bytes());
+}
+
+fn store_words(bytes: &mut [u8], numbers: [usize; 3]) {
+    for (at, number) in [0, 4, 8].into_iter().zip(numbers) {
+        store_word(bytes, at, number);
+    }
 }
 
 fn load_flag(byte: u8) -> Option<bool> {
@@ -59,14 +68,15 @@ fn load_flag(byte: u8) -> Option<bool> {
     }
 }
 
-/// k, L, newer; run, opening, next, finished. `None` if the bytes hold no sender.
+/// k, L, newer; cancel run, opening, next, finished. `None` if the bytes hold no sender.
 pub fn load_sender(bytes: &[u8]) -> Option<Sender> {
     let bytes = bytes.get(..SENDER_BYTES)?;
+    let [k, length, newer] = load_words(bytes);
     Some(Sender {
-        k: load_word(bytes, 0),
-        length: load_word(bytes, 4),
-        newer: load_word(bytes, 8),
-        run: usize::from(bytes[12]),
+        k,
+        length,
+        newer,
+        cancel_run: usize::from(bytes[12]),
         opening: load_flag(bytes[13])?,
         next: *NEXT.get(usize::from(bytes[14]))?,
         finished: load_flag(bytes[15])?,
@@ -74,10 +84,8 @@ pub fn load_sender(bytes: &[u8]) -> Option<Sender> {
 }
 
 pub fn store_sender(sender: &Sender, bytes: &mut [u8]) {
-    store_word(bytes, 0, sender.k);
-    store_word(bytes, 4, sender.length);
-    store_word(bytes, 8, sender.newer);
-    bytes[12] = sender.run as u8;
+    store_words(bytes, [sender.k, sender.length, sender.newer]);
+    bytes[12] = sender.cancel_run as u8;
     bytes[13] = u8::from(sender.opening);
     bytes[14] = match sender.next {
         Next::Synchronising => 0,
@@ -87,7 +95,7 @@ pub fn store_sender(sender: &Sender, bytes: &mut [u8]) {
     bytes[15] = u8::from(sender.finished);
 }
 
-/// k, held, taken; row, return bit, end taken, phase; the array. `None` if the bytes hold no
+/// k, held, taken; bad row, return bit, end taken, phase; the array. `None` if the bytes hold no
 /// receiver.
 pub fn load_receiver(bytes: &[u8]) -> Option<Receiver> {
     let bytes = bytes.get(..RECEIVER_BYTES)?;
@@ -98,13 +106,14 @@ pub fn load_receiver(bytes: &[u8]) -> Option<Receiver> {
         3 => (false, Some(Alarm::Length)),
         _ => return None,
     };
-    let mut array = [0; HOLD_BYTES];
+    let mut array = [0; HELD_BYTES];
     array.copy_from_slice(&bytes[HEAD_BYTES..]);
+    let [k, held, taken] = load_words(bytes);
     Some(Receiver {
-        k: load_word(bytes, 0),
-        held: load_word(bytes, 4),
-        taken: load_word(bytes, 8),
-        row: usize::from(bytes[12]),
+        k,
+        held,
+        taken,
+        bad_row: usize::from(bytes[12]),
         return_bit: load_flag(bytes[13])?,
         end_taken: load_flag(bytes[14])?,
         search,
@@ -114,10 +123,8 @@ pub fn load_receiver(bytes: &[u8]) -> Option<Receiver> {
 }
 
 pub fn store_receiver(receiver: &Receiver, bytes: &mut [u8]) {
-    store_word(bytes, 0, receiver.k);
-    store_word(bytes, 4, receiver.held);
-    store_word(bytes, 8, receiver.taken);
-    bytes[12] = receiver.row as u8;
+    store_words(bytes, [receiver.k, receiver.held, receiver.taken]);
+    bytes[12] = receiver.bad_row as u8;
     bytes[13] = u8::from(receiver.return_bit);
     bytes[14] = u8::from(receiver.end_taken);
     bytes[15] = match (receiver.alarm, receiver.search) {
@@ -129,19 +136,19 @@ pub fn store_receiver(receiver: &Receiver, bytes: &mut [u8]) {
     bytes[HEAD_BYTES..RECEIVER_BYTES].copy_from_slice(&receiver.array);
 }
 
-/// What the answer of reading a block says.
+/// What an answer of `read_block` says.
 #[inline]
-pub fn read(number: u16) -> Read {
+pub fn decode_read(number: u16) -> Read {
     match number {
         ..PASSED => Read::Refused(number as Refusal),
         PASSED..FAILED => Read::Passed((number - PASSED) as u8),
         FAILED => Read::Failed,
-        _ => panic!("{number:x} is no answer of reading a block"),
+        _ => panic!("{number:x} is no answer of read_block"),
     }
 }
 
 /// The answer of a sending call.
-pub fn sent_word(sent: Sent) -> u32 {
+pub fn encode_sent(sent: Sent) -> u32 {
     let mark = |set, value| if set { value } else { 0 };
     match sent {
         Sent::Refused(number) => u32::from(number),
@@ -159,7 +166,7 @@ pub fn sent_word(sent: Sent) -> u32 {
 }
 
 /// What a sending call's answer says.
-pub fn sent(word: u32) -> Sent {
+pub fn decode_sent(word: u32) -> Sent {
     if word & SENT == 0 {
         return Sent::Refused(word as Refusal);
     }
@@ -174,7 +181,7 @@ pub fn sent(word: u32) -> Sent {
     }
 }
 
-/// An event's number; *ended* is told with its L besides.
+/// An event's number; the L of *ended* is written beside it.
 fn event_number(event: Event) -> u8 {
     match event {
         Event::None => EVENT_NONE,
@@ -203,7 +210,7 @@ pub struct Counts {
 }
 
 /// What a receiving call's answer and counts say.
-pub fn received(number: u8, counts: Counts) -> Received {
+pub fn decode_received(number: u8, counts: Counts) -> Received {
     let event = match number {
         EVENT_NONE => Event::None,
         EVENT_SYNC => Event::Sync,
@@ -216,7 +223,7 @@ pub fn received(number: u8, counts: Counts) -> Received {
         refusal => return Received::Refused(refusal),
     };
     let used = counts.used;
-    Received::Heard { event, used }
+    Received::Reported { event, used }
 }
 
 /// A sending call on the bytes of a state.
@@ -228,7 +235,7 @@ pub fn send(state: &mut [u8], step: impl FnOnce(Sender) -> (Sender, Sent)) -> u3
     if !matches!(sent, Sent::Refused(_)) {
         store_sender(&sender, state);
     }
-    sent_word(sent)
+    encode_sent(sent)
 }
 
 /// A receiving call on the bytes of a state.
@@ -243,7 +250,7 @@ pub fn receive(
     let (receiver, received) = step(receiver);
     let (event, used) = match received {
         Received::Refused(number) => return number,
-        Received::Heard { event, used } => (event, used),
+        Received::Reported { event, used } => (event, used),
     };
     store_receiver(&receiver, state);
     counts.used = used;
@@ -266,22 +273,23 @@ mod tests {
             for byte in &mut bytes[13..HEAD_BYTES] {
                 *byte = rng.below(5) as u8;
             }
-            let mut back = vec![0xEE; RECEIVER_BYTES];
-            let held = load_sender(&bytes).map(|sender| store_sender(&sender, &mut back));
+            let mut stored = vec![0xEE; RECEIVER_BYTES];
+            let loaded = load_sender(&bytes).map(|sender| store_sender(&sender, &mut stored));
             let in_range = bytes[13] < 2 && bytes[14] < 3 && bytes[15] < 2;
-            assert_eq!(held.is_some(), in_range);
-            assert!(held.is_none() || back[..SENDER_BYTES] == bytes[..SENDER_BYTES]);
-            let held = load_receiver(&bytes).map(|receiver| store_receiver(&receiver, &mut back));
+            assert_eq!(loaded.is_some(), in_range);
+            assert!(loaded.is_none() || stored[..SENDER_BYTES] == bytes[..SENDER_BYTES]);
+            let loaded =
+                load_receiver(&bytes).map(|receiver| store_receiver(&receiver, &mut stored));
             let in_range = bytes[13] < 2 && bytes[14] < 2 && bytes[15] < 4;
-            assert_eq!(held.is_some(), in_range);
-            assert!(held.is_none() || back == bytes);
+            assert_eq!(loaded.is_some(), in_range);
+            assert!(loaded.is_none() || stored == bytes);
             assert_eq!(load_sender(&bytes[..SENDER_BYTES - 1]), None);
             assert_eq!(load_receiver(&bytes[..RECEIVER_BYTES - 1]), None);
         }
     }
 
     #[test]
-    fn answers_are_read_as_they_were_meant() {
+    fn answers_are_decoded_as_they_were_encoded() {
         let item = |item, marks: usize| Sent::Item {
             item,
             end: marks & 1 == 1,
@@ -290,11 +298,11 @@ mod tests {
         };
         let items = (0..8).flat_map(|marks| [item(0, marks), item(1094, marks)]);
         for answer in items.chain([Sent::Synchronising, Sent::Refused(8)]) {
-            assert_eq!(sent(sent_word(answer)), answer);
+            assert_eq!(decode_sent(encode_sent(answer)), answer);
         }
         for number in EVENT_NONE..=EVENT_ENDED {
             let counts = Counts { used: 5, length: 9 };
-            let Received::Heard { event, used: 5 } = received(number, counts) else {
+            let Received::Reported { event, used: 5 } = decode_received(number, counts) else {
                 panic!("{number}");
             };
             assert_eq!(event_number(event), number);

@@ -48,7 +48,7 @@ impl Blocks for Library {
                 payload.len(),
             )
         };
-        interface::read(number)
+        interface::decode_read(number)
     }
 }
 

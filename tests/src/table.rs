@@ -10,6 +10,13 @@ const BLOCK: u8 = 1;
 const SHORT: u8 = 6;
 const SPOILED: u8 = 7;
 
+/// The service bits of items 0, 1 and 2, and so on in threes, and of an end block.
+const LETTERS: [u8; 3] = [0b0011, 0b1001, 0b1100];
+const END: u8 = 0b1000;
+/// The version of an end block, and the longest order in bits.
+const VERSION: u8 = 1;
+const LONGEST: usize = 262_144;
+
 /// For each byte, the remainder of that byte times x to the 16th.
 static TABLE: [u16; 256] = table();
 
@@ -31,7 +38,7 @@ const fn table() -> [u16; 256] {
 }
 
 #[inline]
-fn feed(register: u16, byte: u8) -> u16 {
+fn update_register(register: u16, byte: u8) -> u16 {
     register << 8 ^ TABLE[usize::from((register >> 8) as u8 ^ byte)]
 }
 
@@ -54,11 +61,11 @@ pub fn build_block(k: usize, service: u8, payload: &[u8], block: &mut [u8]) -> R
         return Err(SHORT);
     }
     let (payload, block) = (&payload[..bytes], &mut block[..bytes + 3]);
-    let mut register = feed(0, service);
+    let mut register = update_register(0, service);
     let mut last = service;
     for (out, &byte) in block.iter_mut().zip(payload) {
         *out = last << 4 | byte >> 4;
-        register = feed(register, byte);
+        register = update_register(register, byte);
         last = byte;
     }
     block[bytes] = last << 4 | (register >> 12) as u8;
@@ -78,7 +85,7 @@ pub fn read_block(k: usize, block: &[u8], payload: &mut [u8]) -> Read {
         return Read::Refused(SHORT);
     }
     let block = &block[..bytes + 3];
-    if register(block) != check_word(block) {
+    if register(block) != check_bits(block) {
         return Read::Failed;
     }
     copy_payload(block, &mut payload[..bytes]);
@@ -89,16 +96,16 @@ pub fn read_block(k: usize, block: &[u8], payload: &mut [u8]) -> Read {
 #[inline]
 fn register(block: &[u8]) -> u16 {
     let message = &block[..block.len() - 2];
-    let mut register = feed(0, message[0] >> 4);
+    let mut register = update_register(0, message[0] >> 4);
     for pair in message.windows(2) {
-        register = feed(register, pair[0] << 4 | pair[1] >> 4);
+        register = update_register(register, pair[0] << 4 | pair[1] >> 4);
     }
     register
 }
 
 /// The last sixteen bits of a packed block, before its spare ones.
 #[inline]
-fn check_word(block: &[u8]) -> u16 {
+fn check_bits(block: &[u8]) -> u16 {
     let tail = &block[block.len() - 3..];
     u16::from(tail[0]) << 12 | u16::from(tail[1]) << 4 | u16::from(tail[2]) >> 4
 }

@@ -1,16 +1,17 @@
 //! Measures the linked library against the table-driven sibling and the second implementation.
 //!
-//! Those that are compared run in turn in the same rounds, on the same buffers, which nobody
-//! clears between calls. The ratios of the medians are what the figures are for; nanoseconds of
-//! one call stand beside them. The library's states stand in lent bytes, and the other two take
-//! a state by value and hand it back; last, the sibling's receiving end in place.
+//! Those that are compared run in turn in the same rounds, on the same buffers, which are not
+//! cleared between calls. The result is the ratios of the medians; nanoseconds of one call are
+//! printed beside them. The library's states are in lent bytes, and the other two take a state by
+//! value and hand it back; last, the sibling's receiving end in place.
 //!
-//! `bench count CALL K WHO PASSES` makes the calls of one alone, so often, for callgrind to count:
-//! CALL is build, read, send or a number of bits received a call, WHO 0, 1 or 2 in that order, or
-//! 3 for receiving by the table-driven sibling in place. It prints the number of calls of a pass.
+//! `bench count CALL K IMPLEMENTATION PASSES` makes this many passes of one implementation alone,
+//! for callgrind to count: CALL is build, read, send or a number of bits received a call,
+//! IMPLEMENTATION 0, 1 or 2 in that order, or 3 for receiving by the table-driven sibling in place.
+//! It prints the number of calls of a pass.
 
 use order_line_tests::calls::{Blocks, Line, ReceivingEnd, Reference, SendingEnd, TableDriven};
-use order_line_tests::interface::{is_event, sent, store_receiver, store_sender, Counts};
+use order_line_tests::interface::{decode_sent, is_event, store_receiver, store_sender, Counts};
 use order_line_tests::interface::{RECEIVER_BYTES, SENDER_BYTES};
 use order_line_tests::link::Library;
 use order_line_tests::reference::bits::{pack, unpack};
@@ -33,8 +34,8 @@ const RECEIVING: [(&str, usize); 3] = [
     ("receive 64 bits", 64),
     ("receive 1 bit", 1),
 ];
-/// Least time of one round of one implementation.
-const ROUND: Duration = Duration::from_micros(400);
+/// The least time of one round of one implementation.
+const ROUND_TIME: Duration = Duration::from_micros(400);
 
 /// An order of more items than a pass sends, the packed blocks of its first items, and a place to
 /// write to.
@@ -81,8 +82,8 @@ impl Buffers {
         }
     }
 
-    /// Sends the order's items from item 1 on, each reading a 0 that is used.
-    fn send<S: Sends>(&mut self, tested: &S) {
+    /// Sends the order's items from item 1 on, each with a reading of 0 that is used.
+    fn send<S: BenchSender>(&mut self, tested: &S) {
         let length = 8 * self.order.len();
         let opened = sender::open(self.k, 200, 0, length, &self.order);
         let mut state = tested.state(Sender {
@@ -96,7 +97,7 @@ impl Buffers {
     }
 
     /// Receives the blocks in step; each is accepted.
-    fn receive<R: Receives>(&mut self, tested: &R, lines: &Lines) {
+    fn receive<R: BenchReceiver>(&mut self, tested: &R, lines: &Lines) {
         let n = block_bits(self.k);
         let mut state = tested.state(Receiver {
             search: false,
@@ -150,14 +151,14 @@ impl Lines {
 }
 
 /// A sending end with its state as it keeps it.
-trait Sends {
+trait BenchSender {
     type State;
     fn state(&self, sender: Sender) -> Self::State;
     /// A call with reading 0; whether an item was sent.
     fn send(&self, state: &mut Self::State, order: &[u8], block: &mut [u8]) -> bool;
 }
 
-impl Sends for Library {
+impl BenchSender for Library {
     type State = [u8; SENDER_BYTES];
 
     fn state(&self, sender: Sender) -> Self::State {
@@ -168,11 +169,11 @@ impl Sends for Library {
 
     fn send(&self, state: &mut Self::State, order: &[u8], block: &mut [u8]) -> bool {
         let word = SendingEnd::send(self, state, order, black_box(false), block);
-        matches!(sent(word), Sent::Item { .. })
+        matches!(decode_sent(word), Sent::Item { .. })
     }
 }
 
-impl Sends for TableDriven {
+impl BenchSender for TableDriven {
     type State = Sender;
 
     fn state(&self, sender: Sender) -> Sender {
@@ -186,7 +187,7 @@ impl Sends for TableDriven {
     }
 }
 
-impl Sends for Reference {
+impl BenchSender for Reference {
     type State = Sender;
 
     fn state(&self, sender: Sender) -> Sender {
@@ -201,7 +202,7 @@ impl Sends for Reference {
 }
 
 /// A receiving end with its state as it keeps it.
-trait Receives {
+trait BenchReceiver {
     type State;
     fn state(&self, receiver: Receiver) -> Self::State;
     /// The number of bits used.
@@ -210,12 +211,12 @@ trait Receives {
 
 fn used(received: Received) -> usize {
     match received {
-        Received::Heard { used, .. } => used,
+        Received::Reported { used, .. } => used,
         Received::Refused(number) => panic!("refused {number}"),
     }
 }
 
-impl Receives for Library {
+impl BenchReceiver for Library {
     type State = [u8; RECEIVER_BYTES];
 
     fn state(&self, receiver: Receiver) -> Self::State {
@@ -232,7 +233,7 @@ impl Receives for Library {
     }
 }
 
-impl Receives for TableDriven {
+impl BenchReceiver for TableDriven {
     type State = table::receiver::Receiver;
 
     fn state(&self, receiver: Receiver) -> Self::State {
@@ -246,7 +247,7 @@ impl Receives for TableDriven {
     }
 }
 
-impl Receives for InPlace {
+impl BenchReceiver for InPlace {
     type State = table::receiver::Receiver;
 
     fn state(&self, receiver: Receiver) -> Self::State {
@@ -258,7 +259,7 @@ impl Receives for InPlace {
     }
 }
 
-impl Receives for Reference {
+impl BenchReceiver for Reference {
     type State = Receiver;
 
     fn state(&self, receiver: Receiver) -> Receiver {
@@ -272,14 +273,14 @@ impl Receives for Reference {
     }
 }
 
-/// The table-driven sibling with its state where it stands, as the library has it.
+/// The table-driven sibling with its state changed in place, as the library's is.
 struct InPlace;
 
 /// One implementation's calls on the buffers.
 type Pass<'a> = &'a dyn Fn(&mut Buffers);
 
 /// A pass of the library, the table-driven sibling and the second implementation.
-macro_rules! three {
+macro_rules! each_implementation {
     ($pass:ident $(, $argument:expr)?) => {
         [
             &|b: &mut Buffers| b.$pass(&Library $(, $argument)?),
@@ -291,31 +292,33 @@ macro_rules! three {
 
 fn main() {
     let arguments: Vec<String> = env::args().skip(1).collect();
-    let words: Vec<&str> = arguments.iter().map(String::as_str).collect();
-    match words[..] {
+    let arguments: Vec<&str> = arguments.iter().map(String::as_str).collect();
+    match arguments[..] {
         [] => measure_all(),
-        ["count", call, k, who, passes] => count(call, number(k), number(who), number(passes)),
-        _ => panic!("usage: bench [count CALL K WHO PASSES]"),
+        ["count", call, k, implementation, passes] => {
+            count(call, number(k), number(implementation), number(passes))
+        }
+        _ => panic!("usage: bench [count CALL K IMPLEMENTATION PASSES]"),
     }
 }
 
-fn number(word: &str) -> usize {
-    word.parse().expect("a number")
+fn number(argument: &str) -> usize {
+    argument.parse().expect("a number")
 }
 
-fn count(call: &str, k: usize, who: usize, passes: usize) {
+fn count(call: &str, k: usize, implementation: usize, passes: usize) {
     let mut buffers = Buffers::new(&mut Rng::new(41), k);
     let most = call.parse().unwrap_or(usize::MAX);
     let lines = Lines::new(&buffers, most.min(block_bits(k)));
     let in_place: Pass = &|b| b.receive(&InPlace, &lines);
     let implementations: [Pass; 3] = match call {
-        "build" => three!(build),
-        "read" => three!(read),
-        "send" => three!(send),
-        _ => three!(receive, &lines),
+        "build" => each_implementation!(build),
+        "read" => each_implementation!(read),
+        "send" => each_implementation!(send),
+        _ => each_implementation!(receive, &lines),
     };
     for _ in 0..passes {
-        implementations.get(who).unwrap_or(&in_place)(&mut buffers);
+        implementations.get(implementation).unwrap_or(&in_place)(&mut buffers);
     }
     println!(
         "{}",
@@ -334,18 +337,23 @@ fn measure_all() {
     let mut rng = Rng::new(41);
     let mut lengths = LENGTHS.map(|k| Buffers::new(&mut rng, k));
     for buffers in &mut lengths {
-        measure(buffers, "build", BUFFERS, three!(build));
+        measure(buffers, "build", BUFFERS, each_implementation!(build));
     }
     for buffers in &mut lengths {
-        measure(buffers, "read", BUFFERS, three!(read));
+        measure(buffers, "read", BUFFERS, each_implementation!(read));
     }
     for buffers in &mut lengths {
-        measure(buffers, "send", BUFFERS, three!(send));
+        measure(buffers, "send", BUFFERS, each_implementation!(send));
     }
     for (call, most) in RECEIVING {
         for buffers in &mut lengths {
             let lines = Lines::new(buffers, most.min(block_bits(buffers.k)));
-            measure(buffers, call, lines.calls(), three!(receive, &lines));
+            measure(
+                buffers,
+                call,
+                lines.calls(),
+                each_implementation!(receive, &lines),
+            );
             let payloads = &buffers.order[..buffers.store.len()];
             assert_eq!(buffers.store, payloads, "what was received");
         }
@@ -410,7 +418,7 @@ fn repeats(buffers: &mut Buffers, pass: Pass) -> usize {
         for _ in 0..repeats {
             pass(buffers);
         }
-        if start.elapsed() >= ROUND {
+        if start.elapsed() >= ROUND_TIME {
             return repeats;
         }
         repeats *= 2;

@@ -38,8 +38,8 @@ const GROUPS: [Group; 5] = [
 
 fn main() -> ExitCode {
     let arguments: Vec<String> = env::args().skip(1).collect();
-    let words: Vec<&str> = arguments.iter().map(String::as_str).collect();
-    let result = match words[..] {
+    let arguments: Vec<&str> = arguments.iter().map(String::as_str).collect();
+    let result = match arguments[..] {
         [] => run_groups(|_| true),
         ["program", path] => run_program(path),
         ["blocks", file] => write_blocks(file),

@@ -1,9 +1,9 @@
 //! Cases out of arbitrary bytes, for a fuzzer: the first byte picks the call, the others give its
-//! arguments, and calls on a state go on while bytes are left and the state is no reason to refuse.
+//! arguments, and calls on a state follow while bytes are left and the state is not refused.
 
-use super::lockstep::{Lockstep, Twin};
-use super::sender::refused_word;
-use super::{block, loop_time, Difference, Lent, Tally};
+use super::lockstep::{BufferPair, Lockstep};
+use super::sender::refusal_name;
+use super::{block, loop_time, Difference, GuardedBuffer, Tally};
 use crate::calls::{Blocks, LoopTimes, Opening, ReceivingEnd, SendingEnd};
 use crate::damage::invert;
 use crate::interface::{store_receiver, store_sender, RECEIVER_BYTES, SENDER_BYTES};
@@ -12,7 +12,7 @@ use crate::reference::block::{assemble, block_bits, block_bytes, synchronising_b
 use crate::reference::block::{payload_bytes, CHECK_BITS, END, LENGTHS, SEQUENCE};
 use crate::reference::loop_time::{longest_loop, SPEEDS};
 use crate::reference::order::{end_payload, items, letter, LONGEST, MOST_ITEMS};
-use crate::reference::receiver::{Alarm, Received, Receiver, BAD_ROW, HOLD_BYTES};
+use crate::reference::receiver::{Alarm, Received, Receiver, BAD_ROW_LIMIT, HELD_BYTES};
 use crate::reference::refusal::{REST, SPOILED};
 use crate::reference::sender::{Next, Sender, Sent, GIVE_UP};
 use crate::rng::Rng;
@@ -32,20 +32,26 @@ where
     };
     match input.byte() % 8 {
         0 => {
-            let (k, speed, loop_ms) = input.line();
+            let (k, speed, loop_ms) = input.loop_arguments();
             loop_time::compare_loop(tested, k, speed, loop_ms, tally)
         }
         1 => {
             let (k, service) = (input.length(), input.byte());
-            let payload = input.lent(payload_bytes(wide(k)));
-            let place = Lent::around(&mut Rng::new(1), &input.lent(block_bytes(wide(k))));
+            let payload = input.lent(payload_bytes(bounded_length(k)));
+            let place = GuardedBuffer::around(
+                &mut Rng::new(1),
+                &input.lent(block_bytes(bounded_length(k))),
+            );
             block::compare_build(tested, k, service, &payload, place, tally)
         }
         2 => {
             let k = input.length();
-            let mut bytes = pack(&input.piece(k, 0));
-            bytes.resize(input.near(block_bytes(wide(k))), 0x55);
-            let place = Lent::around(&mut Rng::new(1), &input.lent(payload_bytes(wide(k))));
+            let mut bytes = pack(&input.line_bits(k, 0));
+            bytes.resize(input.near(block_bytes(bounded_length(k))), 0x55);
+            let place = GuardedBuffer::around(
+                &mut Rng::new(1),
+                &input.lent(payload_bytes(bounded_length(k))),
+            );
             block::compare_read(tested, k, &bytes, place, tally)
         }
         3 | 4 => send(&ends, &mut input, tally),
@@ -61,9 +67,9 @@ fn send<S: SendingEnd, R>(
 ) -> Result<(), Difference> {
     let (bytes, length) = input.sender();
     let order = input.pattern(length.min(LONGEST + 8).div_ceil(8));
-    let mut state = Twin::new(Lent::around(&mut Rng::new(2), &bytes));
+    let mut state = BufferPair::new(GuardedBuffer::around(&mut Rng::new(2), &bytes));
     if input.byte() % 2 == 0 {
-        let (k, speed, loop_ms) = input.line();
+        let (k, speed, loop_ms) = input.loop_arguments();
         let opening = Opening {
             k,
             speed,
@@ -78,10 +84,13 @@ fn send<S: SendingEnd, R>(
     }
     ends.sender_rest(&state)?;
     for _ in 0..CALLS {
-        let k = wide(number(state.slice(), 0));
+        let k = bounded_length(number(state.slice(), 0));
         let reading = input.byte() % 2 == 1;
         let lent = &order[..input.near(order.len()).min(order.len())];
-        let mut place = Twin::new(Lent::filled(input.byte(), input.near(block_bytes(k))));
+        let mut place = BufferPair::new(GuardedBuffer::filled(
+            input.byte(),
+            input.near(block_bytes(k)),
+        ));
         let sent = ends.send(&mut state, lent, reading, &mut place)?;
         tally.count(match sent {
             Sent::Synchronising => "sent synchronising",
@@ -90,7 +99,7 @@ fn send<S: SendingEnd, R>(
                 cancelled: true, ..
             } => "sent cancelled",
             Sent::Item { .. } => "sent item",
-            Sent::Refused(number) => refused_word(number),
+            Sent::Refused(number) => refusal_name(number),
         });
         if input.bytes.is_empty() || matches!(sent, Sent::Refused(SPOILED | REST)) {
             break;
@@ -106,7 +115,7 @@ fn receive<S, R: ReceivingEnd>(
     tally: &mut Tally,
 ) -> Result<(), Difference> {
     let bytes = input.receiver();
-    let mut state = Twin::new(Lent::around(&mut Rng::new(3), &bytes));
+    let mut state = BufferPair::new(GuardedBuffer::around(&mut Rng::new(3), &bytes));
     if input.byte() % 4 == 0 {
         let k = input.length();
         tally.count(match ends.open_receiver(k, &mut state)? {
@@ -115,31 +124,31 @@ fn receive<S, R: ReceivingEnd>(
         });
     }
     ends.return_bit(&state)?;
-    let mut coming = Bits::new();
+    let mut pending = Bits::new();
     for _ in 0..CALLS {
-        let k = wide(number(state.slice(), 0));
+        let k = bounded_length(number(state.slice(), 0));
         let taken = number(state.slice(), 8).min(MOST_ITEMS + 1);
         let whole = payload_bytes((taken + 1) * k);
-        if coming.is_empty() {
-            coming = input.piece(k, taken);
+        if pending.is_empty() {
+            pending = input.line_bits(k, taken);
         }
         let bits = match input.byte() {
             byte @ 0..=63 => usize::from(byte),
-            64..=127 => input.below(coming.len() + 2),
+            64..=127 => input.below(pending.len() + 2),
             255 => input.any(),
-            _ => coming.len(),
+            _ => pending.len(),
         };
-        let mut line = pack(&coming);
+        let mut line = pack(&pending);
         line.resize(input.near(line.len()), 0xA5);
         let lent = input.near(whole);
-        let mut store = Twin::new(Lent::filled(input.byte(), lent.max(whole)));
+        let mut store = BufferPair::new(GuardedBuffer::filled(input.byte(), lent.max(whole)));
         let received = ends.receive(&mut state, &line, bits, &mut store, lent)?;
         tally.count(match received {
-            Received::Heard { event, used } => {
-                coming.drain(..used.min(coming.len()));
-                event.word()
+            Received::Reported { event, used } => {
+                pending.drain(..used.min(pending.len()));
+                event.name()
             }
-            Received::Refused(number) => refused_word(number),
+            Received::Refused(number) => refusal_name(number),
         });
         if input.bytes.is_empty() || received == Received::Refused(SPOILED) {
             break;
@@ -155,7 +164,7 @@ fn number(state: &[u8], at: usize) -> usize {
 }
 
 /// A number of data bits for which a case can lend bytes.
-fn wide(k: usize) -> usize {
+fn bounded_length(k: usize) -> usize {
     k.min(LENGTHS[3])
 }
 
@@ -190,7 +199,7 @@ impl Input<'_> {
         self.word() as usize % bound
     }
 
-    /// Some bytes of the case, said over and over.
+    /// Some bytes of the case, repeated.
     fn pattern(&mut self, count: usize) -> Vec<u8> {
         let most = usize::from(self.byte()).min(self.bytes.len());
         let (pattern, rest) = self.bytes.split_at(most);
@@ -230,7 +239,7 @@ impl Input<'_> {
     }
 
     /// k, a speed and a loop, mostly near the longest.
-    fn line(&mut self) -> (usize, u32, u32) {
+    fn loop_arguments(&mut self) -> (usize, u32, u32) {
         let k = self.length();
         let speed = match self.byte() {
             byte @ 0..=239 => SPEEDS[usize::from(byte) % 6],
@@ -259,7 +268,7 @@ impl Input<'_> {
             k,
             length,
             newer: self.below(items(k.max(1), length) + 3),
-            run: usize::from(self.byte()) % (GIVE_UP + 2),
+            cancel_run: usize::from(self.byte()) % (GIVE_UP + 2),
             opening: self.flag(),
             next: [Next::Synchronising, Next::Older, Next::Newer][self.below(3)],
             finished: self.byte() % 8 == 7,
@@ -277,17 +286,17 @@ impl Input<'_> {
         let most = if search {
             CHECK_BITS
         } else {
-            block_bits(wide(k))
+            block_bits(bounded_length(k))
         };
         let mut receiver = Receiver {
             k,
             search,
-            array: [0; HOLD_BYTES],
+            array: [0; HELD_BYTES],
             held: match self.byte() {
                 0..=127 => 0,
                 _ => self.below(most + 1),
             },
-            row: usize::from(self.byte()) % (BAD_ROW + 1),
+            bad_row: usize::from(self.byte()) % (BAD_ROW_LIMIT + 1),
             return_bit: self.flag(),
             taken: match self.byte() {
                 byte @ 0..=239 => usize::from(byte) % 9,
@@ -300,7 +309,7 @@ impl Input<'_> {
                 _ => None,
             },
         };
-        receiver.array.copy_from_slice(&self.pattern(HOLD_BYTES));
+        receiver.array.copy_from_slice(&self.pattern(HELD_BYTES));
         let mut bytes = vec![0; RECEIVER_BYTES];
         store_receiver(&receiver, &mut bytes);
         self.spoil(kind, bytes)
@@ -324,7 +333,7 @@ impl Input<'_> {
     }
 
     /// Bits of the line: a block that some rule is about, the sequence, or any bits; damaged or not.
-    fn piece(&mut self, k: usize, taken: usize) -> Bits {
+    fn line_bits(&mut self, k: usize, taken: usize) -> Bits {
         let k = if LENGTHS.contains(&k) { k } else { LENGTHS[0] };
         let mut bits = match self.byte() {
             0..=39 => synchronising_block(k),
@@ -376,10 +385,11 @@ mod tests {
         for case in 0..20_000 {
             let mut rng = Rng::for_case(14, case);
             let count = rng.below(600);
-            let compared = compare(&TableDriven, &rng.bytes(count), &mut tally);
-            compared.unwrap_or_else(|difference| panic!("{difference}"));
+            if let Err(difference) = compare(&TableDriven, &rng.bytes(count), &mut tally) {
+                panic!("{difference}");
+            }
         }
-        tally.above(20, &EVENTS);
+        tally.assert_above(20, &EVENTS);
         let kinds = [
             "allowed",
             "built",
@@ -397,6 +407,6 @@ mod tests {
             "refused 7",
             "refused 8",
         ];
-        tally.above(20, &kinds);
+        tally.assert_above(20, &kinds);
     }
 }

@@ -1,9 +1,9 @@
 //! Building and reading blocks: every k, good and refused, every service value, slices of every
 //! kind, and blocks with every kind of damage.
 
-use super::{hex, same, Difference, Lent, Tally};
+use super::{hex, same, Difference, GuardedBuffer, Tally};
 use crate::calls::{Blocks, Reference};
-use crate::damage::{burst, invert, Damage, ADMITTED, FURTHER};
+use crate::damage::{burst, invert, Damage, ADMITTED_KINDS, OTHER_KINDS};
 use crate::reference::bits::{bits_of, pack, unpack, Bits};
 use crate::reference::block::{block_bits, block_bytes, cancel, is_length, payload_bytes};
 use crate::reference::block::{synchronising_block, Read, LENGTHS};
@@ -98,7 +98,7 @@ impl<B: Blocks> Group<'_, B> {
     fn services(&mut self, k: usize, payload: usize, block: usize) -> Result<(), Difference> {
         for service in (0..=20).chain([127, 255]) {
             let payload = self.rng.bytes(payload);
-            let block = Lent::random(&mut self.rng, block);
+            let block = GuardedBuffer::random(&mut self.rng, block);
             self.build(k, service, &payload, block)?;
         }
         Ok(())
@@ -151,7 +151,7 @@ impl<B: Blocks> Group<'_, B> {
         let data = payload(&mut self.rng, k);
         let service = self.rng.below(18) as u8;
         let spare = self.rng.below(4);
-        let block = Lent::random(&mut self.rng, block_bytes(k) + spare);
+        let block = GuardedBuffer::random(&mut self.rng, block_bytes(k) + spare);
         self.build(k, service, &data, block)?;
         let bytes = self.arriving(k);
         let spare = self.rng.below(4);
@@ -167,7 +167,7 @@ impl<B: Blocks> Group<'_, B> {
         if self.rng.chance(20) {
             cancel(&mut bits);
         }
-        let kinds: Vec<Damage> = ADMITTED.into_iter().chain(FURTHER).collect();
+        let kinds: Vec<Damage> = ADMITTED_KINDS.into_iter().chain(OTHER_KINDS).collect();
         let damage = self.rng.pick(&kinds);
         let pattern = damage.pattern(&mut self.rng, block_bits(k));
         invert(&mut bits, &pattern);
@@ -190,13 +190,13 @@ impl<B: Blocks> Group<'_, B> {
         k: usize,
         service: u8,
         payload: &[u8],
-        block: Lent,
+        block: GuardedBuffer,
     ) -> Result<(), Difference> {
         compare_build(self.tested, k, service, payload, block, &mut self.tally)
     }
 
     fn read(&mut self, k: usize, block: &[u8], length: usize) -> Result<(), Difference> {
-        let payload = Lent::random(&mut self.rng, length);
+        let payload = GuardedBuffer::random(&mut self.rng, length);
         compare_read(self.tested, k, block, payload, &mut self.tally)
     }
 }
@@ -207,7 +207,7 @@ pub fn compare_build(
     k: usize,
     service: u8,
     payload: &[u8],
-    block: Lent,
+    block: GuardedBuffer,
     tally: &mut Tally,
 ) -> Result<(), Difference> {
     let length = block.slice().len();
@@ -232,7 +232,7 @@ pub fn compare_read(
     tested: &impl Blocks,
     k: usize,
     block: &[u8],
-    payload: Lent,
+    payload: GuardedBuffer,
     tally: &mut Tally,
 ) -> Result<(), Difference> {
     let length = payload.slice().len();
@@ -252,13 +252,13 @@ pub fn compare_read(
 
 #[cfg(test)]
 mod tests {
+    use super::super::agreed;
     use super::*;
     use crate::calls::TableDriven;
 
     #[test]
     fn the_table_driven_sibling_agrees() {
-        let tally =
-            compare(&TableDriven, 11, 20_000).unwrap_or_else(|difference| panic!("{difference}"));
+        let tally = agreed(compare(&TableDriven, 11, 20_000));
         let kinds = [
             "built",
             "build refused",
@@ -266,10 +266,10 @@ mod tests {
             "read failed",
             "read refused",
         ];
-        tally.above(500, &kinds);
+        tally.assert_above(500, &kinds);
     }
 
-    /// A reader that takes a spare bit for a check bit is found out.
+    /// A reader that takes a spare bit for a check bit is found.
     #[test]
     fn a_difference_is_reported() {
         struct Spare;

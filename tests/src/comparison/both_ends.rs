@@ -1,12 +1,12 @@
-//! Random sessions of both ends over a bad line. Along those that meet the suppositions of
-//! demand 3, its claims are checked as well.
+//! Random sessions of both ends over a line with errors. Along those that meet the suppositions of
+//! demand 3, its claims are checked too.
 
-use super::lockstep::{Lockstep, Twin};
+use super::lockstep::{BufferPair, Lockstep};
 use super::orders::Order;
-use super::sender::refused_word;
-use super::{spoil, Difference, Lent, Tally};
+use super::sender::refusal_name;
+use super::{spoil, Difference, GuardedBuffer, Tally};
 use crate::calls::{Opening, ReceivingEnd, SendingEnd};
-use crate::damage::{invert, Damage, ADMITTED, FURTHER};
+use crate::damage::{invert, Damage, ADMITTED_KINDS, OTHER_KINDS};
 use crate::delivery::{Delivery, Receiving, Sending};
 use crate::interface::{load_receiver, load_sender, RECEIVER_BYTES, SENDER_BYTES};
 use crate::reference::bits::{bits_of, pack, unpack, Bits};
@@ -38,51 +38,52 @@ pub fn compare<S: SendingEnd, R: ReceivingEnd>(
     Ok(tally)
 }
 
-/// How the line treats blocks and readings, in chances of a hundred.
-#[derive(Clone, Copy, Default)]
-struct Weather {
+/// The error rates of the line and its return channel for a while, in percent.
+#[derive(Clone, Copy)]
+struct ErrorRates {
     damaged: usize,
     /// Of the damaged, those that demand 3 does not admit.
-    further: usize,
+    not_admitted: usize,
     /// Cancelled blocks that arrive whole.
-    whole: usize,
-    /// Requests that are lost, and requests that nobody made.
-    lost: usize,
-    invented: usize,
+    cancelled_whole: usize,
+    /// Return bits of 1 read as 0.
+    lost_requests: usize,
+    /// Return bits of 0 read as 1.
+    false_requests: usize,
 }
 
-/// What a session's line may do at all.
+/// Which errors the channel of a session has at all.
 #[derive(Clone, Copy)]
-struct Climate {
+struct ChannelModel {
     /// Requests may be lost.
-    losses: bool,
+    loses_requests: bool,
     /// Damage may be of any kind.
-    wild: bool,
-    /// Every used reading is 1 throughout.
-    stuck: bool,
+    any_damage: bool,
+    /// Every return bit of 0 is read as 1.
+    stuck_at_1: bool,
 }
 
-impl Climate {
-    fn random(rng: &mut Rng) -> Climate {
-        Climate {
-            losses: rng.chance(40),
-            wild: rng.chance(20),
-            stuck: rng.chance(2),
+impl ChannelModel {
+    fn random(rng: &mut Rng) -> ChannelModel {
+        ChannelModel {
+            loses_requests: rng.chance(40),
+            any_damage: rng.chance(20),
+            stuck_at_1: rng.chance(2),
         }
     }
 
-    fn weather(self, rng: &mut Rng) -> Weather {
-        let invented = rng.pick(&[0, 0, 0, 10, 30, 100]);
-        Weather {
+    fn rates(self, rng: &mut Rng) -> ErrorRates {
+        let false_requests = rng.pick(&[0, 0, 0, 10, 30, 100]);
+        ErrorRates {
             damaged: rng.pick(&[0, 0, 5, 20, 20, 50, 90]),
-            further: if self.wild { 40 } else { 0 },
-            whole: if self.wild { 20 } else { 0 },
-            lost: if self.losses {
+            not_admitted: if self.any_damage { 40 } else { 0 },
+            cancelled_whole: if self.any_damage { 20 } else { 0 },
+            lost_requests: if self.loses_requests {
                 rng.pick(&[5, 20, 60])
             } else {
                 0
             },
-            invented: if self.stuck { 100 } else { invented },
+            false_requests: if self.stuck_at_1 { 100 } else { false_requests },
         }
     }
 }
@@ -92,12 +93,12 @@ struct Session<'a, S, R> {
     rng: Rng,
     tally: &'a mut Tally,
     order: Order,
-    sender: Twin,
-    receiver: Twin,
-    store: Twin,
+    sender: BufferPair,
+    receiver: BufferPair,
+    store: BufferPair,
     delivery: Delivery,
-    climate: Climate,
-    weather: Weather,
+    channel: ChannelModel,
+    rates: ErrorRates,
 }
 
 impl<'a, S: SendingEnd, R: ReceivingEnd> Session<'a, S, R> {
@@ -107,8 +108,8 @@ impl<'a, S: SendingEnd, R: ReceivingEnd> Session<'a, S, R> {
         order: Order,
         tally: &'a mut Tally,
     ) -> Result<Session<'a, S, R>, Difference> {
-        let mut sender = Twin::random(&mut rng, SENDER_BYTES);
-        let mut receiver = Twin::random(&mut rng, RECEIVER_BYTES);
+        let mut sender = BufferPair::random(&mut rng, SENDER_BYTES);
+        let mut receiver = BufferPair::random(&mut rng, RECEIVER_BYTES);
         let opening = Opening {
             k: order.k,
             speed: 200,
@@ -120,10 +121,10 @@ impl<'a, S: SendingEnd, R: ReceivingEnd> Session<'a, S, R> {
         let refused = ends.open_receiver(order.k, &mut receiver)?;
         assert_eq!(refused, 0, "the same k");
         let further = rng.pick(&[0, 0, 1, 40]);
-        let store = Twin::random(&mut rng, order.items() * order.k / 8 + further);
+        let store = BufferPair::random(&mut rng, order.items() * order.k / 8 + further);
         let delivery = Delivery::new(order.k, order.length, &order.bytes, store.slice());
-        let climate = Climate::random(&mut rng);
-        let weather = climate.weather(&mut rng);
+        let channel = ChannelModel::random(&mut rng);
+        let rates = channel.rates(&mut rng);
         Ok(Session {
             ends,
             rng,
@@ -133,18 +134,18 @@ impl<'a, S: SendingEnd, R: ReceivingEnd> Session<'a, S, R> {
             receiver,
             store,
             delivery,
-            climate,
-            weather,
+            channel,
+            rates,
         })
     }
 
     fn run(mut self) -> Result<(), Difference> {
-        let most = 3 * self.order.items() + if self.climate.stuck { 400 } else { 40 };
+        let most = 3 * self.order.items() + if self.channel.stuck_at_1 { 400 } else { 40 };
         for _ in 0..self.rng.between(most / 4, most) {
             if self.rng.chance(4) {
-                self.weather = self.climate.weather(&mut self.rng);
+                self.rates = self.channel.rates(&mut self.rng);
             }
-            self.aside()?;
+            self.extra_call()?;
             let over = self.sender().rests() || self.receiver().alarm.is_some();
             if over && self.rng.chance(30) {
                 break;
@@ -176,19 +177,19 @@ impl<'a, S: SendingEnd, R: ReceivingEnd> Session<'a, S, R> {
     /// if the call is refused.
     fn send(&mut self, order: usize, bytes: usize, reading: bool) -> Result<Bits, Difference> {
         let before = self.sender();
-        let mut place = Twin::random(&mut self.rng, bytes);
+        let mut place = BufferPair::random(&mut self.rng, bytes);
         let lent = &self.order.bytes[..order];
         let sent = self
             .ends
             .send(&mut self.sender, lent, reading, &mut place)?;
         let (mut block, mut arrives) = (Bits::new(), Bits::new());
         if let Sent::Refused(number) = sent {
-            self.tally.count(refused_word(number));
+            self.tally.count(refusal_name(number));
         } else {
             block = unpack(place.slice(), 0, block_bits(self.order.k));
             arrives = self.arriving(&block, sent);
         }
-        self.delivery.sent(&Sending {
+        self.delivery.after_sending(&Sending {
             before: &before,
             after: &self.sender(),
             sent,
@@ -205,33 +206,27 @@ impl<'a, S: SendingEnd, R: ReceivingEnd> Session<'a, S, R> {
     /// The reading of the return bit, as the line lets it through.
     fn reading(&mut self) -> bool {
         match self.receiver().return_bit {
-            true => !self.rng.chance(self.weather.lost),
-            false => self.rng.chance(self.weather.invented),
+            true => !self.rng.chance(self.rates.lost_requests),
+            false => self.rng.chance(self.rates.false_requests),
         }
     }
 
     /// The copy of a sent block that arrives.
     fn arriving(&mut self, block: &[bool], sent: Sent) -> Bits {
         let mut bits = block.to_vec();
-        let cancelled = matches!(
-            sent,
-            Sent::Item {
-                cancelled: true,
-                ..
-            }
-        );
-        if cancelled && self.rng.chance(self.weather.whole) {
+        let cancelled = sent.is_cancelled();
+        if cancelled && self.rng.chance(self.rates.cancelled_whole) {
             cancel(&mut bits);
             return bits;
         }
-        if !self.rng.chance(self.weather.damaged) {
+        if !self.rng.chance(self.rates.damaged) {
             return bits;
         }
-        if self.rng.chance(self.weather.further) {
-            return self.beyond(bits);
+        if self.rng.chance(self.rates.not_admitted) {
+            return self.not_admitted(bits);
         }
         // Damage counts against the block before cancelling, which then may not arrive whole.
-        let damage = self.rng.pick(&ADMITTED);
+        let damage = self.rng.pick(&ADMITTED_KINDS);
         if damage != Damage::Nothing {
             if cancelled {
                 cancel(&mut bits);
@@ -242,7 +237,7 @@ impl<'a, S: SendingEnd, R: ReceivingEnd> Session<'a, S, R> {
     }
 
     /// A copy with damage that demand 3 does not admit, or another block altogether.
-    fn beyond(&mut self, mut bits: Bits) -> Bits {
+    fn not_admitted(&mut self, mut bits: Bits) -> Bits {
         let k = self.order.k;
         match self.rng.below(4) {
             0 => synchronising_block(k),
@@ -251,8 +246,8 @@ impl<'a, S: SendingEnd, R: ReceivingEnd> Session<'a, S, R> {
                 assemble(service, &unpack(&self.rng.bytes(k / 8), 0, k))
             }
             _ => {
-                let damage = self.rng.pick(&FURTHER);
-                invert(&mut bits, &damage.pattern(&mut self.rng, k + 20));
+                let damage = self.rng.pick(&OTHER_KINDS);
+                invert(&mut bits, &damage.pattern(&mut self.rng, block_bits(k)));
                 bits
             }
         }
@@ -279,29 +274,33 @@ impl<'a, S: SendingEnd, R: ReceivingEnd> Session<'a, S, R> {
         Ok(())
     }
 
-    /// One receiving call on all of these bits, with garbage behind them; the number used.
+    /// One receiving call on all of these bits; the number used.
     fn receive(&mut self, bits: &[bool]) -> Result<usize, Difference> {
         let line = self.line(bits);
         let lent = self.store.slice().len();
-        let stood = self.receiver().alarm.is_some();
+        let alarm_stood = self.receiver().alarm.is_some();
         let received =
             self.ends
                 .receive(&mut self.receiver, &line, bits.len(), &mut self.store, lent)?;
-        self.delivery.received(&Receiving {
+        self.delivery.after_receiving(&Receiving {
             received,
             bits: bits.len(),
             line_bytes: line.len(),
             store: self.store.slice(),
         })?;
         match received {
-            Received::Heard { event, used } => {
-                let kind = if stood { "alarm again" } else { event.word() };
+            Received::Reported { event, used } => {
+                let kind = if alarm_stood {
+                    "alarm again"
+                } else {
+                    event.name()
+                };
                 self.tally.count(kind);
                 Ok(used)
             }
-            // Only where the line is beyond demand 3: an item that the store has no place for.
+            // Only where a supposition of demand 3 broke: an item that the store has no room for.
             Received::Refused(number) => {
-                self.tally.count(refused_word(number));
+                self.tally.count(refusal_name(number));
                 Ok(bits.len())
             }
         }
@@ -319,8 +318,8 @@ impl<'a, S: SendingEnd, R: ReceivingEnd> Session<'a, S, R> {
     }
 
     /// Now and then a call that changes nothing: a refused one, one with no bits, or one on a
-    /// state that is then forgotten.
-    fn aside(&mut self) -> Result<(), Difference> {
+    /// copy of the state.
+    fn extra_call(&mut self) -> Result<(), Difference> {
         match self.rng.below(40) {
             0 => self.receive(&[]).map(|_| ()),
             1 => self.short_sending(),
@@ -353,14 +352,14 @@ impl<'a, S: SendingEnd, R: ReceivingEnd> Session<'a, S, R> {
         let lent = ((taken + 1) * k / 8 - 1).min(store.slice().len());
         let received = self
             .ends
-            .receive(&mut state, &line, k + 20, &mut store, lent)?;
+            .receive(&mut state, &line, block_bits(k), &mut store, lent)?;
         let Received::Refused(number) = received else {
             return Ok(());
         };
-        self.tally.count(refused_word(number));
-        self.delivery.received(&Receiving {
+        self.tally.count(refusal_name(number));
+        self.delivery.after_receiving(&Receiving {
             received,
-            bits: k + 20,
+            bits: block_bits(k),
             line_bytes: line.len(),
             store: &store.slice()[..lent],
         })
@@ -368,20 +367,20 @@ impl<'a, S: SendingEnd, R: ReceivingEnd> Session<'a, S, R> {
 
     fn spoiled_sending(&mut self) -> Result<(), Difference> {
         let bytes = spoil::sender(&mut self.rng, self.sender.slice());
-        let mut state = Twin::new(Lent::around(&mut self.rng, &bytes));
-        let mut block = Twin::random(&mut self.rng, 483);
+        let mut state = BufferPair::new(GuardedBuffer::around(&mut self.rng, &bytes));
+        let mut block = BufferPair::random(&mut self.rng, 483);
         let reading = self.rng.bit();
         let order = &self.order.bytes;
         let sent = self.ends.send(&mut state, order, reading, &mut block)?;
         if let Sent::Refused(number) = sent {
-            self.tally.count(refused_word(number));
+            self.tally.count(refusal_name(number));
         }
         Ok(())
     }
 
     fn spoiled_receiving(&mut self) -> Result<(), Difference> {
         let bytes = spoil::receiver(&mut self.rng, self.receiver.slice());
-        let mut state = Twin::new(Lent::around(&mut self.rng, &bytes));
+        let mut state = BufferPair::new(GuardedBuffer::around(&mut self.rng, &bytes));
         let line = self.rng.bytes(90);
         let bits = self.rng.below(721);
         let mut store = self.store.clone();
@@ -390,7 +389,7 @@ impl<'a, S: SendingEnd, R: ReceivingEnd> Session<'a, S, R> {
             .ends
             .receive(&mut state, &line, bits, &mut store, lent)?;
         if let Received::Refused(number) = received {
-            self.tally.count(refused_word(number));
+            self.tally.count(refusal_name(number));
         }
         Ok(())
     }
@@ -399,7 +398,7 @@ impl<'a, S: SendingEnd, R: ReceivingEnd> Session<'a, S, R> {
         self.tally.count("sessions");
         if self.delivery.broken().is_none() {
             self.tally.count("within demand 3");
-            if self.delivery.lost() > 0 {
+            if self.delivery.lost_requests() > 0 {
                 self.tally.count("within demand 3 with a loss");
             }
             if self.delivery.ended() {
@@ -417,15 +416,14 @@ impl<'a, S: SendingEnd, R: ReceivingEnd> Session<'a, S, R> {
 
 #[cfg(test)]
 mod tests {
-    use super::super::EVENTS;
+    use super::super::{agreed, EVENTS};
     use super::*;
     use crate::calls::{Reference, TableDriven};
 
     #[test]
     fn demand_3_holds_along_random_sessions_of_the_reference() {
-        let tally = compare(&Reference, &Reference, 6, 3_000)
-            .unwrap_or_else(|difference| panic!("{difference}"));
-        tally.above(20, &EVENTS);
+        let tally = agreed(compare(&Reference, &Reference, 6, 3_000));
+        tally.assert_above(20, &EVENTS);
         let kinds = [
             "finished",
             "gave up",
@@ -435,12 +433,11 @@ mod tests {
             "refused 6",
             "refused 7",
         ];
-        tally.above(20, &kinds);
+        tally.assert_above(20, &kinds);
     }
 
     #[test]
     fn the_table_driven_ends_agree() {
-        compare(&TableDriven, &TableDriven, 7, 500)
-            .unwrap_or_else(|difference| panic!("{difference}"));
+        agreed(compare(&TableDriven, &TableDriven, 7, 500));
     }
 }

@@ -2,7 +2,7 @@
 
 use super::{any_bytes, receiver, sender, Tally};
 use crate::calls::{Blocks, Line, LoopTimes, Opening, ReceivingEnd, Reference, SendingEnd};
-use crate::interface::{is_event, sent, Counts, EVENT_ACCEPTED, EVENT_NONE};
+use crate::interface::{decode_sent, is_event, Counts, EVENT_ACCEPTED, EVENT_NONE};
 use crate::interface::{FINISHED, GAVE_UP, RECEIVER_BYTES, SENDER_BYTES};
 use crate::reference::block::Read;
 use crate::reference::refusal::SHORT;
@@ -19,11 +19,11 @@ enum Fault {
     /// A call that sends or stores nothing changes the last byte lent for it.
     LastByte,
     /// Any flag but 0 is true.
-    WideFlags,
+    NonzeroFlags,
     /// A state that is too short is refused 6 in stepping.
     ShortState,
-    /// Given up is not told from finished.
-    Rest,
+    /// A sender that gave up is reported as finished.
+    GaveUpAsFinished,
     /// A refused call writes the number of bits used.
     RefusedCount,
     /// L is written without the end.
@@ -32,6 +32,18 @@ enum Fault {
     ReturnBit,
 }
 
+const FAULTS_OF_EITHER_END: [Fault; 5] = [
+    Fault::RefusedState,
+    Fault::BehindState,
+    Fault::LastByte,
+    Fault::NonzeroFlags,
+    Fault::ShortState,
+];
+const FAULTS_OF_A_SENDER: [Fault; 1] = [Fault::GaveUpAsFinished];
+const FAULTS_OF_A_RECEIVER: [Fault; 3] =
+    [Fault::RefusedCount, Fault::LengthAlways, Fault::ReturnBit];
+
+/// The second implementation with this fault.
 struct Faulty(Fault);
 
 impl Faulty {
@@ -50,9 +62,9 @@ impl Faulty {
         }
     }
 
-    fn narrow(&self, flags: &[usize], state: &mut [u8]) {
+    fn limit_flags(&self, flags: &[usize], state: &mut [u8]) {
         for &place in flags {
-            if self.0 == Fault::WideFlags && place < state.len() {
+            if self.0 == Fault::NonzeroFlags && place < state.len() {
                 state[place] = state[place].min(1);
             }
         }
@@ -84,9 +96,9 @@ impl SendingEnd for Faulty {
         if self.0 == Fault::ShortState && state.len() < SENDER_BYTES {
             return u32::from(SHORT);
         }
-        self.narrow(&[13, 15], state);
+        self.limit_flags(&[13, 15], state);
         let word = Reference.send(state, order, reading, block);
-        let refused = matches!(sent(word), Sent::Refused(_));
+        let refused = matches!(decode_sent(word), Sent::Refused(_));
         self.spoil_state(refused, SENDER_BYTES, state);
         self.spoil_data(refused, block);
         word
@@ -94,7 +106,7 @@ impl SendingEnd for Faulty {
 
     fn sender_rest(&self, state: &[u8]) -> u8 {
         match Reference.sender_rest(state) {
-            GAVE_UP if self.0 == Fault::Rest => FINISHED,
+            GAVE_UP if self.0 == Fault::GaveUpAsFinished => FINISHED,
             answer => answer,
         }
     }
@@ -109,9 +121,9 @@ impl ReceivingEnd for Faulty {
         if self.0 == Fault::ShortState && state.len() < RECEIVER_BYTES {
             return SHORT;
         }
-        self.narrow(&[13, 14], state);
+        self.limit_flags(&[13, 14], state);
         let searching = state.get(15) == Some(&0);
-        let back = state.get(13).copied();
+        let return_bit = state.get(13).copied();
         let number = Reference.receive(state, line, store, counts);
         let refused = !is_event(number);
         self.spoil_state(refused, RECEIVER_BYTES, state);
@@ -120,7 +132,7 @@ impl ReceivingEnd for Faulty {
             Fault::RefusedCount if refused => counts.used = 0,
             Fault::LengthAlways => counts.length = 0,
             Fault::ReturnBit if searching && number == EVENT_NONE => {
-                state[13] = back.unwrap_or(0);
+                state[13] = return_bit.unwrap_or(0);
             }
             _ => {}
         }
@@ -134,69 +146,34 @@ impl ReceivingEnd for Faulty {
 
 #[test]
 fn faults_of_a_sender_are_found() {
-    use Fault::{BehindState, LastByte, None, RefusedState, Rest, ShortState, WideFlags};
-    for fault in [
-        RefusedState,
-        BehindState,
-        LastByte,
-        WideFlags,
-        ShortState,
-        Rest,
-    ] {
-        assert!(
-            sender::compare(&Faulty(fault), 5, 2_000).is_err(),
-            "{fault:?}"
-        );
+    for fault in FAULTS_OF_EITHER_END.into_iter().chain(FAULTS_OF_A_SENDER) {
+        let compared = sender::compare(&Faulty(fault), 5, 2_000);
+        assert!(compared.is_err(), "{fault:?}");
     }
-    assert!(sender::compare(&Faulty(None), 5, 200).is_ok());
+    assert!(sender::compare(&Faulty(Fault::None), 5, 200).is_ok());
 }
 
 #[test]
 fn faults_of_a_receiver_are_found() {
-    use Fault::{BehindState, LastByte, LengthAlways, None};
-    use Fault::{RefusedCount, RefusedState, ReturnBit, ShortState, WideFlags};
-    let faults = [
-        RefusedState,
-        BehindState,
-        LastByte,
-        WideFlags,
-        ShortState,
-        RefusedCount,
-        LengthAlways,
-        ReturnBit,
-    ];
-    for fault in faults {
-        assert!(
-            receiver::compare(&Faulty(fault), 8, 5_000).is_err(),
-            "{fault:?}"
-        );
+    for fault in FAULTS_OF_EITHER_END.into_iter().chain(FAULTS_OF_A_RECEIVER) {
+        let compared = receiver::compare(&Faulty(fault), 8, 5_000);
+        assert!(compared.is_err(), "{fault:?}");
     }
-    assert!(receiver::compare(&Faulty(None), 8, 500).is_ok());
+    assert!(receiver::compare(&Faulty(Fault::None), 8, 500).is_ok());
 }
 
 /// Random bytes are what the fuzzer begins with.
 #[test]
 fn faults_are_found_by_random_bytes() {
-    use Fault::{BehindState, LastByte, LengthAlways, None};
-    use Fault::{RefusedCount, RefusedState, Rest, ReturnBit, ShortState, WideFlags};
     let found = |fault, cases| {
         (0..cases).any(|case| {
             let bytes = Rng::for_case(14, case).bytes(400);
             any_bytes::compare(&Faulty(fault), &bytes, &mut Tally::default()).is_err()
         })
     };
-    for fault in [
-        RefusedState,
-        BehindState,
-        LastByte,
-        WideFlags,
-        ShortState,
-        Rest,
-        RefusedCount,
-        LengthAlways,
-        ReturnBit,
-    ] {
+    let of_one_end = FAULTS_OF_A_SENDER.into_iter().chain(FAULTS_OF_A_RECEIVER);
+    for fault in FAULTS_OF_EITHER_END.into_iter().chain(of_one_end) {
         assert!(found(fault, 20_000), "{fault:?}");
     }
-    assert!(!found(None, 500));
+    assert!(!found(Fault::None, 500));
 }

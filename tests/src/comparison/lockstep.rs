@@ -1,29 +1,29 @@
 //! Both implementations call by call: every answer and every lent byte, those of the states too,
-//! of one is held against that of the other.
+//! of one is compared with that of the other.
 
-use super::{hex, same, Difference, Lent};
+use super::{hex, same, Difference, GuardedBuffer};
 use crate::calls::{Line, Opening, ReceivingEnd, Reference, SendingEnd};
-use crate::interface::{received, sent, Counts};
+use crate::interface::{decode_received, decode_sent, Counts};
 use crate::reference::receiver::Received;
 use crate::reference::sender::Sent;
 use crate::rng::Rng;
 
 /// The same bytes, lent to both.
 #[derive(Clone)]
-pub struct Twin {
-    expected: Lent,
-    got: Lent,
+pub struct BufferPair {
+    expected: GuardedBuffer,
+    got: GuardedBuffer,
 }
 
-impl Twin {
-    pub fn random(rng: &mut Rng, length: usize) -> Twin {
-        Twin::new(Lent::random(rng, length))
+impl BufferPair {
+    pub fn random(rng: &mut Rng, length: usize) -> BufferPair {
+        BufferPair::new(GuardedBuffer::random(rng, length))
     }
 
-    pub fn new(lent: Lent) -> Twin {
-        Twin {
-            expected: lent.clone(),
-            got: lent,
+    pub fn new(buffer: GuardedBuffer) -> BufferPair {
+        BufferPair {
+            expected: buffer.clone(),
+            got: buffer,
         }
     }
 
@@ -34,8 +34,8 @@ impl Twin {
 
     /// Writes into both.
     pub fn write(&mut self, at: usize, bytes: &[u8]) {
-        for lent in [&mut self.expected, &mut self.got] {
-            lent.slice_mut()[at..at + bytes.len()].copy_from_slice(bytes);
+        for buffer in [&mut self.expected, &mut self.got] {
+            buffer.slice_mut()[at..at + bytes.len()].copy_from_slice(bytes);
         }
     }
 
@@ -43,10 +43,25 @@ impl Twin {
         same(case, &self.expected, &self.got)
     }
 
-    /// What a refused call must find true: nothing was written.
-    fn untouched(&self, before: &Twin, case: &dyn Fn() -> String) -> Result<(), Difference> {
+    /// That nothing was written, as in every refused call.
+    fn unchanged(&self, before: &BufferPair, case: &dyn Fn() -> String) -> Result<(), Difference> {
         same(case, &before.got, &self.got)
     }
+}
+
+/// The answer of an opening: 0 or the refusal's number, expected and got.
+fn same_opening(
+    case: &dyn Fn() -> String,
+    (expected, got): (u8, u8),
+    before: &BufferPair,
+    state: &BufferPair,
+) -> Result<u8, Difference> {
+    same(case, &expected, &got)?;
+    state.same(case)?;
+    if got != 0 {
+        state.unchanged(before, case)?;
+    }
+    Ok(got)
 }
 
 /// The tested sending and receiving ends, beside the second implementation's.
@@ -61,7 +76,7 @@ impl<S: SendingEnd, R> Lockstep<'_, S, R> {
         &self,
         opening: Opening,
         order: &[u8],
-        state: &mut Twin,
+        state: &mut BufferPair,
     ) -> Result<u8, Difference> {
         let before = state.clone();
         let case = || {
@@ -72,21 +87,16 @@ impl<S: SendingEnd, R> Lockstep<'_, S, R> {
         let got = self
             .sending
             .open_sender(opening, order, state.got.slice_mut());
-        same(&case, &expected, &got)?;
-        state.same(&case)?;
-        if got != 0 {
-            state.untouched(&before, &case)?;
-        }
-        Ok(got)
+        same_opening(&case, (expected, got), &before, state)
     }
 
     /// A sending call, and whether the sender rests after it.
     pub fn send(
         &self,
-        state: &mut Twin,
+        state: &mut BufferPair,
         order: &[u8],
         reading: bool,
-        block: &mut Twin,
+        block: &mut BufferPair,
     ) -> Result<Sent, Difference> {
         let (before, place) = (state.clone(), block.clone());
         let case = || {
@@ -100,17 +110,17 @@ impl<S: SendingEnd, R> Lockstep<'_, S, R> {
         same(&case, &expected, &got)?;
         state.same(&case)?;
         block.same(&case)?;
-        let sent = sent(got);
+        let sent = decode_sent(got);
         if let Sent::Refused(_) = sent {
-            state.untouched(&before, &case)?;
-            block.untouched(&place, &case)?;
+            state.unchanged(&before, &case)?;
+            block.unchanged(&place, &case)?;
         }
         self.sender_rest(state)?;
         Ok(sent)
     }
 
     /// Whether the sender rests.
-    pub fn sender_rest(&self, state: &Twin) -> Result<(), Difference> {
+    pub fn sender_rest(&self, state: &BufferPair) -> Result<(), Difference> {
         let case = || format!("sender rest: {}", hex(state.slice()));
         let expected = Reference.sender_rest(state.slice());
         same(&case, &expected, &self.sending.sender_rest(state.slice()))
@@ -119,27 +129,22 @@ impl<S: SendingEnd, R> Lockstep<'_, S, R> {
 
 impl<S, R: ReceivingEnd> Lockstep<'_, S, R> {
     /// 0 or the refusal's number.
-    pub fn open_receiver(&self, k: usize, state: &mut Twin) -> Result<u8, Difference> {
+    pub fn open_receiver(&self, k: usize, state: &mut BufferPair) -> Result<u8, Difference> {
         let before = state.clone();
         let case = || format!("open receiver: k {k}, {} bytes", before.slice().len());
         let expected = Reference.open_receiver(k, state.expected.slice_mut());
         let got = self.receiving.open_receiver(k, state.got.slice_mut());
-        same(&case, &expected, &got)?;
-        state.same(&case)?;
-        if got != 0 {
-            state.untouched(&before, &case)?;
-        }
-        Ok(got)
+        same_opening(&case, (expected, got), &before, state)
     }
 
     /// A receiving call that is lent the first `lent` bytes of the store, and the return bit
     /// after it.
     pub fn receive(
         &self,
-        state: &mut Twin,
+        state: &mut BufferPair,
         line: &[u8],
         bits: usize,
-        store: &mut Twin,
+        store: &mut BufferPair,
         lent: usize,
     ) -> Result<Received, Difference> {
         let before = state.clone();
@@ -162,9 +167,9 @@ impl<S, R: ReceivingEnd> Lockstep<'_, S, R> {
         same(&case, &(expected, expected_counts), &(got, counts))?;
         state.same(&case)?;
         store.same(&case)?;
-        let received = received(got, counts);
+        let received = decode_received(got, counts);
         if let Received::Refused(_) = received {
-            state.untouched(&before, &case)?;
+            state.unchanged(&before, &case)?;
             same(&case, &unwritten, &counts)?;
         }
         self.return_bit(state)?;
@@ -172,7 +177,7 @@ impl<S, R: ReceivingEnd> Lockstep<'_, S, R> {
     }
 
     /// The return bit.
-    pub fn return_bit(&self, state: &Twin) -> Result<(), Difference> {
+    pub fn return_bit(&self, state: &BufferPair) -> Result<(), Difference> {
         let case = || format!("return bit: {}", hex(state.slice()));
         let expected = Reference.return_bit(state.slice());
         same(&case, &expected, &self.receiving.return_bit(state.slice()))

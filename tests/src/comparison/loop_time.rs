@@ -63,7 +63,7 @@ pub fn compare_loop(
 mod tests {
     use super::*;
 
-    /// A test that allows one millisecond too many is found out.
+    /// A test that allows one millisecond too many is found.
     #[test]
     fn a_difference_is_reported() {
         struct Late;
@@ -76,6 +76,6 @@ mod tests {
         assert!(compare(&Late).is_err());
         let tally = compare(&Reference).unwrap();
         // The sum of the 22 entries, and a loop of 0 for each.
-        assert_eq!(tally.of("allowed"), 44_947 + 22);
+        assert_eq!(tally.number_of("allowed"), 44_947 + 22);
     }
 }

@@ -21,7 +21,7 @@ use crate::rng::Rng;
 use std::collections::BTreeMap;
 use std::fmt;
 
-/// The words of the events.
+/// The names of the events.
 #[cfg(test)]
 const EVENTS: [&str; 8] = [
     "none",
@@ -46,15 +46,15 @@ impl Tally {
         *self.0.entry(kind).or_default() += 1;
     }
 
-    pub fn of(&self, kind: &str) -> usize {
+    pub fn number_of(&self, kind: &str) -> usize {
         self.0.get(kind).copied().unwrap_or(0)
     }
 
     /// Each of these kinds came more often than this.
     #[cfg(test)]
-    fn above(&self, least: usize, kinds: &[&str]) {
+    fn assert_above(&self, least: usize, kinds: &[&str]) {
         for kind in kinds {
-            assert!(self.of(kind) > least, "{kind}: {self}");
+            assert!(self.number_of(kind) > least, "{kind}: {self}");
         }
     }
 
@@ -76,31 +76,31 @@ impl fmt::Display for Tally {
     }
 }
 
-/// A slice to lend, with bytes before and behind it that no call may touch.
+/// Bytes to lend, between guard bytes that no call may write.
 #[derive(Clone, Debug, PartialEq, Eq)]
-pub struct Lent {
+pub struct GuardedBuffer {
     bytes: Vec<u8>,
 }
 
 const GUARD: usize = 8;
 
-impl Lent {
-    pub fn random(rng: &mut Rng, length: usize) -> Lent {
+impl GuardedBuffer {
+    pub fn random(rng: &mut Rng, length: usize) -> GuardedBuffer {
         let bytes = rng.bytes(length + 2 * GUARD);
-        Lent { bytes }
+        GuardedBuffer { bytes }
     }
 
-    /// These bytes, between random guards.
-    pub fn around(rng: &mut Rng, bytes: &[u8]) -> Lent {
-        let mut lent = Lent::random(rng, bytes.len());
-        lent.slice_mut().copy_from_slice(bytes);
-        lent
+    /// These bytes, between random guard bytes.
+    pub fn around(rng: &mut Rng, bytes: &[u8]) -> GuardedBuffer {
+        let mut buffer = GuardedBuffer::random(rng, bytes.len());
+        buffer.slice_mut().copy_from_slice(bytes);
+        buffer
     }
 
-    /// Every byte the same, guards included: cheap, for long slices.
-    pub fn filled(byte: u8, length: usize) -> Lent {
+    /// Every byte the same, guard bytes too: cheap, for long slices.
+    pub fn filled(byte: u8, length: usize) -> GuardedBuffer {
         let bytes = vec![byte; length + 2 * GUARD];
-        Lent { bytes }
+        GuardedBuffer { bytes }
     }
 
     pub fn slice(&self) -> &[u8] {
@@ -126,6 +126,12 @@ pub fn same<T: PartialEq + fmt::Debug>(
     Err(format!(
         "{case}\n  expected {expected:x?}\n  but got  {got:x?}"
     ))
+}
+
+/// What a group counted, where no difference is expected.
+#[cfg(test)]
+fn agreed(compared: Result<Tally, Difference>) -> Tally {
+    compared.unwrap_or_else(|difference| panic!("{difference}"))
 }
 
 pub fn hex(bytes: &[u8]) -> String {

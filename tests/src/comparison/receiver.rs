@@ -2,9 +2,9 @@
 //! of the sequence, and states out of range.
 
 use super::block::REFUSED_LENGTHS;
-use super::lockstep::{Lockstep, Twin};
-use super::sender::refused_word;
-use super::{spoil, Difference, Lent, Tally};
+use super::lockstep::{BufferPair, Lockstep};
+use super::sender::refusal_name;
+use super::{spoil, Difference, GuardedBuffer, Tally};
 use crate::calls::ReceivingEnd;
 use crate::damage::{invert, Damage};
 use crate::interface::{load_receiver, store_receiver, RECEIVER_BYTES};
@@ -29,8 +29,8 @@ pub fn compare(tested: &impl ReceivingEnd, seed: u64, cases: usize) -> Result<Ta
         let received = case.call(&ends);
         let received = received.map_err(|difference| format!("case {number}: {difference}"))?;
         tally.count(match received {
-            Received::Heard { event, .. } => event.word(),
-            Received::Refused(number) => refused_word(number),
+            Received::Reported { event, .. } => event.name(),
+            Received::Refused(number) => refusal_name(number),
         });
     }
     Ok(tally)
@@ -44,7 +44,7 @@ fn open<R: ReceivingEnd>(
 ) -> Result<(), Difference> {
     for k in LENGTHS.into_iter().chain(REFUSED_LENGTHS) {
         for length in [0, RECEIVER_BYTES - 1, RECEIVER_BYTES, RECEIVER_BYTES + 5] {
-            let mut state = Twin::random(rng, length);
+            let mut state = BufferPair::random(rng, length);
             tally.count(match ends.open_receiver(k, &mut state)? {
                 0 => "opened",
                 1 => "opening refused 1",
@@ -54,6 +54,9 @@ fn open<R: ReceivingEnd>(
     }
     Ok(())
 }
+
+/// Random bits on the line behind those that a case is about.
+const BITS_BEHIND: usize = 96;
 
 /// A state, its bytes, which may be spoiled, and the bits that come next on the line.
 struct Case {
@@ -68,7 +71,7 @@ impl Case {
         let k = rng.pick(&[240, 240, 240, 480, 480, 960, 3840]);
         let mut state = receiver::open(k).expect("one of the four");
         state.taken = taken(&mut rng);
-        state.row = rng.pick(&[0, 0, 1, 6, 7, 7]);
+        state.bad_row = rng.pick(&[0, 0, 1, 6, 7, 7]);
         state.return_bit = rng.bit();
         state.end_taken = rng.chance(25);
         state.alarm = match rng.below(20) {
@@ -78,15 +81,15 @@ impl Case {
         };
         rng.fill(&mut state.array);
         state.search = rng.chance(25);
-        let coming = match state.search {
+        let pending = match state.search {
             true => near_sequence(&mut rng),
             false => block(&mut rng, &state),
         };
         let most = if state.search { 15 } else { block_bits(k) - 1 };
-        hold(&mut rng, &mut state, &coming, most);
-        let mut line = coming[state.held..].to_vec();
-        let garbage = rng.bytes(12);
-        line.extend(unpack(&garbage, 0, 96));
+        hold(&mut rng, &mut state, &pending, most);
+        let mut line = pending[state.held..].to_vec();
+        let behind = rng.bytes(BITS_BEHIND / 8);
+        line.extend(unpack(&behind, 0, BITS_BEHIND));
         let mut bytes = vec![0; RECEIVER_BYTES];
         store_receiver(&state, &mut bytes);
         if rng.chance(15) {
@@ -112,7 +115,7 @@ impl Case {
     /// One call with some number of bits, a line of some length and some part of the store.
     fn call<R: ReceivingEnd>(&mut self, ends: &Lockstep<(), R>) -> Result<Received, Difference> {
         let rng = &mut self.rng;
-        let whole = self.line.len() - 96;
+        let whole = self.line.len() - BITS_BEHIND;
         let bits = match rng.below(12) {
             0 => 0,
             1 => 1,
@@ -128,12 +131,13 @@ impl Case {
             1 => line.truncate(bits.div_ceil(8)),
             _ => {}
         }
-        let right = (self.state.taken + 1) * self.state.k / 8;
+        let needed = (self.state.taken + 1) * self.state.k / 8;
         let byte = rng.below(256) as u8;
-        let mut store = Twin::new(Lent::filled(byte, right + 3));
-        let short = right.saturating_sub(1);
-        let lent = rng.pick(&[right, right, right, right, right, right + 3, short, 0]);
-        let mut state = Twin::new(Lent::around(rng, &self.bytes));
+        let mut store = BufferPair::new(GuardedBuffer::filled(byte, needed + 3));
+        let short = needed.saturating_sub(1);
+        let lengths = [needed, needed, needed, needed, needed, needed + 3, short, 0];
+        let lent = rng.pick(&lengths);
+        let mut state = BufferPair::new(GuardedBuffer::around(rng, &self.bytes));
         ends.receive(&mut state, &line, bits, &mut store, lent)
     }
 }
@@ -148,21 +152,21 @@ fn taken(rng: &mut Rng) -> usize {
     }
 }
 
-/// Makes the state hold the first of the coming bits, and garbage behind them.
-fn hold(rng: &mut Rng, state: &mut Receiver, coming: &[bool], most: usize) {
-    let most = most.min(coming.len() - 1);
+/// Makes the state hold the first of the pending bits; the array behind them stays random.
+fn hold(rng: &mut Rng, state: &mut Receiver, pending: &[bool], most: usize) {
+    let most = most.min(pending.len() - 1);
     state.held = match rng.below(4) {
         0 => 0,
         1 => most,
         _ => rng.between(0, most),
     };
-    for (i, &bit) in coming[..state.held].iter().enumerate() {
+    for (i, &bit) in pending[..state.held].iter().enumerate() {
         set_bit(&mut state.array, i, bit);
     }
 }
 
 /// Bits in which the sequence may be found, once, twice or never. Its last fifteen bits alone
-/// are not enough: all sixteen must come since the search began.
+/// do not count: all sixteen must come since the search began.
 fn near_sequence(rng: &mut Rng) -> Bits {
     if rng.chance(15) {
         return bits_of(SEQUENCE, 15);
@@ -195,8 +199,8 @@ fn block(rng: &mut Rng, state: &Receiver) -> Bits {
     };
     match rng.below(10) {
         0 => cancel(&mut bits),
-        1 => invert(&mut bits, &Damage::Burst.pattern(rng, k + 20)),
-        2 => invert(&mut bits, &Damage::Undetected.pattern(rng, k + 20)),
+        1 => invert(&mut bits, &Damage::Burst.pattern(rng, block_bits(k))),
+        2 => invert(&mut bits, &Damage::Undetected.pattern(rng, block_bits(k))),
         _ => {}
     }
     bits
@@ -234,14 +238,13 @@ fn end_data(rng: &mut Rng, k: usize, taken: usize) -> Bits {
 
 #[cfg(test)]
 mod tests {
-    use super::super::EVENTS;
+    use super::super::{agreed, EVENTS};
     use super::*;
     use crate::calls::TableDriven;
 
     #[test]
     fn the_table_driven_receiver_agrees() {
-        let tally =
-            compare(&TableDriven, 8, 20_000).unwrap_or_else(|difference| panic!("{difference}"));
+        let tally = agreed(compare(&TableDriven, 8, 20_000));
         let kinds = [
             "refused 6",
             "refused 7",
@@ -249,7 +252,7 @@ mod tests {
             "flags and enums out of range",
             "fields out of range",
         ];
-        tally.above(100, &EVENTS);
-        tally.above(100, &kinds);
+        tally.assert_above(100, &EVENTS);
+        tally.assert_above(100, &kinds);
     }
 }

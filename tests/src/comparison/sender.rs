@@ -1,10 +1,10 @@
 //! Opening a sender, and random sessions of sending calls on state bytes of every kind.
 
 use super::block::REFUSED_LENGTHS;
-use super::lockstep::{Lockstep, Twin};
+use super::lockstep::{BufferPair, Lockstep};
 use super::loop_time::REFUSED_SPEEDS;
 use super::orders::Order;
-use super::{spoil, Difference, Lent, Tally};
+use super::{spoil, Difference, GuardedBuffer, Tally};
 use crate::calls::{Opening, SendingEnd};
 use crate::interface::{load_sender, store_word, SENDER_BYTES};
 use crate::reference::bits::bit_at;
@@ -15,9 +15,9 @@ use crate::reference::refusal::Refusal;
 use crate::reference::sender::{Sender, Sent};
 use crate::rng::Rng;
 
-/// Where the layout has the newer item and the run of cancels.
+/// Where the layout has the newer item and the cancel run.
 const NEWER: usize = 8;
-const RUN: usize = 12;
+const CANCEL_RUN: usize = 12;
 
 /// Runs the whole group.
 pub fn compare(tested: &impl SendingEnd, seed: u64, sessions: usize) -> Result<Tally, Difference> {
@@ -41,9 +41,9 @@ struct Session<'a, S> {
     tally: &'a mut Tally,
     order: Order,
     /// The sender's bytes, and some behind them.
-    state: Twin,
-    /// Readings of 1 in a hundred.
-    requests: usize,
+    state: BufferPair,
+    /// Readings of 1, in percent.
+    request_percent: usize,
 }
 
 impl<'a, S: SendingEnd> Session<'a, S> {
@@ -56,25 +56,25 @@ impl<'a, S: SendingEnd> Session<'a, S> {
         count_order(&order, tally);
         refused_opening(ends, &mut rng, &order, tally)?;
         let further = rng.below(4);
-        let mut state = Twin::random(&mut rng, SENDER_BYTES + further);
+        let mut state = BufferPair::random(&mut rng, SENDER_BYTES + further);
         let opening = good_opening(&mut rng, &order);
         let refused = ends.open_sender(opening, &order.bytes, &mut state)?;
         assert_eq!(refused, 0, "an opening that document 01 accepts");
-        let requests = rng.pick(&[0, 5, 20, 50, 90, 100]);
+        let request_percent = rng.pick(&[0, 5, 20, 50, 90, 100]);
         let mut session = Session {
             ends,
             rng,
             tally,
             order,
             state,
-            requests,
+            request_percent,
         };
-        session.move_on();
+        session.start_midway();
         Ok(session)
     }
 
     /// Now and then the session begins in the middle of the order, or of a run of cancels.
-    fn move_on(&mut self) {
+    fn start_midway(&mut self) {
         let items = self.order.items();
         let newer = match self.rng.below(10) {
             0..=3 => self.rng.between(1, items + 1),
@@ -85,8 +85,8 @@ impl<'a, S: SendingEnd> Session<'a, S> {
         store_word(&mut bytes, 0, newer);
         self.state.write(NEWER, &bytes);
         if self.rng.chance(10) {
-            let run = self.rng.below(64) as u8;
-            self.state.write(RUN, &[run]);
+            let cancel_run = self.rng.below(64) as u8;
+            self.state.write(CANCEL_RUN, &[cancel_run]);
         }
     }
 
@@ -95,11 +95,11 @@ impl<'a, S: SendingEnd> Session<'a, S> {
     }
 
     fn run(mut self) -> Result<(), Difference> {
-        let most = if self.requests == 100 { 250 } else { 40 };
+        let most = if self.request_percent == 100 { 250 } else { 40 };
         let calls = self.rng.between(1, most);
         for _ in 0..calls {
-            if self.requests < 100 && self.rng.chance(5) {
-                self.requests = self.rng.pick(&[0, 20, 50, 100]);
+            if self.request_percent < 100 && self.rng.chance(5) {
+                self.request_percent = self.rng.pick(&[0, 20, 50, 100]);
             }
             match self.rng.below(20) {
                 0 => self.spoiled_call()?,
@@ -117,12 +117,12 @@ impl<'a, S: SendingEnd> Session<'a, S> {
     fn call(&mut self) -> Result<(), Difference> {
         let further = self.rng.below(4);
         let bytes = block_bytes(self.order.k) + further;
-        let rested = self.sender().rests();
+        let was_at_rest = self.sender().rests();
         let mut state = self.state.clone();
         self.send(&mut state, self.order.bytes.len(), bytes)?;
         self.state = state;
         let sender = self.sender();
-        if !rested && sender.rests() {
+        if !was_at_rest && sender.rests() {
             self.tally.count(match sender.finished {
                 true => "finished",
                 false => "gave up",
@@ -131,7 +131,7 @@ impl<'a, S: SendingEnd> Session<'a, S> {
         Ok(())
     }
 
-    /// A call on changed bytes, which the session then forgets.
+    /// A call on changed bytes, from which the session does not go on.
     fn spoiled_call(&mut self) -> Result<(), Difference> {
         let bytes = spoil::sender(&mut self.rng, self.state.slice());
         self.tally.count(match load_sender(&bytes) {
@@ -139,24 +139,29 @@ impl<'a, S: SendingEnd> Session<'a, S> {
             None => "flags and enums out of range",
             Some(_) => "fields changed",
         });
-        let mut state = Twin::new(Lent::around(&mut self.rng, &bytes));
-        let right = block_bytes(self.order.k);
-        let bytes = self.rng.pick(&[right, right - 1, 0, 483]);
+        let mut state = BufferPair::new(GuardedBuffer::around(&mut self.rng, &bytes));
+        let needed = block_bytes(self.order.k);
+        let bytes = self.rng.pick(&[needed, needed - 1, 0, 483]);
         self.send(&mut state, self.order.bytes.len(), bytes)
     }
 
     /// A call with the order or the block's place too short, or just not.
     fn short_call(&mut self) -> Result<(), Difference> {
-        let (least, right) = (self.order.length.div_ceil(8), block_bytes(self.order.k));
-        let order = self.rng.pick(&[least, least - 1, 0]);
-        let bytes = self.rng.pick(&[right, right - 1, 0]);
+        let (order, block) = (self.order.length.div_ceil(8), block_bytes(self.order.k));
+        let order = self.rng.pick(&[order, order - 1, 0]);
+        let bytes = self.rng.pick(&[block, block - 1, 0]);
         let mut state = self.state.clone();
         self.send(&mut state, order, bytes)
     }
 
-    fn send(&mut self, state: &mut Twin, order: usize, bytes: usize) -> Result<(), Difference> {
-        let reading = self.rng.chance(self.requests);
-        let mut block = Twin::random(&mut self.rng, bytes);
+    fn send(
+        &mut self,
+        state: &mut BufferPair,
+        order: usize,
+        bytes: usize,
+    ) -> Result<(), Difference> {
+        let reading = self.rng.chance(self.request_percent);
+        let mut block = BufferPair::random(&mut self.rng, bytes);
         let order = &self.order.bytes[..order];
         let sent = self.ends.send(state, order, reading, &mut block)?;
         self.count(sent);
@@ -171,7 +176,7 @@ impl<'a, S: SendingEnd> Session<'a, S> {
             } => "cancelled",
             Sent::Item { end: true, .. } => "end blocks",
             Sent::Item { .. } => "items",
-            Sent::Refused(number) => refused_word(number),
+            Sent::Refused(number) => refusal_name(number),
         });
     }
 }
@@ -202,7 +207,7 @@ fn good_opening(rng: &mut Rng, order: &Order) -> Opening {
     }
 }
 
-/// An opening with one or two arguments changed, most often for the worse.
+/// An opening with one or two arguments changed, most often to refused ones.
 fn refused_opening<S: SendingEnd>(
     ends: &Lockstep<S, ()>,
     rng: &mut Rng,
@@ -221,7 +226,7 @@ fn refused_opening<S: SendingEnd>(
             _ => state = rng.pick(&[0, SENDER_BYTES - 1]),
         }
     }
-    let mut state = Twin::random(rng, state);
+    let mut state = BufferPair::random(rng, state);
     let answer = ends.open_sender(opening, &order.bytes[..bytes], &mut state)?;
     tally.count(match answer {
         0 => "opened",
@@ -235,8 +240,8 @@ fn refused_opening<S: SendingEnd>(
     Ok(())
 }
 
-/// The kind of a refused step.
-pub fn refused_word(number: Refusal) -> &'static str {
+/// The name under which a refused step is counted.
+pub fn refusal_name(number: Refusal) -> &'static str {
     match number {
         6 => "refused 6",
         7 => "refused 7",
@@ -247,13 +252,13 @@ pub fn refused_word(number: Refusal) -> &'static str {
 
 #[cfg(test)]
 mod tests {
+    use super::super::agreed;
     use super::*;
     use crate::calls::TableDriven;
 
     #[test]
     fn the_table_driven_sender_agrees() {
-        let tally =
-            compare(&TableDriven, 5, 3_000).unwrap_or_else(|difference| panic!("{difference}"));
+        let tally = agreed(compare(&TableDriven, 5, 3_000));
         let kinds = [
             "synchronising",
             "cancelled",
@@ -278,6 +283,6 @@ mod tests {
             "orders of 262144 bits",
             "orders with ones behind L",
         ];
-        tally.above(10, &kinds);
+        tally.assert_above(10, &kinds);
     }
 }

@@ -12,7 +12,7 @@ const WORKED: [&str; 2] = [
     "240 241 00000000000000000000000000000000000000000000000000000000000000\nt\nd\nf\n",
 ];
 
-/// Words that tell which kinds of lines the outputs had.
+/// Texts by which the kinds of lines in the outputs are counted.
 const KINDS: [&str; 14] = [
     "!",
     "sync",
@@ -46,7 +46,7 @@ pub fn compare(tested: &impl RunProgram, seed: u64, scripts: usize) -> Result<Ta
         let mut rng = Rng::for_case(seed, number);
         let script = match number % 500 {
             0 => longest(&mut rng),
-            1..=100 => strange(&mut rng),
+            1..=100 => altered_script(&mut rng),
             _ => script(&mut rng),
         };
         compare_script(tested, &script, &mut tally)
@@ -129,15 +129,15 @@ fn longest(rng: &mut Rng) -> Vec<u8> {
 }
 
 /// A script whose first line is at a border, or that is changed or cut in some place.
-fn strange(rng: &mut Rng) -> Vec<u8> {
+fn altered_script(rng: &mut Rng) -> Vec<u8> {
     let mut text = script(rng);
     let line = text.iter().position(|&byte| byte == b'\n').unwrap_or(0);
     let whole = text.len();
     match rng.below(6) {
         0 => return readable_line(rng).into_bytes(),
         1 => return unreadable_line(rng).into_bytes(),
-        2 | 3 => change(rng, &mut text, line),
-        4 => change(rng, &mut text, whole),
+        2 | 3 => change_bytes(rng, &mut text, line),
+        4 => change_bytes(rng, &mut text, whole),
         _ => text.truncate(rng.below(12)),
     }
     text
@@ -168,7 +168,7 @@ fn unreadable_line(rng: &mut Rng) -> String {
 }
 
 /// Changes one to three bytes before `end`.
-fn change(rng: &mut Rng, text: &mut Vec<u8>, end: usize) {
+fn change_bytes(rng: &mut Rng, text: &mut Vec<u8>, end: usize) {
     for _ in 0..rng.between(1, 3) {
         let place = rng.below(end.min(text.len()).max(1));
         let byte = rng.pick(b"0123456789abcdefABCDEFtfd \n\r\t-+xS!\0\xFF");
@@ -195,6 +195,6 @@ mod tests {
     #[test]
     fn scripts_bring_every_kind_of_line() {
         let tally = compare(&Reference, 9, 1_000).unwrap();
-        tally.above(2, &KINDS);
+        tally.assert_above(2, &KINDS);
     }
 }

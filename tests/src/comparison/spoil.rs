@@ -22,13 +22,18 @@ fn any_length(rng: &mut Rng) -> usize {
     }
 }
 
-/// A sender's bytes with one to three changes.
-pub fn sender(rng: &mut Rng, state: &[u8]) -> Vec<u8> {
-    let mut bytes = state[..SENDER_BYTES].to_vec();
+/// A state's bytes with one to three of these changes, seldom in a slice of another length.
+fn changed(rng: &mut Rng, state: &[u8], change: fn(&mut Rng, &mut [u8])) -> Vec<u8> {
+    let mut bytes = state.to_vec();
     for _ in 0..rng.between(1, 3) {
-        spoil_sender(rng, &mut bytes);
+        change(rng, &mut bytes);
     }
     with_length(rng, bytes)
+}
+
+/// A sender's bytes, changed.
+pub fn sender(rng: &mut Rng, state: &[u8]) -> Vec<u8> {
+    changed(rng, &state[..SENDER_BYTES], spoil_sender)
 }
 
 fn spoil_sender(rng: &mut Rng, bytes: &mut [u8]) {
@@ -49,13 +54,9 @@ fn spoil_sender(rng: &mut Rng, bytes: &mut [u8]) {
     }
 }
 
-/// A receiver's bytes with one to three changes.
+/// A receiver's bytes, changed.
 pub fn receiver(rng: &mut Rng, state: &[u8]) -> Vec<u8> {
-    let mut bytes = state[..RECEIVER_BYTES].to_vec();
-    for _ in 0..rng.between(1, 3) {
-        spoil_receiver(rng, &mut bytes);
-    }
-    with_length(rng, bytes)
+    changed(rng, &state[..RECEIVER_BYTES], spoil_receiver)
 }
 
 fn spoil_receiver(rng: &mut Rng, bytes: &mut [u8]) {

@@ -41,7 +41,7 @@ impl Ends {
         for &place in damage {
             arrives[place] ^= true;
         }
-        let held = self.list.sent(&Sending {
+        let claims = self.list.after_sending(&Sending {
             before: &before,
             after: &after,
             sent,
@@ -53,27 +53,27 @@ impl Ends {
             arrives: &arrives,
         });
         self.sender = after;
-        (arrives, held)
+        (arrives, claims)
     }
 
     /// A whole period.
     fn period(&mut self, reading: u8, damage: &[usize]) -> Result<(), Failure> {
-        let (arrives, held) = self.send(reading, damage);
-        held?;
+        let (arrives, claims) = self.send(reading, damage);
+        claims?;
         let receiver = self.receiver.clone();
         let (receiver, received) = receiver.receive(&pack(&arrives), N, &mut self.store);
         self.receiver = receiver;
         self.report(received)
     }
 
-    /// A period in which the machine says something of its own.
-    fn pretend(&mut self, reading: u8, event: Event) -> Result<(), Failure> {
+    /// A period with this event reported, whatever the receiver would answer.
+    fn false_report(&mut self, reading: u8, event: Event) -> Result<(), Failure> {
         self.send(reading, &[]).1?;
-        self.report(Received::Heard { event, used: N })
+        self.report(Received::Reported { event, used: N })
     }
 
     fn report(&mut self, received: Received) -> Result<(), Failure> {
-        self.list.received(&Receiving {
+        self.list.after_receiving(&Receiving {
             received,
             bits: N,
             line_bytes: block_bytes(K),
@@ -92,7 +92,7 @@ fn two_losses_with_no_good_block_between_break_that_clause() {
     }
     ends.period(0, &[]).unwrap();
     assert_eq!(ends.list.broken(), Some(Supposition::GoodBlock));
-    assert_eq!(ends.list.lost(), 2);
+    assert_eq!(ends.list.lost_requests(), 2);
 }
 
 #[test]
@@ -117,7 +117,7 @@ fn false_reports_fail_their_claims() {
     let fails = |event| {
         let mut ends = Ends::open(2);
         ends.period(1, &[]).unwrap();
-        ends.pretend(0, event).unwrap_err()
+        ends.false_report(0, event).unwrap_err()
     };
     assert!(fails(Event::Accepted).contains("beginning of the order"));
     assert!(fails(Event::Ended(480)).contains("r is N"));
@@ -126,7 +126,7 @@ fn false_reports_fail_their_claims() {
 }
 
 #[test]
-fn a_touched_store_fails_its_claim() {
+fn a_changed_store_fails_its_claim() {
     let mut ends = Ends::open(2);
     ends.period(1, &[]).unwrap();
     ends.store[59] = 0;
@@ -138,9 +138,9 @@ fn a_touched_store_fails_its_claim() {
 fn a_machine_that_never_accepts_fails_after_six_periods() {
     let mut ends = Ends::open(2);
     for _ in 0..5 {
-        ends.pretend(1, Event::None).unwrap();
+        ends.false_report(1, Event::None).unwrap();
     }
-    let failure = ends.pretend(1, Event::None).unwrap_err();
+    let failure = ends.false_report(1, Event::None).unwrap_err();
     assert!(failure.contains("six undisturbed"), "{failure}");
 }
 
@@ -149,8 +149,8 @@ fn a_finished_sender_without_the_end_fails() {
     let mut ends = Ends::open(1);
     ends.period(1, &[]).unwrap();
     ends.period(0, &[]).unwrap();
-    ends.pretend(0, Event::Bad).unwrap();
-    let failure = ends.pretend(0, Event::Bad).unwrap_err();
+    ends.false_report(0, Event::Bad).unwrap();
+    let failure = ends.false_report(0, Event::Bad).unwrap_err();
     assert!(failure.contains("reported the end"), "{failure}");
 }
 
@@ -159,7 +159,7 @@ fn refusals_are_for_short_slices_alone() {
     let mut ends = Ends::open(1);
     let failure = ends.report(Received::Refused(7)).unwrap_err();
     assert!(failure.contains("short slice"), "{failure}");
-    ends.sender.run = 70;
+    ends.sender.cancel_run = 70;
     assert!(ends.send(0, &[]).1.is_err());
 }
 
@@ -167,9 +167,9 @@ fn refusals_are_for_short_slices_alone() {
 fn a_sync_inside_a_data_block_breaks_its_clause() {
     let mut ends = Ends::open(2);
     ends.period(1, &[]).unwrap();
-    ends.pretend(0, Event::Sync).unwrap();
+    ends.false_report(0, Event::Sync).unwrap();
     assert_eq!(ends.list.broken(), Some(Supposition::OnlySynchronising));
     let mut ends = Ends::open(2);
-    ends.pretend(1, Event::Previous).unwrap();
+    ends.false_report(1, Event::Previous).unwrap();
     assert_eq!(ends.list.broken(), Some(Supposition::NeverData));
 }

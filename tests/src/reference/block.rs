@@ -22,7 +22,7 @@ pub const SEQUENCE: usize = 0b0101_0000_1010_0101;
 /// x^16 + x^12 + x^5 + 1, highest power first.
 const GENERATOR: usize = 0b1_0001_0000_0010_0001;
 
-/// What reading a block answers.
+/// What `read_block` answers.
 #[derive(Clone, Copy, Debug, PartialEq, Eq)]
 pub enum Read {
     /// The check passes; the service bits.
@@ -52,16 +52,16 @@ pub fn payload_bytes(k: usize) -> usize {
 /// The remainder of a polynomial, highest power first, divided by the generator: long division.
 pub fn remainder(polynomial: &[bool]) -> Bits {
     let generator = bits_of(GENERATOR, CHECK_BITS + 1);
-    let mut row = polynomial.to_vec();
-    let quotient = row.len().saturating_sub(CHECK_BITS);
-    for i in 0..quotient {
-        if row[i] {
+    let mut dividend = polynomial.to_vec();
+    let quotient_bits = dividend.len().saturating_sub(CHECK_BITS);
+    for i in 0..quotient_bits {
+        if dividend[i] {
             for (j, &coefficient) in generator.iter().enumerate() {
-                row[i + j] ^= coefficient;
+                dividend[i + j] ^= coefficient;
             }
         }
     }
-    row.split_off(quotient)
+    dividend.split_off(quotient_bits)
 }
 
 /// The remainder of the polynomial times x to the 16th.

@@ -31,11 +31,11 @@ fn end_block(version: u8, length: usize) -> Vec<u8> {
     pack(&assemble(END, &payload))
 }
 
-/// One whole block into a store that is long enough.
-fn hear(state: Receiver, block: &[u8]) -> (Receiver, Event) {
+/// One whole block, with a store that has room for every item.
+fn receive_block(state: Receiver, block: &[u8]) -> (Receiver, Event) {
     let mut store = vec![0; 1094 * K / 8];
     match state.receive(block, N, &mut store) {
-        (state, Received::Heard { event, used: N }) => (state, event),
+        (state, Received::Reported { event, used: N }) => (state, event),
         (_, other) => panic!("{other:?}"),
     }
 }
@@ -43,7 +43,7 @@ fn hear(state: Receiver, block: &[u8]) -> (Receiver, Event) {
 #[test]
 fn no_bits_change_nothing() {
     let state = in_step(3);
-    let none = Received::Heard {
+    let none = Received::Reported {
         event: Event::None,
         used: 0,
     };
@@ -52,7 +52,7 @@ fn no_bits_change_nothing() {
         alarm: Some(Alarm::Length),
         ..in_step(3)
     };
-    let again = Received::Heard {
+    let again = Received::Reported {
         event: Event::LengthAlarm,
         used: 0,
     };
@@ -71,13 +71,13 @@ fn a_short_line_is_refused_under_an_alarm_too() {
     let (after, received) = alarmed.receive(&[0], 8, &mut []);
     assert!(after.return_bit);
     let event = Event::SequenceAlarm;
-    assert_eq!(received, Received::Heard { event, used: 8 });
+    assert_eq!(received, Received::Reported { event, used: 8 });
 }
 
 #[test]
 fn a_block_bit_by_bit_is_the_block_at_once() {
     let line = block(A);
-    let (whole, event) = hear(in_step(0), &line);
+    let (whole, event) = receive_block(in_step(0), &line);
     assert_eq!(event, Event::Accepted);
     let mut state = in_step(0);
     let mut store = [0xFF; 30];
@@ -85,7 +85,7 @@ fn a_block_bit_by_bit_is_the_block_at_once() {
         let bit = [line[i / 8] << (i % 8)];
         let (next, received) = state.receive(&bit, 1, &mut store);
         let event = if i == N - 1 { event } else { Event::None };
-        assert_eq!(received, Received::Heard { event, used: 1 });
+        assert_eq!(received, Received::Reported { event, used: 1 });
         state = next;
     }
     assert_eq!(state, whole);
@@ -98,83 +98,89 @@ fn a_search_finds_the_sequence_where_it_first_ends() {
     let state = receiver::open(K).unwrap();
     let (state, received) = state.receive(&line, 23, &mut []);
     let event = Event::None;
-    assert_eq!(received, Received::Heard { event, used: 23 });
+    assert_eq!(received, Received::Reported { event, used: 23 });
     assert_eq!(
         (state.held, state.array[0], state.array[1]),
         (15, 0x50, 0xA4)
     );
     let (state, received) = state.receive(&[0x80], 1, &mut []);
     let event = Event::Sync;
-    assert_eq!(received, Received::Heard { event, used: 1 });
+    assert_eq!(received, Received::Reported { event, used: 1 });
     assert!(!state.search && !state.return_bit && state.held == 0);
 }
 
 #[test]
 fn the_sequence_must_arrive_whole_since_the_search_began() {
     let state = Receiver {
-        row: 7,
+        bad_row: 7,
         ..in_step(0)
     };
     let mut line = [0xFF; 33];
     (line[31], line[32]) = (0xF5, 0x00);
-    let (state, event) = hear(state, &line);
-    assert_eq!((event, state.search, state.row), (Event::Bad, true, 0));
+    let (state, event) = receive_block(state, &line);
+    assert_eq!((event, state.search, state.bad_row), (Event::Bad, true, 0));
     let (state, received) = state.receive(&[0xA5, 0x00], 10, &mut []);
     let event = Event::None;
-    assert_eq!(received, Received::Heard { event, used: 10 });
+    assert_eq!(received, Received::Reported { event, used: 10 });
     assert_eq!(state.held, 10);
 }
 
 #[test]
 fn the_eighth_bad_starts_a_search_and_a_synchronising_block_is_none() {
-    let row = |row| Receiver { row, ..in_step(2) };
+    let after_bad = |bad_row| Receiver {
+        bad_row,
+        ..in_step(2)
+    };
     let mut damaged = block(C);
     damaged[5] ^= 1;
-    let (state, event) = hear(row(6), &damaged);
-    assert_eq!((event, state.row, state.search), (Event::Bad, 7, false));
+    let (state, event) = receive_block(after_bad(6), &damaged);
+    assert_eq!((event, state.bad_row, state.search), (Event::Bad, 7, false));
     let synchronising = pack(&synchronising_block(K));
-    let (state, event) = hear(state, &synchronising);
-    assert_eq!((event, state.row, state.search), (Event::Sync, 0, false));
-    let (state, event) = hear(row(7), &damaged);
-    assert_eq!((event, state.row, state.search), (Event::Bad, 0, true));
+    let (state, event) = receive_block(state, &synchronising);
+    assert_eq!(
+        (event, state.bad_row, state.search),
+        (Event::Sync, 0, false)
+    );
+    let (state, event) = receive_block(after_bad(7), &damaged);
+    assert_eq!((event, state.bad_row, state.search), (Event::Bad, 0, true));
 }
 
 #[test]
 fn rule_seven_at_no_item_goes_back_to_search_and_rule_two_does_not() {
     for service in [C, 0, 0b0101, 0b1111] {
-        let (state, event) = hear(in_step(0), &block(service));
-        assert_eq!((event, state.search, state.row), (Event::Bad, true, 0));
+        let (state, event) = receive_block(in_step(0), &block(service));
+        assert_eq!((event, state.search, state.bad_row), (Event::Bad, true, 0));
         assert!(state.return_bit);
     }
-    let (state, event) = hear(in_step(1), &block(0));
-    assert_eq!((event, state.search, state.row), (Event::Bad, false, 1));
+    let (state, event) = receive_block(in_step(1), &block(0));
+    assert_eq!((event, state.search, state.bad_row), (Event::Bad, false, 1));
     let mut damaged = block(C);
     damaged[5] ^= 1;
-    let (state, event) = hear(in_step(0), &damaged);
-    assert_eq!((event, state.search, state.row), (Event::Bad, false, 1));
+    let (state, event) = receive_block(in_step(0), &damaged);
+    assert_eq!((event, state.search, state.bad_row), (Event::Bad, false, 1));
 }
 
 #[test]
 fn rule_five_holds_at_no_item() {
-    let (state, event) = hear(in_step(0), &block(B));
+    let (state, event) = receive_block(in_step(0), &block(B));
     assert_eq!(event, Event::SequenceAlarm);
     assert_eq!(state.alarm, Some(Alarm::Sequence));
-    let (_, event) = hear(in_step(0), &end_block(1, 8));
+    let (_, event) = receive_block(in_step(0), &end_block(1, 8));
     assert_eq!(event, Event::LengthAlarm);
 }
 
 #[test]
 fn no_item_is_taken_behind_the_most() {
     // 1093 leaves 1 divided by 3: the next would carry B, the previous carries A.
-    let (_, event) = hear(in_step(1092), &block(A));
+    let (_, event) = receive_block(in_step(1092), &block(A));
     assert_eq!(event, Event::Accepted);
-    let (state, event) = hear(in_step(1093), &block(B));
+    let (state, event) = receive_block(in_step(1093), &block(B));
     assert_eq!((event, state.taken), (Event::Bad, 1093));
-    let (_, event) = hear(in_step(1093), &block(A));
+    let (_, event) = receive_block(in_step(1093), &block(A));
     assert_eq!(event, Event::Previous);
-    let (_, event) = hear(in_step(1093), &block(C));
+    let (_, event) = receive_block(in_step(1093), &block(C));
     assert_eq!(event, Event::SequenceAlarm);
-    let (_, event) = hear(in_step(1093), &end_block(1, 262_144));
+    let (_, event) = receive_block(in_step(1093), &end_block(1, 262_144));
     assert_eq!(event, Event::Ended(262_144));
     let (state, received) = in_step(1094).receive(&[], 0, &mut []);
     assert_eq!((state.taken, received), (1094, Received::Refused(7)));
@@ -182,17 +188,17 @@ fn no_item_is_taken_behind_the_most() {
 
 #[test]
 fn an_end_is_judged_by_version_and_length() {
-    let (state, event) = hear(in_step(2), &end_block(1, 241));
+    let (state, event) = receive_block(in_step(2), &end_block(1, 241));
     assert_eq!((event, state.end_taken), (Event::Ended(241), true));
     for (version, length) in [(1, 240), (1, 481), (0, 241), (1, 0), (1, 1 << 31)] {
-        let (state, event) = hear(in_step(2), &end_block(version, length));
+        let (state, event) = receive_block(in_step(2), &end_block(version, length));
         assert_eq!(event, Event::LengthAlarm, "version {version}, L {length}");
         assert!(state.return_bit && !state.end_taken);
     }
-    let (state, event) = hear(state, &end_block(0, 7));
+    let (state, event) = receive_block(state, &end_block(0, 7));
     assert_eq!(event, Event::Previous);
     for letter in [A, B, C] {
-        let (_, event) = hear(state.clone(), &block(letter));
+        let (_, event) = receive_block(state.clone(), &block(letter));
         assert_eq!(event, Event::SequenceAlarm);
     }
 }
@@ -207,10 +213,10 @@ fn a_short_store_refuses_the_block_that_would_be_accepted() {
     assert_eq!(store, [0xEE; 119]);
     let (_, received) = state.clone().receive(&line, N - 1, &mut store);
     let event = Event::None;
-    assert_eq!(received, Received::Heard { event, used: 259 });
+    assert_eq!(received, Received::Reported { event, used: 259 });
     let (_, received) = state.receive(&block(C), N, &mut []);
     let event = Event::Previous;
-    assert_eq!(received, Received::Heard { event, used: N });
+    assert_eq!(received, Received::Reported { event, used: N });
 }
 
 #[test]
@@ -220,20 +226,14 @@ fn a_sender_gives_up_at_the_sixty_fourth_cancel() {
     let mut block = [0; 33];
     while !sender.rests() {
         let (next, sent) = sender.send(&[0xA5], true, &mut block);
-        cancels += usize::from(matches!(
-            sent,
-            Sent::Item {
-                cancelled: true,
-                ..
-            }
-        ));
+        cancels += usize::from(sent.is_cancelled());
         sender = next;
     }
-    assert_eq!((cancels, sender.run), (64, 64));
+    assert_eq!((cancels, sender.cancel_run), (64, 64));
     assert!(sender.gave_up() && !sender.finished);
     let (_, sent) = sender.clone().send(&[], false, &mut []);
     assert_eq!(sent, Sent::Refused(8));
-    sender.run = 65;
+    sender.cancel_run = 65;
     let (_, sent) = sender.send(&[], false, &mut []);
     assert_eq!(sent, Sent::Refused(7));
 }

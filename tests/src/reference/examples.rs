@@ -10,24 +10,24 @@ use super::sender::{self, Sent};
 use super::session::run;
 
 #[test]
-fn check_words_of_four_service_bits_alone() {
-    let rows = [
+fn check_bits_of_four_service_bits_alone() {
+    let examples = [
         (A, 0x3063),
         (B, 0x9129),
         (C, 0xC18C),
         (SYNCHRONISING, 0x50A5),
         (END, 0x8108),
     ];
-    for (service, word) in rows {
+    for (service, expected) in examples {
         let check = check_bits(&bits_of(usize::from(service), 4));
-        assert_eq!(number(&check), word, "service bits {service:04b}");
+        assert_eq!(number(&check), expected, "service bits {service:04b}");
     }
 }
 
 #[test]
 fn orders_make_their_items() {
-    let rows = [(1, 1), (240, 1), (241, 2), (262_144, 1_093)];
-    for (length, number) in rows {
+    let examples = [(1, 1), (240, 1), (241, 2), (262_144, 1_093)];
+    for (length, number) in examples {
         assert_eq!(items(240, length), number, "L {length}");
     }
 }
@@ -47,8 +47,8 @@ fn longest_loops_are_the_table_of_the_recommendation() {
         [4810, 1543, 727, 318, 182, 114].map(Some),
         [19210, 6343, 3127, 1518, 982, 714].map(Some),
     ];
-    for (k, row) in LENGTHS.into_iter().zip(table) {
-        for (speed, entry) in SPEEDS.into_iter().zip(row) {
+    for (k, entries) in LENGTHS.into_iter().zip(table) {
+        for (speed, entry) in SPEEDS.into_iter().zip(entries) {
             assert_eq!(longest_loop(k, speed), entry, "k {k}, speed {speed}");
         }
     }
@@ -97,7 +97,7 @@ fn two_losses_with_no_good_block_between() {
         block[0] ^= damaged << 7;
         let (next, received) = receiver.receive(&block, 260, &mut store);
         receiver = next;
-        if let Received::Heard { event, used: 260 } = received {
+        if let Received::Reported { event, used: 260 } = received {
             events.push(event);
         }
     }
@@ -115,11 +115,11 @@ fn blocks_read_back_and_cancelled_ones_fail() {
         let mut block = vec![0; block_bytes(k)];
         assert_eq!(build_block(k, C, &payload, &mut block), Ok(()));
         assert_eq!(block[k / 8 + 2] & 0x0F, 0, "spare bits are zero");
-        let mut back = vec![0; k / 8];
-        assert_eq!(read_block(k, &block, &mut back), Read::Passed(C));
-        assert_eq!(back, payload);
+        let mut data = vec![0; k / 8];
+        assert_eq!(read_block(k, &block, &mut data), Read::Passed(C));
+        assert_eq!(data, payload);
         block[k / 8 + 2] ^= 0x10;
-        assert_eq!(read_block(k, &block, &mut back), Read::Failed);
+        assert_eq!(read_block(k, &block, &mut data), Read::Failed);
     }
 }
 

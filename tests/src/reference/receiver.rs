@@ -7,14 +7,24 @@ use super::order::{end_fields, fits_end, is_letter, letter, MOST_ITEMS};
 use super::refusal::{Refusal, BLOCK, SHORT, SPOILED};
 
 /// The bytes that hold one unfinished block, at most 3,860 bits.
-pub const HOLD_BYTES: usize = 483;
-/// The *bad* in a row that starts a search.
-pub const BAD_ROW: usize = 8;
+pub const HELD_BYTES: usize = 483;
+/// The bad row, the number of *bad* in a row, that starts a search.
+pub const BAD_ROW_LIMIT: usize = 8;
 
 #[derive(Clone, Copy, Debug, PartialEq, Eq)]
 pub enum Alarm {
     Sequence,
     Length,
+}
+
+impl Alarm {
+    /// The event that reports it.
+    pub fn event(self) -> Event {
+        match self {
+            Alarm::Sequence => Event::SequenceAlarm,
+            Alarm::Length => Event::LengthAlarm,
+        }
+    }
 }
 
 /// A receiver's state.
@@ -23,10 +33,10 @@ pub struct Receiver {
     pub k: usize,
     pub search: bool,
     /// The bits held come first in the array.
-    pub array: [u8; HOLD_BYTES],
+    pub array: [u8; HELD_BYTES],
     pub held: usize,
     /// The number of *bad* in a row.
-    pub row: usize,
+    pub bad_row: usize,
     pub return_bit: bool,
     /// r, the number of items taken so far.
     pub taken: usize,
@@ -48,8 +58,8 @@ pub enum Event {
 }
 
 impl Event {
-    /// Document 01's word.
-    pub fn word(self) -> &'static str {
+    /// Document 01's name of it.
+    pub fn name(self) -> &'static str {
         match self {
             Event::None => "none",
             Event::Sync => "sync",
@@ -66,7 +76,7 @@ impl Event {
 /// What a receiving call answers.
 #[derive(Clone, Copy, Debug, PartialEq, Eq)]
 pub enum Received {
-    Heard { event: Event, used: usize },
+    Reported { event: Event, used: usize },
     Refused(Refusal),
 }
 
@@ -78,9 +88,9 @@ pub fn open(k: usize) -> Result<Receiver, Refusal> {
     Ok(Receiver {
         k,
         search: true,
-        array: [0; HOLD_BYTES],
+        array: [0; HELD_BYTES],
         held: 0,
-        row: 0,
+        bad_row: 0,
         return_bit: true,
         taken: 0,
         end_taken: false,
@@ -98,44 +108,40 @@ impl Receiver {
             return (self, Received::Refused(SHORT));
         }
         if bits == 0 || self.alarm.is_some() {
-            return self.stand(bits);
+            return self.alarm_or_none(bits);
         }
         let mut state = self.clone();
         for i in 0..bits {
             match state.take_bit(bit_at(line, i), store) {
                 Ok(Event::None) => {}
-                Ok(event) => return (state, Received::Heard { event, used: i + 1 }),
+                Ok(event) => return (state, Received::Reported { event, used: i + 1 }),
                 Err(refusal) => return (self, Received::Refused(refusal)),
             }
         }
         let event = Event::None;
-        (state, Received::Heard { event, used: bits })
+        (state, Received::Reported { event, used: bits })
     }
 
     /// Whether a field is outside its range.
     pub fn is_spoiled(&self) -> bool {
         !is_length(self.k)
-            || self.row >= BAD_ROW
+            || self.bad_row >= BAD_ROW_LIMIT
             || self.held >= block_bits(self.k)
             || (self.search && self.held >= CHECK_BITS)
             || self.taken > MOST_ITEMS
     }
 
     /// No bits, or a standing alarm, under which all bits are used and the return bit is 1.
-    fn stand(mut self, bits: usize) -> (Receiver, Received) {
-        let event = match self.alarm {
-            None => Event::None,
-            Some(Alarm::Sequence) => Event::SequenceAlarm,
-            Some(Alarm::Length) => Event::LengthAlarm,
-        };
+    fn alarm_or_none(mut self, bits: usize) -> (Receiver, Received) {
+        let event = self.alarm.map_or(Event::None, Alarm::event);
         if bits > 0 {
             self.return_bit = true;
-            self.row = 0;
+            self.bad_row = 0;
         }
-        (self, Received::Heard { event, used: bits })
+        (self, Received::Reported { event, used: bits })
     }
 
-    /// One bit, with no alarm standing. A refusal leaves a state that is given up.
+    /// One bit, with no alarm standing. The state after a refusal is not used.
     fn take_bit(&mut self, bit: bool, store: &mut [u8]) -> Result<Event, Refusal> {
         if self.search {
             return Ok(self.search_bit(bit));
@@ -145,7 +151,7 @@ impl Receiver {
         if self.held < block_bits(self.k) {
             return Ok(Event::None);
         }
-        self.read(store)
+        self.judge(store)
     }
 
     /// *Search:* the latest bits, at most 15, are held at the array's start, zero behind them.
@@ -166,47 +172,47 @@ impl Receiver {
     }
 
     /// *In step,* at the n-th bit: rules 1 to 7.
-    fn read(&mut self, store: &mut [u8]) -> Result<Event, Refusal> {
+    fn judge(&mut self, store: &mut [u8]) -> Result<Event, Refusal> {
         let block = unpack(&self.array, 0, block_bits(self.k));
         let service = number(&block[..SERVICE_BITS]) as u8;
         let payload = &block[SERVICE_BITS..SERVICE_BITS + self.k];
-        let next = self.taken < MOST_ITEMS && !self.end_taken;
-        let again = self.taken >= 1 && !self.end_taken;
+        let may_accept = self.taken < MOST_ITEMS && !self.end_taken;
+        let may_repeat = self.taken >= 1 && !self.end_taken;
         Ok(if is_synchronising(&block) {
             self.synchronise()
         } else if !passes(&block) {
             self.bad()
-        } else if next && service == letter(self.taken) {
+        } else if may_accept && service == letter(self.taken) {
             return self.accept(payload, store);
-        } else if again && service == letter(self.taken - 1) {
-            self.calm(Event::Previous)
+        } else if may_repeat && service == letter(self.taken - 1) {
+            self.return_zero(Event::Previous)
         } else if service == letter(self.taken + 1) || self.end_taken && is_letter(service) {
-            self.raise(Alarm::Sequence, Event::SequenceAlarm)
+            self.raise_alarm(Alarm::Sequence)
         } else if service == END {
             self.end(payload)
         } else {
-            self.other()
+            self.anything_else()
         })
     }
 
     /// Rule 1, and the end of a search.
     fn synchronise(&mut self) -> Event {
         self.search = false;
-        self.calm(Event::Sync)
+        self.return_zero(Event::Sync)
     }
 
     /// Rule 2, and the first half of rule 7.
     fn bad(&mut self) -> Event {
-        self.forget();
+        self.clear_held();
         self.return_bit = true;
-        self.row += 1;
-        if self.row == BAD_ROW {
+        self.bad_row += 1;
+        if self.bad_row == BAD_ROW_LIMIT {
             self.start_search();
         }
         Event::Bad
     }
 
-    /// Rule 3. The store is judged here and nowhere else.
+    /// Rule 3. The store is judged here alone.
     fn accept(&mut self, payload: &[bool], store: &mut [u8]) -> Result<Event, Refusal> {
         let first = self.taken * self.k;
         if 8 * store.len() < first + self.k {
@@ -216,24 +222,24 @@ impl Receiver {
             set_bit(store, first + i, bit);
         }
         self.taken += 1;
-        Ok(self.calm(Event::Accepted))
+        Ok(self.return_zero(Event::Accepted))
     }
 
     /// Rule 6.
     fn end(&mut self, payload: &[bool]) -> Event {
         if self.end_taken {
-            return self.calm(Event::Previous);
+            return self.return_zero(Event::Previous);
         }
         let (version, length) = end_fields(payload);
         if !fits_end(self.k, version, length, self.taken) {
-            return self.raise(Alarm::Length, Event::LengthAlarm);
+            return self.raise_alarm(Alarm::Length);
         }
         self.end_taken = true;
-        self.calm(Event::Ended(length))
+        self.return_zero(Event::Ended(length))
     }
 
     /// Rule 7.
-    fn other(&mut self) -> Event {
+    fn anything_else(&mut self) -> Event {
         let event = self.bad();
         if self.taken == 0 {
             self.start_search();
@@ -243,28 +249,28 @@ impl Receiver {
 
     fn start_search(&mut self) {
         self.search = true;
-        self.row = 0;
+        self.bad_row = 0;
     }
 
     /// An event with return bit 0.
-    fn calm(&mut self, event: Event) -> Event {
-        self.forget();
-        self.row = 0;
+    fn return_zero(&mut self, event: Event) -> Event {
+        self.clear_held();
+        self.bad_row = 0;
         self.return_bit = false;
         event
     }
 
-    fn raise(&mut self, alarm: Alarm, event: Event) -> Event {
-        self.forget();
-        self.row = 0;
+    fn raise_alarm(&mut self, alarm: Alarm) -> Event {
+        self.clear_held();
+        self.bad_row = 0;
         self.return_bit = true;
         self.alarm = Some(alarm);
-        event
+        alarm.event()
     }
 
-    /// The block is read: nothing is held.
-    fn forget(&mut self) {
-        self.array = [0; HOLD_BYTES];
+    /// A block is finished: nothing is held.
+    fn clear_held(&mut self) {
+        self.array = [0; HELD_BYTES];
         self.held = 0;
     }
 }

@@ -26,7 +26,7 @@ pub struct Sender {
     pub length: usize,
     pub newer: usize,
     /// The run of cancels; 64 is how a sender has given up.
-    pub run: usize,
+    pub cancel_run: usize,
     pub opening: bool,
     pub next: Next,
     pub finished: bool,
@@ -44,6 +44,18 @@ pub enum Sent {
         cancelled: bool,
     },
     Refused(Refusal),
+}
+
+impl Sent {
+    pub fn is_cancelled(self) -> bool {
+        matches!(
+            self,
+            Sent::Item {
+                cancelled: true,
+                ..
+            }
+        )
+    }
 }
 
 /// Opens a sender; refusals in the order 1, 2, 3, 4, 5, 6.
@@ -68,7 +80,7 @@ pub fn open(
         k,
         length,
         newer: 1,
-        run: 0,
+        cancel_run: 0,
         opening: true,
         next: Next::Synchronising,
         finished: false,
@@ -91,10 +103,7 @@ impl Sender {
             Sent::Synchronising => synchronising_block(k),
             _ => item_block(k, length, order, item),
         };
-        if let Sent::Item {
-            cancelled: true, ..
-        } = sent
-        {
+        if sent.is_cancelled() {
             cancel(&mut bits);
         }
         block[..block_bytes(k)].copy_from_slice(&pack(&bits));
@@ -107,7 +116,7 @@ impl Sender {
     }
 
     pub fn gave_up(&self) -> bool {
-        self.run == GIVE_UP
+        self.cancel_run == GIVE_UP
     }
 
     fn judge(&self, order: &[u8], block: &[u8]) -> Result<(), Refusal> {
@@ -129,7 +138,7 @@ impl Sender {
             || !is_order_length(self.length)
             || self.newer < 1
             || self.newer > items(self.k, self.length) + 1
-            || self.run > GIVE_UP
+            || self.cancel_run > GIVE_UP
     }
 
     /// One step of the sender, whose next block is a synchronising one or `item`.
@@ -142,8 +151,8 @@ impl Sender {
         let end = item >= items(self.k, self.length);
         match (used, reading) {
             (false, _) => self.next = Next::Newer,
-            (true, false) => self.move_up(),
-            (true, true) => self.repeat(),
+            (true, false) => self.move_pair_up(),
+            (true, true) => self.count_cancel(),
         }
         Sent::Item {
             item,
@@ -154,8 +163,8 @@ impl Sender {
     }
 
     /// Newer, reading 0.
-    fn move_up(&mut self) {
-        self.run = 0;
+    fn move_pair_up(&mut self) {
+        self.cancel_run = 0;
         self.opening = false;
         if self.newer == items(self.k, self.length) + 1 {
             self.finished = true;
@@ -165,9 +174,9 @@ impl Sender {
     }
 
     /// Newer, reading 1.
-    fn repeat(&mut self) {
-        self.run += 1;
-        self.next = match self.opening || self.run >= RESYNCHRONISE {
+    fn count_cancel(&mut self) {
+        self.cancel_run += 1;
+        self.next = match self.opening || self.cancel_run >= RESYNCHRONISE {
             true => Next::Synchronising,
             false => Next::Older,
         };

@@ -1,4 +1,4 @@
-//! Document 01, the run program ("Examples, on either side"): a session's text in, its course out.
+//! Document 01, the run program ("Examples, on either side"): a session's text in, its periods out.
 
 use super::bits::{pack, unpack, Bits};
 use super::block::{block_bits, block_bytes};
@@ -14,13 +14,13 @@ const STORE_BYTES: usize = 33_120;
 
 /// Line one: k, L and the order. Numbers too large to hold stand as the largest.
 #[derive(Debug, PartialEq, Eq)]
-pub struct Opening {
+pub struct FirstLine {
     pub k: usize,
     pub length: usize,
     pub order: Vec<u8>,
 }
 
-/// Both ends of a session and what lies between them.
+/// Both ends of a session, its order and its store.
 struct Session {
     order: Vec<u8>,
     store: Vec<u8>,
@@ -33,15 +33,15 @@ struct Period {
     sent: Sent,
     reading: bool,
     event: Event,
-    back: bool,
+    return_bit: bool,
 }
 
 /// What the run program writes for this standard input.
 pub fn run(input: &[u8]) -> Vec<u8> {
     let mut output = String::from(HEADING);
     let mut lines = lines(input);
-    if let Some(opening) = lines.next().and_then(read_opening) {
-        if let Err(refusal) = run_session(opening, lines, &mut output) {
+    if let Some(first) = lines.next().and_then(parse_first_line) {
+        if let Err(refusal) = run_session(first, lines, &mut output) {
             output += &format!("refused {refusal}\n");
         }
     }
@@ -49,11 +49,11 @@ pub fn run(input: &[u8]) -> Vec<u8> {
 }
 
 fn run_session<'a>(
-    opening: Opening,
+    first: FirstLine,
     lines: impl Iterator<Item = &'a [u8]>,
     output: &mut String,
 ) -> Result<(), Refusal> {
-    let mut session = Session::open(opening)?;
+    let mut session = Session::open(first)?;
     for (number, line) in lines.enumerate() {
         let (turned, damaged) = match line {
             b"t" => (false, false),
@@ -62,7 +62,7 @@ fn run_session<'a>(
             _ => break,
         };
         let period = session.period(turned, damaged)?;
-        *output += &written(number, &period);
+        *output += &period_line(number, &period);
     }
     Ok(())
 }
@@ -75,7 +75,7 @@ fn lines(input: &[u8]) -> impl Iterator<Item = &[u8]> {
 }
 
 /// Reads line one: fields parted by one blank, the order may be missing, a blank may trail.
-pub fn read_opening(line: &[u8]) -> Option<Opening> {
+pub fn parse_first_line(line: &[u8]) -> Option<FirstLine> {
     let line = line.strip_suffix(b" ").unwrap_or(line);
     let fields: Vec<&[u8]> = line.split(|&byte| byte == b' ').collect();
     let (k, length, order) = match fields[..] {
@@ -83,7 +83,7 @@ pub fn read_opening(line: &[u8]) -> Option<Opening> {
         [k, length, order] => (k, length, Some(order)),
         _ => return None,
     };
-    Some(Opening {
+    Some(FirstLine {
         k: decimal(k)?,
         length: decimal(length)?,
         order: order.map_or(Some(Vec::new()), hexadecimal)?,
@@ -112,8 +112,8 @@ fn hexadecimal(field: &[u8]) -> Option<Vec<u8>> {
 }
 
 impl Session {
-    fn open(opening: Opening) -> Result<Session, Refusal> {
-        let Opening { k, length, order } = opening;
+    fn open(first: FirstLine) -> Result<Session, Refusal> {
+        let FirstLine { k, length, order } = first;
         let sender = sender::open(k, SPEED, LOOP_MS, length, &order)?;
         let receiver = receiver::open(k)?;
         let store = vec![0; STORE_BYTES];
@@ -138,12 +138,11 @@ impl Session {
         let mut bits = unpack(&block, 0, block_bits(k));
         bits[0] ^= damaged;
         let event = self.deliver(bits)?;
-        let back = self.receiver.return_bit;
         Ok(Period {
             sent,
             reading,
             event,
-            back,
+            return_bit: self.receiver.return_bit,
         })
     }
 
@@ -157,7 +156,7 @@ impl Session {
             self.receiver = receiver;
             match received {
                 Received::Refused(refusal) => return Err(refusal),
-                Received::Heard { event, used } => {
+                Received::Reported { event, used } => {
                     bits.drain(..used);
                     if event != Event::None {
                         last = event;
@@ -169,9 +168,9 @@ impl Session {
     }
 }
 
-fn written(number: usize, period: &Period) -> String {
+fn period_line(number: usize, period: &Period) -> String {
     let reading = u8::from(period.reading);
-    let (sent, read) = match period.sent {
+    let (sent, read_column) = match period.sent {
         Sent::Item {
             item,
             end,
@@ -180,16 +179,16 @@ fn written(number: usize, period: &Period) -> String {
         } => {
             let mark = if cancelled { "!" } else { "" };
             let name = if end { "E".into() } else { item.to_string() };
-            let read = if used {
+            let read_column = if used {
                 reading.to_string()
             } else {
                 "-".into()
             };
-            (format!("{mark}{name}"), read)
+            (format!("{mark}{name}"), read_column)
         }
         _ => ("S".into(), "-".into()),
     };
-    let event = period.event.word();
-    let back = u8::from(period.back);
-    format!("{number} {sent} {read} {event} {back}\n")
+    let event = period.event.name();
+    let return_bit = u8::from(period.return_bit);
+    format!("{number} {sent} {read_column} {event} {return_bit}\n")
 }

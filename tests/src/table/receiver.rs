@@ -1,27 +1,26 @@
 //! The table-driven sibling of the receiving call: bytes are moved, not bits, while it is in step.
 
-use super::{check_word, copy_payload, is_length, register, SHORT, SPOILED};
+use super::{check_bits, copy_payload, is_length, register};
+use super::{END, LETTERS, LONGEST, SHORT, SPOILED, VERSION};
 use crate::reference::receiver::{self, Alarm, Event, Received};
 
-const HOLD_BYTES: usize = 483;
+const HELD_BYTES: usize = 483;
 const MOST_ITEMS: usize = 1093;
-const LONGEST: usize = 262_144;
-const LETTERS: [u8; 3] = [0b0011, 0b1001, 0b1100];
+const BAD_ROW_LIMIT: usize = 8;
 const SYNCHRONISING: u8 = 0b0101;
-const END: u8 = 0b1000;
 const SEQUENCE: u16 = 0x50A5;
 
 #[derive(Clone, Copy, Debug, PartialEq, Eq)]
 pub struct Receiver {
     pub k: usize,
     pub held: usize,
-    pub row: usize,
+    pub bad_row: usize,
     pub taken: usize,
     pub search: bool,
     pub return_bit: bool,
     pub end_taken: bool,
     pub alarm: Option<Alarm>,
-    pub array: [u8; HOLD_BYTES],
+    pub array: [u8; HELD_BYTES],
 }
 
 impl From<receiver::Receiver> for Receiver {
@@ -29,7 +28,7 @@ impl From<receiver::Receiver> for Receiver {
         Receiver {
             k: state.k,
             held: state.held,
-            row: state.row,
+            bad_row: state.bad_row,
             taken: state.taken,
             search: state.search,
             return_bit: state.return_bit,
@@ -47,7 +46,7 @@ impl From<Receiver> for receiver::Receiver {
             search: state.search,
             array: state.array,
             held: state.held,
-            row: state.row,
+            bad_row: state.bad_row,
             return_bit: state.return_bit,
             taken: state.taken,
             end_taken: state.end_taken,
@@ -75,25 +74,25 @@ impl Receiver {
             return Received::Refused(SHORT);
         }
         if bits == 0 || self.alarm.is_some() {
-            return self.stand(bits);
+            return self.alarm_or_none(bits);
         }
         if self.search {
-            return self.look_for_sequence(line, bits);
+            return self.search_bits(line, bits);
         }
         let missing = self.k + 20 - self.held;
         if bits < missing {
             copy_bits(&mut self.array, self.held, line, bits);
             self.held += bits;
-            return heard(Event::None, bits);
+            return reported(Event::None, bits);
         }
         match self.finish(line, missing, store) {
-            Ok(event) => heard(event, missing),
+            Ok(event) => reported(event, missing),
             Err(refusal) => Received::Refused(refusal),
         }
     }
 
-    /// The missing bits have come. A block that stands whole in the line is judged there; another
-    /// is finished in a copy, since a refusal leaves the array as it was.
+    /// The missing bits are in the line. A block that is whole there is judged there; another is
+    /// finished in a copy, since a refusal leaves the array as it was.
     fn finish(&mut self, line: &[u8], missing: usize, store: &mut [u8]) -> Result<Event, u8> {
         let bytes = self.k / 8 + 3;
         if self.held == 0 {
@@ -106,25 +105,27 @@ impl Receiver {
 
     fn is_spoiled(&self) -> bool {
         let limit = if self.search { 16 } else { self.k + 20 };
-        !is_length(self.k) || self.held >= limit || self.row >= 8 || self.taken > MOST_ITEMS
+        !is_length(self.k)
+            || self.held >= limit
+            || self.bad_row >= BAD_ROW_LIMIT
+            || self.taken > MOST_ITEMS
     }
 
     /// No bits, or an alarm that stands.
-    fn stand(&mut self, bits: usize) -> Received {
+    fn alarm_or_none(&mut self, bits: usize) -> Received {
         let event = match self.alarm {
             None => Event::None,
-            Some(Alarm::Sequence) => Event::SequenceAlarm,
-            Some(Alarm::Length) => Event::LengthAlarm,
+            Some(alarm) => alarm.event(),
         };
         if bits > 0 {
             self.return_bit = true;
-            self.row = 0;
+            self.bad_row = 0;
         }
-        heard(event, bits)
+        reported(event, bits)
     }
 
     /// Search over a 16-bit window.
-    fn look_for_sequence(&mut self, line: &[u8], bits: usize) -> Received {
+    fn search_bits(&mut self, line: &[u8], bits: usize) -> Received {
         let start = u32::from(self.array[0]) << 8 | u32::from(self.array[1]);
         let mut window = (start >> (16 - self.held)) as u16;
         let mut count = self.held;
@@ -133,45 +134,45 @@ impl Receiver {
             count += 1;
             if count >= 16 && window == SEQUENCE {
                 self.search = false;
-                let event = self.settle(Event::Sync);
-                return heard(event, i + 1);
+                let event = self.return_zero(Event::Sync);
+                return reported(event, i + 1);
             }
         }
         self.held = count.min(15);
         let latest = window << (16 - self.held);
         self.array[..2].copy_from_slice(&latest.to_be_bytes());
         self.return_bit = true;
-        heard(Event::None, bits)
+        reported(Event::None, bits)
     }
 
     /// Rules 1 to 7 on a whole packed block. A refusal leaves the state as it was.
     fn judge(&mut self, block: &[u8], store: &mut [u8]) -> Result<Event, u8> {
         let service = block[0] >> 4;
-        let check = check_word(block);
+        let check = check_bits(block);
         if service == SYNCHRONISING && check == SEQUENCE {
-            return Ok(self.settle(Event::Sync));
+            return Ok(self.return_zero(Event::Sync));
         }
         if register(block) != check {
             return Ok(self.bad());
         }
         if self.end_taken && LETTERS.contains(&service) {
-            return Ok(self.raise(Alarm::Sequence));
+            return Ok(self.raise_alarm(Alarm::Sequence));
         }
         if service == LETTERS[self.taken % 3] && self.taken < MOST_ITEMS {
             return self.accept(block, store);
         }
         if service == LETTERS[(self.taken + 2) % 3] && self.taken >= 1 {
-            return Ok(self.settle(Event::Previous));
+            return Ok(self.return_zero(Event::Previous));
         }
         if service == LETTERS[(self.taken + 1) % 3] {
-            return Ok(self.raise(Alarm::Sequence));
+            return Ok(self.raise_alarm(Alarm::Sequence));
         }
         if service == END {
             return Ok(self.end(block));
         }
         let event = self.bad();
         if self.taken == 0 {
-            (self.search, self.row) = (true, 0);
+            self.start_search();
         }
         Ok(event)
     }
@@ -184,63 +185,64 @@ impl Receiver {
         };
         copy_payload(block, place);
         self.taken += 1;
-        Ok(self.settle(Event::Accepted))
+        Ok(self.return_zero(Event::Accepted))
     }
 
     fn end(&mut self, block: &[u8]) -> Event {
         if self.end_taken {
-            return self.settle(Event::Previous);
+            return self.return_zero(Event::Previous);
         }
         let mut fields = [0; 5];
         copy_payload(block, &mut fields);
         let [version, a, b, c, d] = fields;
         let length = u32::from_be_bytes([a, b, c, d]) as usize;
         let fits = (1..=LONGEST).contains(&length) && length.div_ceil(self.k) == self.taken;
-        if version != 1 || !fits {
-            return self.raise(Alarm::Length);
+        if version != VERSION || !fits {
+            return self.raise_alarm(Alarm::Length);
         }
         self.end_taken = true;
-        self.settle(Event::Ended(length))
+        self.return_zero(Event::Ended(length))
     }
 
     fn bad(&mut self) -> Event {
-        self.forget();
+        self.clear_held();
         self.return_bit = true;
-        self.row += 1;
-        if self.row == 8 {
-            (self.search, self.row) = (true, 0);
+        self.bad_row += 1;
+        if self.bad_row == BAD_ROW_LIMIT {
+            self.start_search();
         }
         Event::Bad
     }
 
+    fn start_search(&mut self) {
+        (self.search, self.bad_row) = (true, 0);
+    }
+
     /// An event with return bit 0.
-    fn settle(&mut self, event: Event) -> Event {
-        self.forget();
-        self.row = 0;
+    fn return_zero(&mut self, event: Event) -> Event {
+        self.clear_held();
+        self.bad_row = 0;
         self.return_bit = false;
         event
     }
 
-    fn raise(&mut self, alarm: Alarm) -> Event {
-        self.forget();
-        self.row = 0;
+    fn raise_alarm(&mut self, alarm: Alarm) -> Event {
+        self.clear_held();
+        self.bad_row = 0;
         self.return_bit = true;
         self.alarm = Some(alarm);
-        match alarm {
-            Alarm::Sequence => Event::SequenceAlarm,
-            Alarm::Length => Event::LengthAlarm,
-        }
+        alarm.event()
     }
 
-    fn forget(&mut self) {
-        self.array = [0; HOLD_BYTES];
+    fn clear_held(&mut self) {
+        self.array = [0; HELD_BYTES];
         self.held = 0;
     }
 }
 
 #[inline]
-fn heard(event: Event, used: usize) -> Received {
-    Received::Heard { event, used }
+fn reported(event: Event, used: usize) -> Received {
+    Received::Reported { event, used }
 }
 
 /// Writes the first `count` bits of `line` over the bits of `array` from `at` on.

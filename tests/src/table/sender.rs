@@ -1,16 +1,12 @@
 //! The table-driven sibling of the sending call: an item is built where it goes out.
 
-use super::{build_block, is_length, SHORT, SPOILED};
+use super::{build_block, is_length, END, LETTERS, LONGEST, SHORT, SPOILED, VERSION};
 use crate::reference::sender::{Next, Sender, Sent};
 
-const LETTERS: [u8; 3] = [0b0011, 0b1001, 0b1100];
-const END: u8 = 0b1000;
-const VERSION: u8 = 1;
-const LONGEST: usize = 262_144;
-const LAST_RUN: usize = 64;
+const GIVE_UP: usize = 64;
 const REST: u8 = 8;
 /// The data bytes of the longest block.
-const MOST_BYTES: usize = 480;
+const MOST_PAYLOAD_BYTES: usize = 480;
 
 /// Sends one block; refusals in the order 7, 8, 6.
 #[inline(never)]
@@ -32,9 +28,9 @@ pub fn send(mut sender: Sender, order: &[u8], reading: bool, block: &mut [u8]) -
     let cancelled = used && reading;
     if cancelled {
         block[sender.k / 8 + 2] ^= 0x10;
-        repeat(&mut sender);
+        count_cancel(&mut sender);
     } else if used {
-        move_up(&mut sender, items);
+        move_pair_up(&mut sender, items);
     } else {
         sender.next = Next::Newer;
     }
@@ -54,10 +50,10 @@ fn judge(sender: &Sender, order: &[u8], block: &[u8]) -> Result<(), u8> {
         return Err(SPOILED);
     }
     let last = length.div_ceil(k) + 1;
-    if !(1..=last).contains(&sender.newer) || sender.run > LAST_RUN {
+    if !(1..=last).contains(&sender.newer) || sender.cancel_run > GIVE_UP {
         return Err(SPOILED);
     }
-    if sender.finished || sender.run == LAST_RUN {
+    if sender.finished || sender.cancel_run == GIVE_UP {
         return Err(REST);
     }
     if order.len() < length.div_ceil(8) || block.len() < k / 8 + 3 {
@@ -67,8 +63,8 @@ fn judge(sender: &Sender, order: &[u8], block: &[u8]) -> Result<(), u8> {
 }
 
 #[inline]
-fn move_up(sender: &mut Sender, items: usize) {
-    sender.run = 0;
+fn move_pair_up(sender: &mut Sender, items: usize) {
+    sender.cancel_run = 0;
     sender.opening = false;
     if sender.newer > items {
         sender.finished = true;
@@ -78,9 +74,9 @@ fn move_up(sender: &mut Sender, items: usize) {
 }
 
 #[inline]
-fn repeat(sender: &mut Sender) {
-    sender.run += 1;
-    sender.next = match sender.opening || sender.run >= 4 {
+fn count_cancel(sender: &mut Sender) {
+    sender.cancel_run += 1;
+    sender.next = match sender.opening || sender.cancel_run >= 4 {
         true => Next::Synchronising,
         false => Next::Older,
     };
@@ -107,7 +103,7 @@ fn write_item(sender: &Sender, items: usize, item: usize, order: &[u8], block: &
         );
         return;
     }
-    let mut payload = [0; MOST_BYTES];
+    let mut payload = [0; MOST_PAYLOAD_BYTES];
     if item >= items {
         payload[0] = VERSION;
         payload[1..5].copy_from_slice(&(length as u32).to_be_bytes());
