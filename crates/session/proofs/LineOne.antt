@@ -1,6 +1,6 @@
 -- The reader over the bytes of a line keeps what the line says. Assumes nothing.
 use mathlib.Core.Path.{_≡_, refl, sym, ap, ap₂, _∙_}
-use mathlib.Core.Bool.{true, false, cond}
+use mathlib.Core.Bool.{Bool, true, false, cond}
 use mathlib.Core.List.{List, [], _∷_, _++_, append-assoc, append-nil}
 use mathlib.Core.Logic.{⊎-elim}
 use mathlib.Core.Option.{Option, none, some}
@@ -25,6 +25,10 @@ state place k L n = record { place = place; k = k; length = L; kept = n }
 abbrev ended : ℕ → ℕ → ℕ → List ℕ → Option (List ℕ) → Option Opening
 ended k L room bytes none = none
 ended k L room bytes (some more) = some (record { k = k; order = record { bits = L; bytes = take room (bytes ++ more) } })
+
+cond-same : (b : Bool) (s : LineOne) → cond b s s ≡ s
+cond-same true s = refl
+cond-same false s = refl
 
 module _ (k L : ℕ) where
   unreadable-stays : (n : ℕ) (rest order : List ℕ) → readAll (state P.Unreadable k L n) rest order ≡ none
@@ -88,7 +92,7 @@ module _ (k L : ℕ) where
   order-read [] order = rw (take-nil (length order))
   order-read (c ∷ cs) order =
       ⊎-elim (λ e. rw e (half-read 0 (hexValue c) cs order (omega arith) (ltb-true _ _ e)))
-      (λ e. rw e (unreadable-stays 0 cs order)) (either (isHex c))
+      (λ e. rw (cond-same (isBlank c)) (rw e (unreadable-stays 0 cs order))) (either (isHex c))
 
 -- a number up to the limit grows as the number itself
 grown-limit : (m n digit : ℕ) → m ≡ min n limit → grown m digit ≡ min (n * 10 + digit) limit
@@ -121,7 +125,7 @@ unfolding readAll nextAt nextOrder
 length-start k [] order = refl
 length-start k (c ∷ cs) order =
     ⊎-elim (λ e. rw e (length-read k (grown 0 (decimalValue c)) (decimalValue c) cs order (omega arith)))
-    (λ e. rw e (unreadable-stays k 0 0 cs order)) (either (isDecimal c))
+    (λ e. rw (cond-same (isBlank c)) (rw e (unreadable-stays k 0 0 cs order))) (either (isDecimal c))
 
 with-k : (k k₀ room : ℕ) (o : Option Order) → k ≡ min k₀ limit → kept-order k room o ≡ keep room (withK k₀ o)
 with-k k k₀ room none e = refl
@@ -145,4 +149,4 @@ unfolding readAll nextAt nextOrder
 line-one [] order = refl
 line-one (c ∷ cs) order =
     ⊎-elim (λ e. rw e (k-read (grown 0 (decimalValue c)) (decimalValue c) cs order (omega arith)))
-    (λ e. rw e (unreadable-stays 0 0 0 cs order)) (either (isDecimal c))
+    (λ e. rw (cond-same (isBlank c)) (rw e (unreadable-stays 0 0 0 cs order))) (either (isDecimal c))

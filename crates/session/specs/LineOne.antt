@@ -7,6 +7,8 @@ use Prim.Native.Nat.{ℕ, _+_, _-_, _*_, _%_, min}
 use lib.Dec.{eqb, leb, ltb}
 use lib.ListN.{length, take, set}
 use Rattle.session.specs.declared.line_one.LineOne.{LineOne}
+use Rattle.session.specs.declared.line_one.Number.{Number}
+use Rattle.session.specs.declared.line_one.Number.the-variants as N
 use Rattle.session.specs.declared.line_one.Place.{Place}
 use Rattle.session.specs.declared.line_one.Place.the-variants as P
 
@@ -116,27 +118,33 @@ moved s place = record { place = place; k = s .k; length = s .length; kept = s .
 abbrev pub grown : ℕ → ℕ → ℕ
 grown n digit = min (n * 10 + digit) limit
 
-abbrev pub kDigit : LineOne → ℕ → LineOne
-kDigit s digit = record { place = P.KDigits; k = grown (s .k) digit; length = s .length; kept = s .kept }
+abbrev pub withDigit : LineOne → Number → ℕ → LineOne
+withDigit s N.K digit = record { place = P.KDigits; k = grown (s .k) digit; length = s .length; kept = s .kept }
+withDigit s N.Length digit = record { place = P.LengthDigits; k = s .k; length = grown (s .length) digit; kept = s .kept }
 
-abbrev pub lengthDigit : LineOne → ℕ → LineOne
-lengthDigit s digit = record { place = P.LengthDigits; k = s .k; length = grown (s .length) digit; kept = s .kept }
+-- a blank leads to a place; any other character cannot be read
+abbrev pub blankNext : LineOne → ℕ → Place → LineOne
+blankNext s c place = cond (isBlank c) (moved s place) (moved s P.Unreadable)
+
+-- a digit of a number, or of the order's bytes the first; a blank leads to the place behind
+abbrev pub decimalNext : LineOne → Number → ℕ → Place → LineOne
+decimalNext s number c behind = cond (isDecimal c) (withDigit s number (decimalValue c)) (blankNext s c behind)
+
+abbrev pub hexNext : LineOne → ℕ → Place → LineOne
+hexNext s c behind = cond (isHex c) (moved s (P.Half (hexValue c))) (blankNext s c behind)
 
 abbrev pub lowDigit : LineOne → ℕ → LineOne
 lowDigit s room =
     record { place = P.Bytes; k = s .k; length = s .length; kept = cond (ltb (s .kept) room) (s .kept + 1) (s .kept) }
 
 unfoldable pub nextAt : LineOne → Place → ℕ → ℕ → LineOne
-nextAt s P.K c room = cond (isDecimal c) (kDigit s (decimalValue c)) (moved s P.Unreadable)
-nextAt s P.KDigits c room =
-    cond (isDecimal c) (kDigit s (decimalValue c)) (cond (isBlank c) (moved s P.Length) (moved s P.Unreadable))
-nextAt s P.Length c room = cond (isDecimal c) (lengthDigit s (decimalValue c)) (moved s P.Unreadable)
-nextAt s P.LengthDigits c room =
-    cond (isDecimal c) (lengthDigit s (decimalValue c)) (cond (isBlank c) (moved s P.Order) (moved s P.Unreadable))
-nextAt s P.Order c room = cond (isHex c) (moved s (P.Half (hexValue c))) (moved s P.Unreadable)
+nextAt s P.K c room = decimalNext s N.K c P.Unreadable
+nextAt s P.KDigits c room = decimalNext s N.K c P.Length
+nextAt s P.Length c room = decimalNext s N.Length c P.Unreadable
+nextAt s P.LengthDigits c room = decimalNext s N.Length c P.Order
+nextAt s P.Order c room = hexNext s c P.Unreadable
 nextAt s (P.Half high) c room = cond (isHex c) (lowDigit s room) (moved s P.Unreadable)
-nextAt s P.Bytes c room =
-    cond (isHex c) (moved s (P.Half (hexValue c))) (cond (isBlank c) (moved s P.Trailed) (moved s P.Unreadable))
+nextAt s P.Bytes c room = hexNext s c P.Trailed
 nextAt s P.Trailed c room = moved s P.Unreadable
 nextAt s P.Unreadable c room = moved s P.Unreadable
 

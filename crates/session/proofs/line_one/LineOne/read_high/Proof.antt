@@ -1,12 +1,12 @@
--- `LineOne::read_order` meets its contract: by the kind of its byte. Assumes nothing.
+-- `LineOne::read_high` meets its contract: a digit or not. Assumes nothing.
 use mathlib.Core.Path.{_≡_}
 use mathlib.Core.Bool.{true, false}
 use lib.Dec.{ltb}
 use borrow.Author.Tests.{lt-ltb, le-ltb}
-use Rattle.session.specs.LineOne.{hexValue, nextAt}
+use Rattle.session.specs.LineOne.{hexValue}
 use borrow.Author.Needs.{needs}
-use Rattle.session.proofs.line_one.LineOne.read_order.Statement.{statement}
-use Rattle.session.proofs.line_one.LineOne.read_order.Tie as tie
+use Rattle.session.proofs.line_one.LineOne.read_high.Statement.{statement}
+use Rattle.session.proofs.line_one.LineOne.read_high.Tie as tie
 
 hex-value-requires : tie.Need-hex-value-requires
 hex-value-requires c κs = search needs
@@ -14,23 +14,21 @@ hex-value-requires c κs = search needs
 at-requires : tie.Need-at-requires
 at-requires c κs = search needs
 
-at-requires-2 : tie.Need-at-requires-2
-at-requires-2 c κs = search needs
+read-blank-requires : tie.Need-read-blank-requires
+read-blank-requires c κs = search needs
 
 returns : tie.Need-returns
-unfolding nextAt
 returns c =
     let e : c .before .before .hex-value .result ≡ hexValue (c .before .before .before .args .c) = c .before .before .hex-value .ensures in
     let t : ltb (hexValue (c .before .before .before .args .c)) 16 ≡ true = rw (← e) (lt-ltb _ _ (c .before .if1 .taken)) in
     rw (t, ← e) (c .at .ensures)
 
 returns-2 : tie.Need-returns-2
-unfolding nextAt
 returns-2 c =
     let e : c .before .before .hex-value .result ≡ hexValue (c .before .before .before .args .c) = c .before .before .hex-value .ensures in
     let t : ltb (hexValue (c .before .before .before .args .c)) 16 ≡ false = rw (← e) (le-ltb _ _ (c .before .if1 .left)) in
-    rw t (c .at2 .ensures)
+    rw t (c .read-blank .ensures)
 
-pub read-order-spec : {M : Type 1} → statement M
-read-order-spec =
-    tie.close (tie.spec hex-value-requires at-requires at-requires-2 returns returns-2)
+pub read-high-spec : {M : Type 1} → statement M
+read-high-spec =
+    tie.close (tie.spec hex-value-requires at-requires read-blank-requires returns returns-2)
