@@ -1,9 +1,9 @@
 -- The reader over the bytes of a line keeps what the line says. Assumes nothing.
 use mathlib.Core.Path.{_≡_, refl, sym, ap, ap₂, _∙_}
-use mathlib.Core.Bool.{true, false, cond}
+use mathlib.Core.Bool.{Bool, true, false, cond}
 use mathlib.Core.List.{List, [], _∷_, _++_, append-assoc, append-nil}
 use mathlib.Core.Logic.{⊎-elim}
-use mathlib.Core.Option.{Option, none, some}
+use mathlib.Core.Option.{Option, none, some, Option·map}
 use Prim.Native.Nat.{ℕ, suc, _+_, _*_, _%_, _≤_, _<_, min}
 use native.Mathlib.Nat.{mod-eq-of-lt}
 use native.Mathlib.Numerals.{add-one}
@@ -13,7 +13,7 @@ use lib.ListN.{length, take, set, length-set}
 use lib.Seq.{take-all, take-append-le, take-suc-set, take-nil, length-take-le}
 use borrow.Author.Tests.{ltb-true, ltb-false, lt-ltb, le-ltb}
 use Rattle.block.proofs.Truth.{either}
-use Rattle.session.specs.LineOne.{isBlank, isDecimal, isHex, decimalValue, hexValue, lineEnd, withByte, hexBytes, halfByte, orderField, Order, withLength, lengthField, lengthStart, Opening, withK, kField, lineOne, limit, keep, grown, nextAt, nextOrder, start, readAll}
+use Rattle.session.specs.LineOne.{isBlank, isDecimal, isHex, decimalValue, hexValue, lineEnd, hexBytes, halfByte, orderField, Order, lengthField, lengthStart, Opening, kField, lineOne, limit, keep, grown, nextAt, nextOrder, start, readAll}
 use Rattle.session.specs.declared.line_one.LineOne.{LineOne}
 use Rattle.session.specs.declared.line_one.Place.{Place}
 use Rattle.session.specs.declared.line_one.Place.the-variants as P
@@ -25,6 +25,10 @@ state place k L n = record { place = place; k = k; length = L; kept = n }
 abbrev ended : ℕ → ℕ → ℕ → List ℕ → Option (List ℕ) → Option Opening
 ended k L room bytes none = none
 ended k L room bytes (some more) = some (record { k = k; order = record { bits = L; bytes = take room (bytes ++ more) } })
+
+cond-same : (b : Bool) (s : LineOne) → cond b s s ≡ s
+cond-same true s = refl
+cond-same false s = refl
 
 module _ (k L : ℕ) where
   unreadable-stays : (n : ℕ) (rest order : List ℕ) → readAll (state P.Unreadable k L n) rest order ≡ none
@@ -40,12 +44,12 @@ module _ (k L : ℕ) where
 
   -- a byte behind those kept, and a byte for which there is no room
   byte-kept : (n x : ℕ) (order : List ℕ) (o : Option (List ℕ)) → n < length order
-      → ended k L (length order) (take (n + 1) (set order n x)) o ≡ ended k L (length order) (take n order) (withByte x o)
+      → ended k L (length order) (take (n + 1) (set order n x)) o ≡ ended k L (length order) (take n order) (Option·map (λ (bytes : List ℕ). x ∷ bytes) o)
   byte-kept n x order none h = refl
   byte-kept n x order (some more) h = rw (add-one, take-suc-set order n x h, append-assoc)
 
   byte-lost : (n x : ℕ) (order : List ℕ) (o : Option (List ℕ)) → n ≤ length order → length order ≤ n
-      → ended k L (length order) (take n order) o ≡ ended k L (length order) (take n order) (withByte x o)
+      → ended k L (length order) (take n order) o ≡ ended k L (length order) (take n order) (Option·map (λ (bytes : List ℕ). x ∷ bytes) o)
   byte-lost n x order none h l = refl
   byte-lost n x order (some more) h l =
       let e : length (take n order) ≡ n = length-take-le n order h in
@@ -88,7 +92,7 @@ module _ (k L : ℕ) where
   order-read [] order = rw (take-nil (length order))
   order-read (c ∷ cs) order =
       ⊎-elim (λ e. rw e (half-read 0 (hexValue c) cs order (omega arith) (ltb-true _ _ e)))
-      (λ e. rw e (unreadable-stays 0 cs order)) (either (isHex c))
+      (λ e. rw (cond-same (isBlank c)) (rw e (unreadable-stays 0 cs order))) (either (isHex c))
 
 -- a number up to the limit grows as the number itself
 grown-limit : (m n digit : ℕ) → m ≡ min n limit → grown m digit ≡ min (n * 10 + digit) limit
@@ -100,7 +104,7 @@ kept-order k room none = none
 kept-order k room (some o) =
     some (record { k = k; order = record { bits = min (o .bits) limit; bytes = take room (o .bytes) } })
 
-with-length : (k L L₀ room : ℕ) (o : Option (List ℕ)) → L ≡ min L₀ limit → ended k L room [] o ≡ kept-order k room (withLength L₀ o)
+with-length : (k L L₀ room : ℕ) (o : Option (List ℕ)) → L ≡ min L₀ limit → ended k L room [] o ≡ kept-order k room (Option·map (λ (bytes : List ℕ). record { bits = L₀; bytes = bytes }) o)
 with-length k L L₀ room none e = refl
 with-length k L L₀ room (some bytes) e = rw e
 
@@ -121,9 +125,9 @@ unfolding readAll nextAt nextOrder
 length-start k [] order = refl
 length-start k (c ∷ cs) order =
     ⊎-elim (λ e. rw e (length-read k (grown 0 (decimalValue c)) (decimalValue c) cs order (omega arith)))
-    (λ e. rw e (unreadable-stays k 0 0 cs order)) (either (isDecimal c))
+    (λ e. rw (cond-same (isBlank c)) (rw e (unreadable-stays k 0 0 cs order))) (either (isDecimal c))
 
-with-k : (k k₀ room : ℕ) (o : Option Order) → k ≡ min k₀ limit → kept-order k room o ≡ keep room (withK k₀ o)
+with-k : (k k₀ room : ℕ) (o : Option Order) → k ≡ min k₀ limit → kept-order k room o ≡ keep room (Option·map (λ (order : Order). record { k = k₀; order = order }) o)
 with-k k k₀ room none e = refl
 with-k k k₀ room (some o) e = rw e
 
@@ -145,4 +149,4 @@ unfolding readAll nextAt nextOrder
 line-one [] order = refl
 line-one (c ∷ cs) order =
     ⊎-elim (λ e. rw e (k-read (grown 0 (decimalValue c)) (decimalValue c) cs order (omega arith)))
-    (λ e. rw e (unreadable-stays 0 0 0 cs order)) (either (isDecimal c))
+    (λ e. rw (cond-same (isBlank c)) (rw e (unreadable-stays 0 0 0 cs order))) (either (isDecimal c))

@@ -13,12 +13,7 @@ use Rattle.line.specs.declared.receiving.Received.the-variants as R
 use Rattle.line.specs.declared.receiver.Step.{Step}
 use Rattle.line.specs.declared.receiver.Receiver.{Receiver}
 use Rattle.line.specs.declared.receiving.Event.{Event}
-use Rattle.session.specs.Period.{lineBytes, invertFirst, arriving, Lent, disturbed, lastEvent, Hearing, hearing, answered, hear, heardCourse}
-use Rattle.line.specs.declared.sender.Sender.{Sender}
-use Rattle.session.specs.declared.period.Block.{Block}
-use Rattle.session.specs.declared.period.Heard.{Heard}
-use Rattle.session.specs.declared.period.Outcome.the-variants as O
-use Rattle.session.specs.declared.period.Reading as Shown
+use Rattle.session.specs.Period.{lineBytes, invertFirst, arriving, Lent, disturbed, lastEvent, Hearing, hearing, answered, hear}
 use Rattle.session.specs.declared.period.Last.the-variants as L
 use Rattle.session.specs.declared.period.Kind.{Kind}
 use Rattle.session.specs.declared.period.Kind.the-variants as K
@@ -213,20 +208,3 @@ arrives kind line count l h = from-bits (take count (bitsOf line)) refl (lent-le
           lent = rw (d, ← m) (lent-packed a f);
           bits = rw (d, t, ← m) (held-bits a f);
         }
-
--- ---- what a period's line says
-
-pub refused-period : (s : Sender) (block : Block) (reading : Shown.Reading) (h : Hearing) (heard : Heard) (n : ℕ)
-    → heard ≡ h .heard → heard .last ≡ L.Refused n
-    → record { sender = s; receiver = heard .receiver; outcome = O.Refused n } ≡ heardCourse s block reading h .period
-refused-period s block reading h heard n e l = rw (← e, l)
-
-pub event-period : (s : Sender) (block : Block) (reading : Shown.Reading) (h : Hearing) (heard : Heard) (event : Event)
-    → heard ≡ h .heard → heard .last ≡ L.Event event
-    → record {
-      sender = s;
-      receiver = heard .receiver;
-      outcome = O.Line (record { block = block; reading = reading; event = event; back = heard .receiver .back });
-    }
-    ≡ heardCourse s block reading h .period
-event-period s block reading h heard event e l = rw (← e, l)

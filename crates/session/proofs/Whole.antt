@@ -173,59 +173,43 @@ module _ (o : LineOne) (s₀ : Sender) (r₀ : Receiver) (order : List ℕ) wher
   abbrev kept : Opening
   kept = record { k = o .k; order = record { bits = o .length; bytes = take (o .kept) order } }
 
-  receiver-alone : (s : Sender) (a : Answer (Unit {0})) → written (receiverOpened before s a) ≡ receiverText kept s [] a
-  unfolding periods
-  receiver-alone s (refused n) = written-text before (refusedText n)
-  receiver-alone s (done u) = refl
-
-  sender-alone : (a : Answer Sender) → written (senderOpened before a) ≡ senderText kept [] a
-  sender-alone (refused n) = written-text before (refusedText n)
-  sender-alone (done s) = receiver-alone s (openReceiver (o .k))
-
-  -- the input ends with line one
-  opens-alone : written (opens before order) ≡ openingText (said o order) []
-  unfolding opens
-  opens-alone =
-      ⊎-elim
-      (λ (t : readable (o .place) ≡ true).
-      rw t (sender-alone (openSender (o .k) speed loop-ms (o .length) (take (o .kept) order))))
-      (λ (t : readable (o .place) ≡ false). rw t) (either (readable (o .place)))
-
-  module _ (cs : List ℕ) (h : length cs < 2 ^ 64) where
+  -- what follows: nothing where the run is over, else the periods of these lines
+  module _ (rest : Session → List ℕ) (ls : List (List ℕ)) (over : (s : Session) → rest (placed s P.Over) ≡ [])
+      (started : (s : Sender) → rest (session P.LineStart o s (freshReceiver (o .k)) 0)
+      ≡ periods 0 s (freshReceiver (o .k)) (take (o .kept) order) zero-store ls) where
     receiver-then : (s : Sender) (a : Answer (Unit {0}))
-        → written (receiverOpened before s a) ++ output (receiverOpened before s a .session) order zero-store cs
-        ≡ receiverText kept s (lines cs) a
+        → written (receiverOpened before s a) ++ rest (receiverOpened before s a .session) ≡ receiverText kept s ls a
     receiver-then s (refused n) =
-        ap₂ (λ (a b : List ℕ). a ++ b) (written-text before (refusedText n)) (over-silent before order zero-store cs)
-        ∙ append-nil (refusedText n)
-    receiver-then s (done u) = line-start o order s (freshReceiver (o .k)) 0 zero-store cs (omega arith)
+        ap₂ (λ (a b : List ℕ). a ++ b) (written-text before (refusedText n)) (over before) ∙ append-nil (refusedText n)
+    receiver-then s (done u) = started s
 
-    sender-then : (a : Answer Sender)
-        → written (senderOpened before a) ++ output (senderOpened before a .session) order zero-store cs
-        ≡ senderText kept (lines cs) a
+    sender-then : (a : Answer Sender) → written (senderOpened before a) ++ rest (senderOpened before a .session) ≡ senderText kept ls a
     sender-then (refused n) =
-        ap₂ (λ (a b : List ℕ). a ++ b) (written-text before (refusedText n)) (over-silent before order zero-store cs)
-        ∙ append-nil (refusedText n)
+        ap₂ (λ (a b : List ℕ). a ++ b) (written-text before (refusedText n)) (over before) ∙ append-nil (refusedText n)
     sender-then (done s) = receiver-then s (openReceiver (o .k))
 
-    opens-then : written (opens before order) ++ output (opens before order .session) order zero-store cs
-        ≡ openingText (said o order) (lines cs)
+    opens-then : written (opens before order) ++ rest (opens before order .session) ≡ openingText (said o order) ls
     unfolding opens
     opens-then =
         ⊎-elim
         (λ (t : readable (o .place) ≡ true).
         rw t (sender-then (openSender (o .k) speed loop-ms (o .length) (take (o .kept) order))))
-        (λ (t : readable (o .place) ≡ false). rw t (over-silent before order zero-store cs)) (either (readable (o .place)))
+        (λ (t : readable (o .place) ≡ false). rw t (over before)) (either (readable (o .place)))
 
 -- ---- line one is read
 
 first-line : (o : LineOne) (s : Sender) (r : Receiver) (order cs : List ℕ) → length cs < 2 ^ 64
     → output (session P.LineOne o s r 0) order zero-store cs
     ≡ openingText (readAll o (firstLine cs) order) (lines (afterLine cs))
-unfolding output takes takesOrder takesStore ends readAll
-first-line o s r order [] h = opens-alone o s r order
+unfolding output takes takesOrder takesStore ends readAll periods
+first-line o s r order [] h =
+    sym (append-nil (written (opens (session P.LineOne o s r 0) order)))
+    ∙ opens-then o s r order (λ t. []) [] (λ t. refl) (λ t. refl)
 first-line o s r order (c ∷ cs) h =
-    ⊎-elim (λ (t : eqb c newline ≡ true). rw t (opens-then o s r order cs (omega arith)))
+    ⊎-elim (λ (t : eqb c newline ≡ true).
+    rw t
+    (opens-then o s r order (λ x. output x order zero-store cs) (lines cs) (λ x. over-silent x order zero-store cs)
+    (λ x. line-start o order x (freshReceiver (o .k)) 0 zero-store cs (omega arith))))
     (λ (t : eqb c newline ≡ false).
     rw t
     (first-line (next o c (length order)) s r (nextOrder o (o .place) c order) cs (omega arith)))

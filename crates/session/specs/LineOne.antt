@@ -2,11 +2,13 @@
 -- at a time. Assumes nothing.
 use mathlib.Core.Bool.{Bool, true, false, cond, _&&_}
 use mathlib.Core.List.{List, [], _∷_}
-use mathlib.Core.Option.{Option, none, some}
+use mathlib.Core.Option.{Option, none, some, Option·map}
 use Prim.Native.Nat.{ℕ, _+_, _-_, _*_, _%_, min}
 use lib.Dec.{eqb, leb, ltb}
 use lib.ListN.{length, take, set}
 use Rattle.session.specs.declared.line_one.LineOne.{LineOne}
+use Rattle.session.specs.declared.line_one.Number.{Number}
+use Rattle.session.specs.declared.line_one.Number.the-variants as N
 use Rattle.session.specs.declared.line_one.Place.{Place}
 use Rattle.session.specs.declared.line_one.Place.the-variants as P
 
@@ -38,10 +40,6 @@ abbrev pub lineEnd : List ℕ → Option (List ℕ)
 lineEnd [] = some []
 lineEnd (c ∷ cs) = none
 
-abbrev pub withByte : ℕ → Option (List ℕ) → Option (List ℕ)
-withByte x none = none
-withByte x (some order) = some (x ∷ order)
-
 abbrev mutual
   -- the order's bytes, two digits a byte; a blank may trail
   pub hexBytes : List ℕ → Option (List ℕ)
@@ -51,7 +49,7 @@ abbrev mutual
   -- the first digit of a byte was read
   pub halfByte : ℕ → List ℕ → Option (List ℕ)
   halfByte high [] = none
-  halfByte high (c ∷ cs) = cond (isHex c) (withByte (high * 16 + hexValue c) (hexBytes cs)) none
+  halfByte high (c ∷ cs) = cond (isHex c) (Option·map (λ bytes. (high * 16 + hexValue c) ∷ bytes) (hexBytes cs)) none
 
 -- behind the blank after L: nothing, or the order
 abbrev pub orderField : List ℕ → Option (List ℕ)
@@ -62,15 +60,12 @@ pub record Order : Type 0 where
   pub bits : ℕ
   pub bytes : List ℕ
 
-abbrev pub withLength : ℕ → Option (List ℕ) → Option Order
-withLength L none = none
-withLength L (some bytes) = some (record { bits = L; bytes = bytes })
-
 -- L so far, by its value
 abbrev pub lengthField : ℕ → List ℕ → Option Order
 lengthField L [] = some (record { bits = L; bytes = [] })
 lengthField L (c ∷ cs) =
-    cond (isDecimal c) (lengthField (L * 10 + decimalValue c) cs) (cond (isBlank c) (withLength L (orderField cs)) none)
+    cond (isDecimal c) (lengthField (L * 10 + decimalValue c) cs)
+    (cond (isBlank c) (Option·map (λ bytes. record { bits = L; bytes = bytes }) (orderField cs)) none)
 
 abbrev pub lengthStart : List ℕ → Option Order
 lengthStart [] = none
@@ -80,14 +75,12 @@ pub record Opening : Type 0 where
   pub k : ℕ
   pub order : Order
 
-abbrev pub withK : ℕ → Option Order → Option Opening
-withK k none = none
-withK k (some order) = some (record { k = k; order = order })
-
 -- k so far, by its value
 abbrev pub kField : ℕ → List ℕ → Option Opening
 kField k [] = none
-kField k (c ∷ cs) = cond (isDecimal c) (kField (k * 10 + decimalValue c) cs) (cond (isBlank c) (withK k (lengthStart cs)) none)
+kField k (c ∷ cs) =
+    cond (isDecimal c) (kField (k * 10 + decimalValue c) cs)
+    (cond (isBlank c) (Option·map (λ order. record { k = k; order = order }) (lengthStart cs)) none)
 
 abbrev pub lineOne : List ℕ → Option Opening
 lineOne [] = none
@@ -116,27 +109,33 @@ moved s place = record { place = place; k = s .k; length = s .length; kept = s .
 abbrev pub grown : ℕ → ℕ → ℕ
 grown n digit = min (n * 10 + digit) limit
 
-abbrev pub kDigit : LineOne → ℕ → LineOne
-kDigit s digit = record { place = P.KDigits; k = grown (s .k) digit; length = s .length; kept = s .kept }
+abbrev pub withDigit : LineOne → Number → ℕ → LineOne
+withDigit s N.K digit = record { place = P.KDigits; k = grown (s .k) digit; length = s .length; kept = s .kept }
+withDigit s N.Length digit = record { place = P.LengthDigits; k = s .k; length = grown (s .length) digit; kept = s .kept }
 
-abbrev pub lengthDigit : LineOne → ℕ → LineOne
-lengthDigit s digit = record { place = P.LengthDigits; k = s .k; length = grown (s .length) digit; kept = s .kept }
+-- a blank leads to a place; any other character cannot be read
+abbrev pub blankNext : LineOne → ℕ → Place → LineOne
+blankNext s c place = cond (isBlank c) (moved s place) (moved s P.Unreadable)
+
+-- a digit of a number, or the first digit of a byte of the order; a blank leads to the place behind
+abbrev pub decimalNext : LineOne → Number → ℕ → Place → LineOne
+decimalNext s number c behind = cond (isDecimal c) (withDigit s number (decimalValue c)) (blankNext s c behind)
+
+abbrev pub hexNext : LineOne → ℕ → Place → LineOne
+hexNext s c behind = cond (isHex c) (moved s (P.Half (hexValue c))) (blankNext s c behind)
 
 abbrev pub lowDigit : LineOne → ℕ → LineOne
 lowDigit s room =
     record { place = P.Bytes; k = s .k; length = s .length; kept = cond (ltb (s .kept) room) (s .kept + 1) (s .kept) }
 
 unfoldable pub nextAt : LineOne → Place → ℕ → ℕ → LineOne
-nextAt s P.K c room = cond (isDecimal c) (kDigit s (decimalValue c)) (moved s P.Unreadable)
-nextAt s P.KDigits c room =
-    cond (isDecimal c) (kDigit s (decimalValue c)) (cond (isBlank c) (moved s P.Length) (moved s P.Unreadable))
-nextAt s P.Length c room = cond (isDecimal c) (lengthDigit s (decimalValue c)) (moved s P.Unreadable)
-nextAt s P.LengthDigits c room =
-    cond (isDecimal c) (lengthDigit s (decimalValue c)) (cond (isBlank c) (moved s P.Order) (moved s P.Unreadable))
-nextAt s P.Order c room = cond (isHex c) (moved s (P.Half (hexValue c))) (moved s P.Unreadable)
+nextAt s P.K c room = decimalNext s N.K c P.Unreadable
+nextAt s P.KDigits c room = decimalNext s N.K c P.Length
+nextAt s P.Length c room = decimalNext s N.Length c P.Unreadable
+nextAt s P.LengthDigits c room = decimalNext s N.Length c P.Order
+nextAt s P.Order c room = hexNext s c P.Unreadable
 nextAt s (P.Half high) c room = cond (isHex c) (lowDigit s room) (moved s P.Unreadable)
-nextAt s P.Bytes c room =
-    cond (isHex c) (moved s (P.Half (hexValue c))) (cond (isBlank c) (moved s P.Trailed) (moved s P.Unreadable))
+nextAt s P.Bytes c room = hexNext s c P.Trailed
 nextAt s P.Trailed c room = moved s P.Unreadable
 nextAt s P.Unreadable c room = moved s P.Unreadable
 

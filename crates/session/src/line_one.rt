@@ -2,7 +2,7 @@
 ghost use mathlib.Core.Path.{_≡_};
 ghost use Prim.Native.Nat.{_<_};
 ghost use lib.ListN.{length};
-ghost use Rattle.session.specs.LineOne.{decimalValue, hexValue, grown, start, moved, kDigit, lengthDigit, next, nextAt, nextOrder, readable};
+ghost use Rattle.session.specs.LineOne.{decimalValue, hexValue, grown, start, moved, withDigit, blankNext, decimalNext, hexNext, next, nextAt, nextOrder, readable};
 
 // Above every k and every L that is not refused: a larger number stands as this.
 pub const LIMIT: usize = 1_000_000;
@@ -24,6 +24,12 @@ pub enum Place {
     // A blank behind the order.
     Trailed,
     Unreadable,
+}
+
+// A decimal field.
+pub enum Number {
+    K,
+    Length,
 }
 
 pub struct LineOne {
@@ -88,97 +94,61 @@ impl LineOne {
         }
     }
 
-    fn k_digit(self, digit: u8) -> LineOne
-        ensures { λ r. ⌜ r ≡ kDigit self digit ⌝ }
+    fn with_digit(self, number: Number, digit: u8) -> LineOne
+        ensures { λ r. ⌜ r ≡ withDigit self number digit ⌝ }
     {
-        let k = grow(self.k, digit);
-        LineOne {
-            place: Place::KDigits,
-            k: k,
-            ..self
+        match number {
+            Number::K => {
+                let k = grow(self.k, digit);
+                LineOne {
+                    place: Place::KDigits,
+                    k: k,
+                    ..self
+                }
+            }
+            Number::Length => {
+                let length = grow(self.length, digit);
+                LineOne {
+                    place: Place::LengthDigits,
+                    length: length,
+                    ..self
+                }
+            }
         }
     }
 
-    fn length_digit(self, digit: u8) -> LineOne
-        ensures { λ r. ⌜ r ≡ lengthDigit self digit ⌝ }
+    // A blank leads to a place; any other character cannot be read.
+    fn read_blank(self, c: u8, place: Place) -> LineOne
+        ensures { λ r. ⌜ r ≡ blankNext self c place ⌝ }
     {
-        let length = grow(self.length, digit);
-        LineOne {
-            place: Place::LengthDigits,
-            length: length,
-            ..self
-        }
-    }
-
-    fn read_k(self, c: u8) -> LineOne
-        ensures { λ r. ⌜ r ≡ nextAt self Place.K c 0 ⌝ }
-    {
-        let digit = decimal_value(c);
-        if digit < 10 {
-            self.k_digit(digit)
+        if c == b' ' {
+            self.at(place)
         } else {
             self.at(Place::Unreadable)
         }
     }
 
-    fn read_k_digits(self, c: u8) -> LineOne
-        ensures { λ r. ⌜ r ≡ nextAt self Place.KDigits c 0 ⌝ }
+    // A digit of a number, or the blank that leads to the place behind it.
+    fn read_decimal(self, number: Number, c: u8, behind: Place) -> LineOne
+        ensures { λ r. ⌜ r ≡ decimalNext self number c behind ⌝ }
     {
         let digit = decimal_value(c);
         if digit < 10 {
-            self.k_digit(digit)
-        } else if c == b' ' {
-            self.at(Place::Length)
+            self.with_digit(number, digit)
         } else {
-            self.at(Place::Unreadable)
+            self.read_blank(c, behind)
         }
     }
 
-    fn read_length(self, c: u8) -> LineOne
-        ensures { λ r. ⌜ r ≡ nextAt self Place.Length c 0 ⌝ }
-    {
-        let digit = decimal_value(c);
-        if digit < 10 {
-            self.length_digit(digit)
-        } else {
-            self.at(Place::Unreadable)
-        }
-    }
-
-    fn read_length_digits(self, c: u8) -> LineOne
-        ensures { λ r. ⌜ r ≡ nextAt self Place.LengthDigits c 0 ⌝ }
-    {
-        let digit = decimal_value(c);
-        if digit < 10 {
-            self.length_digit(digit)
-        } else if c == b' ' {
-            self.at(Place::Order)
-        } else {
-            self.at(Place::Unreadable)
-        }
-    }
-
-    fn read_order(self, c: u8) -> LineOne
-        ensures { λ r. ⌜ r ≡ nextAt self Place.Order c 0 ⌝ }
+    // The first digit of a byte, or the blank that leads to the place behind the order.
+    fn read_high(self, c: u8, behind: Place) -> LineOne
+        ensures { λ r. ⌜ r ≡ hexNext self c behind ⌝ }
     {
         let digit = hex_value(c);
         if digit < 16 {
             self.at(Place::Half(digit))
         } else {
-            self.at(Place::Unreadable)
-        }
-    }
-
-    fn read_bytes(self, c: u8) -> LineOne
-        ensures { λ r. ⌜ r ≡ nextAt self Place.Bytes c 0 ⌝ }
-    {
-        let digit = hex_value(c);
-        if digit < 16 {
-            self.at(Place::Half(digit))
-        } else if c == b' ' {
-            self.at(Place::Trailed)
-        } else {
-            self.at(Place::Unreadable)
+            self.read_blank(c, behind)
         }
     }
 
@@ -210,13 +180,13 @@ impl LineOne {
     {
         let place = self.place;
         match place {
-            Place::K => self.read_k(c),
-            Place::KDigits => self.read_k_digits(c),
-            Place::Length => self.read_length(c),
-            Place::LengthDigits => self.read_length_digits(c),
-            Place::Order => self.read_order(c),
+            Place::K => self.read_decimal(Number::K, c, Place::Unreadable),
+            Place::KDigits => self.read_decimal(Number::K, c, Place::Length),
+            Place::Length => self.read_decimal(Number::Length, c, Place::Unreadable),
+            Place::LengthDigits => self.read_decimal(Number::Length, c, Place::Order),
+            Place::Order => self.read_high(c, Place::Unreadable),
             Place::Half(high) => self.read_low(high, c, order),
-            Place::Bytes => self.read_bytes(c),
+            Place::Bytes => self.read_high(c, Place::Trailed),
             Place::Trailed => self.at(Place::Unreadable),
             Place::Unreadable => self.at(Place::Unreadable),
         }

@@ -5,7 +5,7 @@ ghost use lib.ListN.{length, take};
 ghost use Rattle.crc.specs.Bits.{bitsOf};
 ghost use Rattle.line.specs.Sending.{sentAnswer};
 ghost use Rattle.session.specs.Period as P;
-ghost use Rattle.session.specs.Period.{Lent, readingOf, arriving, disturbed, lastEvent, ifUsed, shownSending, heardCourse, RunPeriod};
+ghost use Rattle.session.specs.Period.{Lent, readingOf, arriving, disturbed, lastEvent, ifUsed, shownSending, lineOf, heardCourse, RunPeriod};
 use crate::shift::drop_bits;
 use block::OVERHEAD;
 use line::receiver::Receiver;
@@ -182,6 +182,20 @@ fn disturb(kind: Kind, line: &mut [u8])
     }
 }
 
+fn outcome_of(block: Block, reading: Reading, back: bool, last: Last) -> Outcome
+    ensures { λ r. ⌜ r ≡ lineOf block reading back last ⌝ }
+{
+    match last {
+        Last::Refused(number) => Outcome::Refused(number),
+        Last::Event(event) => Outcome::Line(Line {
+            block,
+            reading,
+            event,
+            back,
+        }),
+    }
+}
+
 // The period from the block sent on.
 fn heard_period(
     kind: Kind,
@@ -201,22 +215,10 @@ fn heard_period(
     let heard = hear(receiver, line, count, store);
     let next = heard.receiver;
     let last = heard.last;
-    match last {
-        Last::Refused(number) => Period {
-            sender,
-            receiver: next,
-            outcome: Outcome::Refused(number),
-        },
-        Last::Event(event) => Period {
-            sender,
-            receiver: next,
-            outcome: Outcome::Line(Line {
-                block,
-                reading,
-                event,
-                back: next.back,
-            }),
-        },
+    Period {
+        sender,
+        receiver: next,
+        outcome: outcome_of(block, reading, next.back, last),
     }
 }
 

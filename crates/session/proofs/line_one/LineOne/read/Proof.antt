@@ -7,32 +7,32 @@ use Rattle.session.proofs.line_one.LineOne.read.Tie as tie
 enum-told : tie.Need-enum-told
 enum-told c = search needs
 
-read-k-requires : tie.Need-read-k-requires
-read-k-requires c κs = search needs
+read-decimal-requires : tie.Need-read-decimal-requires
+read-decimal-requires c κs = search needs
 
 enum-told-2 : tie.Need-enum-told-2
 enum-told-2 c = search needs
 
-read-k-digits-requires : tie.Need-read-k-digits-requires
-read-k-digits-requires c κs = search needs
+read-decimal-requires-2 : tie.Need-read-decimal-requires-2
+read-decimal-requires-2 c κs = search needs
 
 enum-told-3 : tie.Need-enum-told-3
 enum-told-3 c = search needs
 
-read-length-requires : tie.Need-read-length-requires
-read-length-requires c κs = search needs
+read-decimal-requires-3 : tie.Need-read-decimal-requires-3
+read-decimal-requires-3 c κs = search needs
 
 enum-told-4 : tie.Need-enum-told-4
 enum-told-4 c = search needs
 
-read-length-digits-requires : tie.Need-read-length-digits-requires
-read-length-digits-requires c κs = search needs
+read-decimal-requires-4 : tie.Need-read-decimal-requires-4
+read-decimal-requires-4 c κs = search needs
 
 enum-told-5 : tie.Need-enum-told-5
 enum-told-5 c = search needs
 
-read-order-requires : tie.Need-read-order-requires
-read-order-requires c κs = search needs
+read-high-requires : tie.Need-read-high-requires
+read-high-requires c κs = search needs
 
 enum-known-place : tie.Need-enum-known-place
 enum-known-place c = search needs
@@ -43,8 +43,8 @@ read-low-requires c κs = search needs
 enum-told-6 : tie.Need-enum-told-6
 enum-told-6 c = search needs
 
-read-bytes-requires : tie.Need-read-bytes-requires
-read-bytes-requires c κs = search needs
+read-high-requires-2 : tie.Need-read-high-requires-2
+read-high-requires-2 c κs = search needs
 
 enum-told-7 : tie.Need-enum-told-7
 enum-told-7 c = search needs
@@ -60,23 +60,23 @@ at-requires-2 c κs = search needs
 
 returns : tie.Need-returns
 unfolding nextAt nextOrder
-returns c = let p = c .before .enum-told .given .1 in (rw p (c .read-k .ensures), rw p)
+returns c = let p = c .before .enum-told .given .1 in (rw p (c .read-decimal .ensures), rw p)
 
 returns-2 : tie.Need-returns-2
 unfolding nextAt nextOrder
-returns-2 c = let p = c .before .enum-told2 .given .1 in (rw p (c .read-k-digits .ensures), rw p)
+returns-2 c = let p = c .before .enum-told2 .given .1 in (rw p (c .read-decimal2 .ensures), rw p)
 
 returns-3 : tie.Need-returns-3
 unfolding nextAt nextOrder
-returns-3 c = let p = c .before .enum-told3 .given .1 in (rw p (c .read-length .ensures), rw p)
+returns-3 c = let p = c .before .enum-told3 .given .1 in (rw p (c .read-decimal3 .ensures), rw p)
 
 returns-4 : tie.Need-returns-4
 unfolding nextAt nextOrder
-returns-4 c = let p = c .before .enum-told4 .given .1 in (rw p (c .read-length-digits .ensures), rw p)
+returns-4 c = let p = c .before .enum-told4 .given .1 in (rw p (c .read-decimal4 .ensures), rw p)
 
 returns-5 : tie.Need-returns-5
 unfolding nextAt nextOrder
-returns-5 c = let p = c .before .enum-told5 .given .1 in (rw p (c .read-order .ensures), rw p)
+returns-5 c = let p = c .before .enum-told5 .given .1 in (rw p (c .read-high .ensures), rw p)
 
 same-length : tie.Need-same-length
 same-length c = search needs
@@ -89,7 +89,7 @@ returns-6 c =
 
 returns-7 : tie.Need-returns-7
 unfolding nextAt nextOrder
-returns-7 c = let p = c .before .enum-told6 .given .1 in (rw p (c .read-bytes .ensures), rw p)
+returns-7 c = let p = c .before .enum-told6 .given .1 in (rw p (c .read-high2 .ensures), rw p)
 
 returns-8 : tie.Need-returns-8
 unfolding nextAt nextOrder
@@ -104,19 +104,19 @@ read-spec =
     tie.close
     (tie.spec
     enum-told
-    read-k-requires
+    read-decimal-requires
     enum-told-2
-    read-k-digits-requires
+    read-decimal-requires-2
     enum-told-3
-    read-length-requires
+    read-decimal-requires-3
     enum-told-4
-    read-length-digits-requires
+    read-decimal-requires-4
     enum-told-5
-    read-order-requires
+    read-high-requires
     enum-known-place
     read-low-requires
     enum-told-6
-    read-bytes-requires
+    read-high-requires-2
     enum-told-7
     at-requires
     enum-told-8

@@ -1,9 +1,7 @@
 -- `LineOne::read_low` meets its contract. Assumes nothing.
-use mathlib.Core.Path.{_≡_}
-use mathlib.Core.Bool.{true, false}
-use lib.Dec.{ltb}
+use mathlib.Core.Path.{refl}
 use borrow.Author.Tests.{lt-ltb, le-ltb}
-use Rattle.session.specs.LineOne.{hexValue, nextAt, nextOrder}
+use Rattle.session.specs.LineOne.{nextAt, nextOrder}
 use borrow.Author.Needs.{needs}
 use Rattle.session.proofs.line_one.LineOne.read_low.Statement.{statement}
 use Rattle.session.proofs.line_one.LineOne.read_low.Tie as tie
@@ -16,20 +14,14 @@ at-requires c κs = search needs
 
 returns : tie.Need-returns
 unfolding nextAt nextOrder
-returns c =
-    let e : c .before .before .hex-value .result ≡ hexValue (c .before .before .before .before .args .c) = c .before .before .hex-value .ensures in
-    let t : ltb (hexValue (c .before .before .before .before .args .c)) 16 ≡ false = rw (← e) (le-ltb _ _ (c .before .if1 .taken)) in
-    (rw t (c .at .ensures), rw t)
+returns c = rw (← c .before .before .hex-value .ensures, le-ltb _ _ (c .before .if1 .taken)) (c .at .ensures, refl)
 
 at-requires-2 : tie.Need-at-requires-2
 at-requires-2 c κs = search needs
 
 returns-2 : tie.Need-returns-2
 unfolding nextAt nextOrder
-returns-2 c =
-    let e : c .before .before .before .hex-value .result ≡ hexValue (c .before .before .before .before .before .args .c) = c .before .before .before .hex-value .ensures in
-    let t : ltb (hexValue (c .before .before .before .before .before .args .c)) 16 ≡ true = rw (← e) (lt-ltb _ _ (c .before .before .if1 .left)) in
-    (rw (t, le-ltb _ _ (c .before .if2 .taken)) (c .at2 .ensures), rw (t, le-ltb _ _ (c .before .if2 .taken)))
+returns-2 c = rw (← c .before .before .before .hex-value .ensures, lt-ltb _ _ (c .before .before .if1 .left), le-ltb _ _ (c .before .if2 .taken)) (c .at2 .ensures, refl)
 
 mul-order : tie.Need-mul-order
 mul-order c = search needs
@@ -48,10 +40,7 @@ same-length c = search needs
 
 returns-3 : tie.Need-returns-3
 unfolding nextAt nextOrder
-returns-3 c =
-    let e : c .before .before .hex-value .result ≡ hexValue (c .before .before .before .before .args .c) = c .before .before .hex-value .ensures in
-    let t : ltb (hexValue (c .before .before .before .before .args .c)) 16 ≡ true = rw (← e) (lt-ltb _ _ (c .before .if1 .left)) in
-    (rw (t, lt-ltb _ _ (c .if2 .left)), rw (t, lt-ltb _ _ (c .if2 .left), e))
+returns-3 c = rw (← c .before .before .hex-value .ensures, lt-ltb _ _ (c .before .if1 .left), lt-ltb _ _ (c .if2 .left)) (refl, refl)
 
 pub read-low-spec : {M : Type 1} → statement M
 read-low-spec =
