@@ -1,3 +1,6 @@
+-- Lemmas of the block; those of one function of the code stand in its folder.
+-- Truth values: Truth. The four lengths: Lengths. The block as a row: Block; its bytes: Packing. Which answer a call gives:
+-- Refusals. Reading what was built: RoundTrip. Passing and dividing: Passing. The theorems at one case: Witness.
 pub mod Truth
 pub mod Lengths
 pub mod Block

@@ -1,48 +1,23 @@
--- Rows packed into bytes half a byte at a time: what a byte joined of two halves holds, and a row's first bytes and the
--- others. Assumes nothing.
+-- Rows packed into bytes half a byte at a time: what a byte joined of two halves holds, and a row's first bytes. Assumes
+-- nothing.
 use mathlib.Core.Path.{_≡_, refl, sym, ap, ap₂, _∙_}
 use mathlib.Core.List.{List, [], _∷_, _++_, append-assoc}
-use Prim.Native.Nat.{ℕ, zero, suc, _+_, _*_, _/_, _%_, _^_, _≤_, _<_}
-use native.Mathlib.Nat.{zero-add, suc-add, add-suc, mod-lt, le-of-lt}
+use Prim.Native.Nat.{ℕ, suc, _+_, _*_, _/_, _%_, _^_, _≤_, _<_}
+use native.Mathlib.Nat.{add-suc, le-of-lt}
 use native.Mathlib.Numerals.{add-one, add-two}
 use native.Mathlib.Omega.{arith}
 use lib.Bits.{bitOr, bitAnd, or-shifted, and-mask}
-use lib.ListN.{length, take, drop, getD, set, length-append, length-drop, take-append-drop}
-use lib.Seq.{take-take, take-append-le, drop-append-le, take-at, drop-at, take-suc, drop-cons, drop-drop, take-add, length-take-le, sets-eq}
-use lib.Pow.{split, pow-pos}
+use lib.ListN.{length, take, drop, getD, set, length-append, take-append-drop}
+use lib.Seq.{take-take, drop-at, take-suc, drop-cons, take-add, length-take-le, sets-eq}
 use Rattle.crc.specs.Bits.{Bits, zeros, binary, number, bitsOf, bytesOf}
-use Rattle.crc.proofs.Rows.{length-binary, number-binary, binary-mod, binary-join}
-use Rattle.crc.proofs.Bytes.{length-bitsOf, take-bitsOf, drop-bitsOf, bitsOf-last, bytesOf-zeros}
-
--- ---- halves of a byte
-
--- two halves side by side
-pub binary-halves : (a b : ℕ) → b < 16 → binary 8 (a * 16 + b) ≡ binary 4 a ++ binary 4 b
-binary-halves a b h = binary-join 4 4 a b h
-
--- a number taken apart
-pub binary-split : (a b n : ℕ) → binary (a + b) n ≡ binary a (n / 2 ^ b) ++ binary b n
-binary-split a b n =
-    ap (binary (a + b)) (sym (split n b)) ∙ binary-join a b (n / 2 ^ b) (n % 2 ^ b) (mod-lt n (pow-pos b))
-    ∙ ap (λ (l : Bits). binary a (n / 2 ^ b) ++ l) (binary-mod b n)
-
-pub drop-half : (x : ℕ) (r : Bits) → drop 4 (binary 8 x ++ r) ≡ binary 4 x ++ r
-unfolding binary
-drop-half x r = refl
+use Rattle.crc.proofs.Rows.{length-binary, number-binary, binary-mod, binary-join, binary-split}
+use Rattle.crc.proofs.Bytes.{length-bitsOf, take-bitsOf, drop-bitsOf, bitsOf-last, bytesOf-zeros, byte-first, bytesOf-front}
 
 -- ---- the first bytes of a row
 
-byte-first : (m x : ℕ) (r : Bits) → x < 256 → bytesOf (suc m) (binary 8 x ++ r) ≡ x ∷ bytesOf m r
-unfolding bytesOf
-byte-first m x r h =
-    ap₂ (λ (y : ℕ) (l : Bits). y ∷ bytesOf m l)
-    (ap (λ (l : Bits). number (take 8 l)) (append-assoc (binary 8 x) r (zeros 8))
-    ∙ ap number (take-at (binary 8 x) (r ++ zeros 8) 8 (length-binary 8 x)) ∙ number-binary 8 x h)
-    (drop-at (binary 8 x) r 8 (length-binary 8 x))
-
 pub halves-first : (m a b : ℕ) (r : Bits) → a < 16 → b < 16 → bytesOf (suc m) (binary 4 a ++ (binary 4 b ++ r)) ≡ (a * 16 + b) ∷ bytesOf m r
 halves-first m a b r ha hb =
-    ap (bytesOf (suc m)) (sym (append-assoc (binary 4 a) (binary 4 b) r) ∙ ap (λ (l : Bits). l ++ r) (sym (binary-halves a b hb)))
+    ap (bytesOf (suc m)) (sym (append-assoc (binary 4 a) (binary 4 b) r) ∙ ap (λ (l : Bits). l ++ r) (sym (binary-join 4 4 a b hb)))
     ∙ byte-first m (a * 16 + b) r (omega arith)
 
 -- a half and a byte: the first byte of them, and the half that is left
@@ -61,27 +36,6 @@ joined c h b =
     rw e (or-shifted (c % 16) 4 h b)
 
 -- ---- a row's first bytes and the others
-
-pub bytesOf-add : (i n : ℕ) (bs : Bits) → bytesOf (i + n) bs ≡ bytesOf i bs ++ bytesOf n (drop (8 * i) bs)
-unfolding bytesOf
-bytesOf-add zero n bs = ap (λ (x : ℕ). bytesOf x bs) (zero-add n)
-bytesOf-add (suc i) n bs =
-    let e : 8 + 8 * i ≡ 8 * suc i = omega arith in
-    ap (λ (x : ℕ). bytesOf x bs) (suc-add i n)
-    ∙ ap (λ (l : List ℕ). number (take 8 (bs ++ zeros 8)) ∷ l)
-    (bytesOf-add i n (drop 8 bs)
-    ∙ ap (λ (l : Bits). bytesOf i (drop 8 bs) ++ bytesOf n l) (drop-drop (8 * i) 8 bs ∙ ap (λ (x : ℕ). drop x bs) e))
-
--- what stands behind the first bytes does not matter
-pub bytesOf-front : (m : ℕ) (x y : Bits) → 8 * m ≤ length x → bytesOf m (x ++ y) ≡ bytesOf m x
-unfolding bytesOf
-bytesOf-front zero x y h = refl
-bytesOf-front (suc m) x y h =
-    let k : 8 ≤ length x = omega arith in
-    let r : 8 * m ≤ length (drop 8 x) = omega (arith, length-drop 8 x) in
-    ap₂ (λ (l : Bits) (t : List ℕ). number l ∷ t)
-    (ap (take 8) (append-assoc x y (zeros 8)) ∙ take-append-le 8 x (y ++ zeros 8) k ∙ sym (take-append-le 8 x (zeros 8) k))
-    (ap (bytesOf m) (drop-append-le 8 x y k) ∙ bytesOf-front m (drop 8 x) y r)
 
 pub bytesOf-take : (m : ℕ) (bs : Bits) → 8 * m ≤ length bs → bytesOf m (take (8 * m) bs) ≡ bytesOf m bs
 bytesOf-take m bs h =
@@ -102,9 +56,9 @@ shifted-first m c p i h b =
 
 -- where the bytes start
 pub drop-half-first : (p : List ℕ) → 0 < length p → drop 4 (bitsOf p) ≡ binary 4 (getD p 0 0) ++ bitsOf (drop 1 p)
-unfolding bitsOf
+unfolding bitsOf binary
 drop-half-first [] h = absurd (omega arith)
-drop-half-first (x ∷ p) h = drop-half x (bitsOf p)
+drop-half-first (x ∷ p) h = refl
 
 -- and where they end: the half that has no byte yet
 pub shifted-rest : (c j : ℕ) (p : List ℕ) → j < length p → drop (8 * suc j) (binary 4 c ++ bitsOf (take (suc j) p)) ≡ binary 4 (getD p j 0)

@@ -1,18 +1,18 @@
 -- Reading what building wrote gives the service bits and the data back. Assumes nothing.
-use mathlib.Core.Path.{_≡_, refl, sym, ap, ap₂, _∙_}
-use mathlib.Core.Bool.{Bool, true, false, not, _||_}
-use mathlib.Core.List.{List, [], _∷_, _++_, append-assoc}
-use Prim.Native.Nat.{ℕ, zero, suc, _+_, _-_, _*_, _≤_, _<_}
+use mathlib.Core.Path.{_≡_, sym, ap, ap₂, _∙_}
+use mathlib.Core.Bool.{true, not, _||_}
+use mathlib.Core.List.{List, _++_, append-assoc}
+use Prim.Native.Nat.{ℕ, _+_, _-_, _*_, _≤_, _<_}
 use native.Mathlib.Omega.{arith}
 use borrow.Author.Tests.{not-false, ltb-false}
-use lib.Dec.{ltb, lit<}
+use lib.Dec.{ltb}
 use lib.ListN.{length, getD, take, drop, length-append, length-drop}
 use lib.Seq.{take-at, take-append-le, drop-append-le, length-take-le}
 use Rattle.crc.specs.Bits.{Bits, zeros, binary, number, bitsOf, bytesOf}
 use Rattle.crc.proofs.Rows.{length-binary, number-binary}
-use Rattle.crc.proofs.Bytes.{length-bitsOf, bitsOf-append, take-bitsOf, length-bytesOf, bitsOf-bytesOf, bytesOf-bitsOf}
+use Rattle.crc.proofs.Bytes.{length-bitsOf, bitsOf-append, length-bytesOf, bitsOf-bytesOf, packed-front}
 use Rattle.block.specs.Answer as A
-use Rattle.block.specs.Answer.{Answer, done, refuseIf}
+use Rattle.block.specs.Answer.{done}
 use Rattle.block.specs.Lengths.{isLength, blockLength, payloadBytes, blockBytes}
 use Rattle.block.specs.Block.{blockBits, payloadOf, passed, verdict}
 use Rattle.block.specs.Calls.{tooShort, overwritten, buildBlock, builtBytes, BuildBlock, readAnswer, readBlock, readBytes, ReadBlock}
@@ -23,13 +23,6 @@ use Rattle.block.proofs.Lengths.{length-facts, length-bytes}
 use Rattle.block.proofs.Block.{length-blockBits, passes-blockBits, service-blockBits, payload-blockBits}
 use Rattle.block.proofs.Refusals.{passed-test, read-done}
 use Rattle.block.proofs.Truth.{or-false}
-
--- a part of bytes is bytes
-take-lt : (n : ℕ) (s : List ℕ) → ((i : ℕ) → getD s i 0 < 256) → (i : ℕ) → getD (take n s) i 0 < 256
-take-lt zero s b i = lit< tt
-take-lt (suc n) [] b i = b i
-take-lt (suc n) (x ∷ s) b zero = b 0
-take-lt (suc n) (x ∷ s) b (suc i) = take-lt n s (λ j. b (suc j)) i
 
 module _ (k service : ℕ) (payload slice room : List ℕ) (known : isLength k ≡ true) (small : service ≤ 15)
     (held : k ≤ 8 * length payload) (wide : blockLength k ≤ 8 * length slice) (space : k ≤ 8 * length room) where
@@ -104,12 +97,8 @@ module _ (k service : ℕ) (payload slice room : List ℕ) (known : isLength k �
   bytes-built b =
       let f = length-facts k known in
       let m : ℕ = payloadBytes k in
-      let n : length (take m payload) ≡ m = length-take-le m payload (omega arith) in
       let e : bytesOf m (take k (bitsOf payload)) ≡ take m payload =
-      ap (λ (x : ℕ). bytesOf m (take x (bitsOf payload))) (sym (length-bytes k known))
-      ∙ ap (bytesOf m) (take-bitsOf m payload)
-      ∙ ap (λ (x : ℕ). bytesOf x (bitsOf (take m payload))) (sym n)
-      ∙ bytesOf-bitsOf (take m payload) (take-lt m payload b) in
+      ap (λ (x : ℕ). bytesOf m (take x (bitsOf payload))) (sym (length-bytes k known)) ∙ packed-front m payload b (omega arith) in
       data-built ∙ ap (λ (l : List ℕ). l ++ drop m room) e
 
 -- ---- the same on the promises of the two calls

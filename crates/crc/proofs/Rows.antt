@@ -9,8 +9,9 @@ use native.Mathlib.Omega.{arith}
 use lib.Arith.{digits-lt}
 use lib.Bits.{bitXor, differ, xor-shr}
 use lib.Dec.{eqb, lit<}
-use lib.ListN.{length, length-replicate}
-use lib.Pow.{mod-pow-add, field, mod-mod-pow, low, high, shr-shr}
+use lib.ListN.{length, take, drop, length-replicate}
+use lib.Pow.{mod-pow-add, field, mod-mod-pow, low, high, shr-shr, split, pow-pos}
+use lib.Seq.{take-at, drop-at}
 use Rattle.crc.specs.Bits.{Bits, zeros, bit, odd, binary, numberFrom, number, xor, xorBits}
 use Rattle.crc.proofs.Xor.{xor-odd}
 
@@ -196,6 +197,18 @@ binary-join (suc a) b m n h =
     ∙ ap₂ (λ (x : ℕ) (l : Bits). odd x ∷ l)
     (ap (λ (x : ℕ). (m * 2 ^ b + n) / 2 ^ x) (add-comm a b) ∙ sym (shr-shr (m * 2 ^ b + n) b a) ∙ ap (λ (x : ℕ). x / 2 ^ a) (high m b h))
     (binary-join a b m n h)
+
+-- a number taken apart
+pub binary-split : (a b n : ℕ) → binary (a + b) n ≡ binary a (n / 2 ^ b) ++ binary b n
+binary-split a b n =
+    ap (binary (a + b)) (sym (split n b)) ∙ binary-join a b (n / 2 ^ b) (n % 2 ^ b) (mod-lt n (pow-pos b))
+    ∙ ap (λ (l : Bits). binary a (n / 2 ^ b) ++ l) (binary-mod b n)
+
+pub take-binary : (a b n : ℕ) → take a (binary (a + b) n) ≡ binary a (n / 2 ^ b)
+take-binary a b n = rw (binary-split a b n) (take-at (binary a (n / 2 ^ b)) (binary b n) a (length-binary a (n / 2 ^ b)))
+
+pub drop-binary : (a b n : ℕ) → drop a (binary (a + b) n) ≡ binary b n
+drop-binary a b n = rw (binary-split a b n) (drop-at (binary a (n / 2 ^ b)) (binary b n) a (length-binary a (n / 2 ^ b)))
 
 -- ---- the sum of two rows
 

@@ -1,7 +1,7 @@
 -- Bits moved by bytes: parts of a byte, bytes joined of two, a row written into an array byte by byte, and bytes written
 -- over a part of the store. Assumes nothing.
 use mathlib.Core.Path.{_≡_, sym, ap, ap₂, _∙_}
-use mathlib.Core.List.{List, [], _∷_, _++_, append-assoc, append-nil}
+use mathlib.Core.List.{List, [], _∷_, _++_, append-assoc}
 use mathlib.Core.Logic.{⊎-elim}
 use Prim.Native.Nat.{ℕ, zero, suc, _+_, _-_, _*_, _/_, _%_, _^_, _≤_, _<_}
 use native.Mathlib.Nat.{mod-lt, le-of-lt, eq-or-lt-of-le}
@@ -9,23 +9,14 @@ use native.Mathlib.Numerals.{add-one}
 use native.Mathlib.Omega.{arith}
 use lib.Bits.{bitOr, bitAnd, or-shifted, and-mask, and-high}
 use lib.ListN.{length, take, drop, getD, set, length-append, length-drop, take-append-drop}
-use lib.Dec.{lit<}
 use lib.Pow.{pow-pos, shl-exact, ones-split, ones-lt, high}
-use lib.Seq.{take-at, drop-at, take-append-le, take-append-add, take-add, drop-append-add, drop-append-le, take-suc, take-suc-set, take-take, take-all, drop-drop, drop-cons, set-split, length-take-le}
-use Rattle.crc.specs.Bits.{Bits, binary, bitsOf, bytesOf, zeros}
-use Rattle.crc.proofs.Rows.{length-binary, binary-mod, binary-join}
-use Rattle.crc.proofs.Bytes.{length-bitsOf, take-bitsOf, drop-bitsOf, bitsOf-append, bitsOf-last, bitsOf-bytesOf, bytesOf-bitsOf}
-use Rattle.block.proofs.Packing.{binary-split}
+use lib.Seq.{take-append-le, take-append-add, take-add, drop-append-add, drop-append-le, take-suc, take-suc-set, take-take, take-all, drop-drop, drop-cons, set-split, length-take-le}
+use Rattle.crc.specs.Bits.{Bits, binary, bitsOf}
+use Rattle.crc.proofs.Rows.{length-binary, binary-mod, binary-join, take-binary, drop-binary}
+use Rattle.crc.proofs.Bytes.{length-bitsOf, take-bitsOf, drop-bitsOf, bitsOf-append, bitsOf-last, take-bytes, drop-bytes, packed}
 use Rattle.line.specs.Receiving.{overwrite, storeAt}
-use Rattle.line.proofs.LastItem.{take-bytes, drop-bytes}
 
 -- ---- parts of a byte
-
-pub take-binary : (a b n : ℕ) → take a (binary (a + b) n) ≡ binary a (n / 2 ^ b)
-take-binary a b n = ap (take a) (binary-split a b n) ∙ take-at (binary a (n / 2 ^ b)) (binary b n) a (length-binary a (n / 2 ^ b))
-
-pub drop-binary : (a b n : ℕ) → drop a (binary (a + b) n) ≡ binary b n
-drop-binary a b n = ap (drop a) (binary-split a b n) ∙ drop-at (binary a (n / 2 ^ b)) (binary b n) a (length-binary a (n / 2 ^ b))
 
 module _ (n : ℕ) (h : n ≤ 8) where
   both : n + (8 - n) ≡ 8
@@ -147,14 +138,6 @@ further x y i e =
     let f : i + 1 ≡ suc i = add-one i in
     ap (λ (k : ℕ). drop k x) (sym f) ∙ sym (drop-drop 1 i x) ∙ ap (drop 1) e ∙ drop-drop 1 i y ∙ ap (λ (k : ℕ). drop k y) f
 
--- a byte set among bytes
-pub set-bytes : (l : List ℕ) (i v : ℕ) → v < 256 → ((j : ℕ) → getD l j 0 < 256) → (j : ℕ) → getD (set l i v) j 0 < 256
-set-bytes [] i v h k j = lit< tt
-set-bytes (x ∷ l) zero v h k zero = h
-set-bytes (x ∷ l) zero v h k (suc j) = k (suc j)
-set-bytes (x ∷ l) (suc i) v h k zero = k 0
-set-bytes (x ∷ l) (suc i) v h k (suc j) = set-bytes l i v h (λ m. k (suc m)) j
-
 module _ (array array₀ line : List ℕ) (held count at i s n c v w : ℕ) (ha : at < length array) (hh : held ≤ 8 * length array₀)
     (same : drop at array ≡ drop at array₀) (hi : i ≤ length line) (hc : count ≤ 8 * suc i) (hl : count ≤ 8 * length line) (hn : n ≤ 8)
     (places : 8 * at + n ≡ held + count) where
@@ -208,17 +191,7 @@ module _ (array array₀ line : List ℕ) (held count at i s n c v w : ℕ) (ha 
       ∙ append-assoc u new (drop (held + count) (bitsOf array₀))
       ∙ ap (λ (k : ℕ). u ++ (new ++ drop (held + k) (bitsOf array₀))) ln
 
--- bytes are packed as their bits
-pub packed : (l : List ℕ) (m : ℕ) (row : Bits) → length l ≡ m → ((j : ℕ) → getD l j 0 < 256) → bitsOf l ≡ row → l ≡ bytesOf m row
-packed l m row n h e = sym (bytesOf-bitsOf l h) ∙ ap₂ bytesOf n e
-
 -- ---- bytes over a part of the store
-
--- bits that fill whole bytes
-pub whole-bytes : (m : ℕ) (d : Bits) → length d ≡ 8 * m → bitsOf (bytesOf m d) ≡ d
-whole-bytes m d e =
-    let n : 8 * m - length d ≡ 0 = omega arith in
-    bitsOf-bytesOf m d (omega arith) ∙ ap (λ (j : ℕ). d ++ zeros j) n ∙ append-nil d
 
 append-bytes : (x y : List ℕ) → ((i : ℕ) → getD x i 0 < 256) → ((i : ℕ) → getD y i 0 < 256) → (i : ℕ) → getD (x ++ y) i 0 < 256
 append-bytes [] y h k i = k i

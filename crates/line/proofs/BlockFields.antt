@@ -45,20 +45,17 @@ four-bytes (v ∷ x ∷ y ∷ z ∷ w ∷ s) h b =
     regroup x y z w = omega arith
 
 -- the version
-module _ (s : List ℕ) (h : 5 ≤ length s) (b : getD s 0 0 < 256) where
-  first-byte : number (take 8 (bitsOf s)) ≡ getD s 0 0
-  unfolding bitsOf
-  first-byte = go s h b
-    where
-      go : (s : List ℕ) → 5 ≤ length s → getD s 0 0 < 256 → number (take 8 (bitsOf s)) ≡ getD s 0 0
-      go [] h b = absurd (omega arith)
-      go (x ∷ s) h b = ap number (take-at (binary 8 x) (bitsOf s) 8 (length-binary 8 x)) ∙ number-binary 8 x b
+first-byte : (s : List ℕ) → 5 ≤ length s → getD s 0 0 < 256 → number (take 8 (bitsOf s)) ≡ getD s 0 0
+unfolding bitsOf
+first-byte [] h b = absurd (omega arith)
+first-byte (x ∷ s) h b = ap number (take-at (binary 8 x) (bitsOf s) 8 (length-binary 8 x)) ∙ number-binary 8 x b
 
+module _ (s : List ℕ) (h : 5 ≤ length s) (b : getD s 0 0 < 256) where
   pub version-is : getD s 0 0 ≡ version → eqb (number (take 8 (bitsOf s))) version ≡ true
-  version-is e = eq-eqb (number (take 8 (bitsOf s))) version (first-byte ∙ e)
+  version-is e = eq-eqb (number (take 8 (bitsOf s))) version (first-byte s h b ∙ e)
 
   pub version-not : (getD s 0 0 ≡ version → ⊥) → eqb (number (take 8 (bitsOf s))) version ≡ false
-  version-not e = ne-eqb (number (take 8 (bitsOf s))) version (λ q. e (sym first-byte ∙ q))
+  version-not e = ne-eqb (number (take 8 (bitsOf s))) version (λ q. e (sym (first-byte s h b) ∙ q))
 
 -- ---- rule 6: the version read, its length against the items taken
 

@@ -12,7 +12,7 @@ use lib.Seq.{take-at, take-take, length-take-le}
 use types.Run.{OneOf}
 use denote.Enum.Declared.{tagOf}
 use Rattle.crc.specs.Bits.{Bits, bitsOf, bytesOf}
-use Rattle.crc.proofs.Bytes.{length-bitsOf, bitsOf-append}
+use Rattle.crc.proofs.Bytes.{length-bitsOf, bitsOf-append, bitsOf-bytesOf-exact}
 use Rattle.block.specs.Answer as A
 use Rattle.block.specs.Answer.{done}
 use Rattle.block.specs.Lengths.{isLength, blockLength}
@@ -34,7 +34,6 @@ use Rattle.line.specs.declared.rules.Rule as D
 use Rattle.line.specs.declared.rules.Rule.the-variants as C
 use Rattle.line.proofs.rules.Rule as code
 use Rattle.line.proofs.LastItem.{drop-take}
-use Rattle.line.proofs.BitMoves.{whole-bytes}
 
 -- ---- the store
 
@@ -158,7 +157,7 @@ module _ (k : ℕ) (known : isLength k ≡ true) (slice : List ℕ) (h : blockLe
         let d : Bits = take (8 * m) (payloadOf k row) in
         let n : length d ≡ 8 * m = length-take-le (8 * m) (payloadOf k row) (omega (arith, length-data)) in
         ap (λ (x : List ℕ). take (8 * m) (bitsOf x)) data-moved
-        ∙ ap (take (8 * m)) (bitsOf-append (bytesOf m d) (drop m payload) ∙ ap (λ (x : Bits). x ++ bitsOf (drop m payload)) (whole-bytes m d n))
+        ∙ ap (take (8 * m)) (bitsOf-append (bytesOf m d) (drop m payload) ∙ ap (λ (x : Bits). x ++ bitsOf (drop m payload)) (bitsOf-bytesOf-exact m d n))
         ∙ take-at d (bitsOf (drop m payload)) (8 * m) n
 
 -- rule 6 reads the first forty bits of the data alone

@@ -11,7 +11,7 @@ use lib.ListN.{length, getD, take, drop, length-append, length-drop}
 use lib.Seq.{take-at, drop-at, take-take, take-append-le, drop-append-le}
 use Rattle.crc.specs.Bits.{Bits, binary, bitsOf, bytesOf, zeros}
 use Rattle.crc.proofs.Rows.{length-binary}
-use Rattle.crc.proofs.Bytes.{length-bitsOf, bitsOf-append, take-bitsOf, drop-bitsOf, length-bytesOf, bytesOf-zeros, bitsOf-bytesOf, bytesOf-bitsOf, bytesOf-append}
+use Rattle.crc.proofs.Bytes.{length-bitsOf, bitsOf-append, take-bitsOf, drop-bitsOf, length-bytesOf, bytesOf-zeros, bitsOf-bytesOf, bytesOf-bitsOf, bytesOf-append, drop-bytes}
 use Rattle.block.specs.Answer.{done}
 use Rattle.block.specs.Lengths.{isLength, blockLength, blockBytes}
 use Rattle.block.specs.Block.{blockBits, syncBlock, cancelled}
@@ -21,7 +21,7 @@ use Rattle.block.proofs.Lengths.{length-facts, length-bytes}
 use Rattle.block.proofs.Block.{length-cancelled}
 use Rattle.line.specs.Order.{itemCount, letter, filled, orderBits, version, endPayload, itemBits}
 use Rattle.line.proofs.Items.{itemCount-least, item-within, length-orderBits, itemService-data, itemPayload-data}
-use Rattle.line.proofs.LastItem.{take-zeros, drop-take, drop-bytes}
+use Rattle.line.proofs.LastItem.{take-zeros, drop-take}
 
 -- ---- the calls
 

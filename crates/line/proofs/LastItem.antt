@@ -5,12 +5,11 @@ use mathlib.Core.List.{List, [], _∷_, _++_, append-assoc}
 use Prim.Native.Nat.{ℕ, zero, suc, _+_, _-_, _*_, _/_, _%_, _≤_, _<_}
 use native.Mathlib.Numerals.{add-one}
 use native.Mathlib.Omega.{arith}
-use lib.Dec.{lit<}
 use lib.ListN.{length, getD, set, take, drop, replicate, length-drop, length-replicate, drop-of-length-le, replicate-append-replicate}
 use lib.Seq.{length-take-le, take-add, take-suc, take-append-le, take-append-add, drop-at, drop-cons, getD-drop, set-at, take-at}
 use Rattle.crc.specs.Bits.{Bits, binary, bitsOf, bytesOf, number, zeros}
 use Rattle.crc.proofs.Rows.{length-binary, binary-zero}
-use Rattle.crc.proofs.Bytes.{length-bitsOf, take-bitsOf, drop-bitsOf, bytesOf-bitsOf, bytesOf-append}
+use Rattle.crc.proofs.Bytes.{length-bitsOf, drop-bitsOf, drop-bytes, packed-front, bytesOf-append}
 
 -- ---- zeros
 
@@ -65,34 +64,15 @@ written m s n v h g =
     ap (λ (z : ℕ). set (take m s ++ replicate z 0) m v) e
     ∙ set-at (take m s) 0 (replicate (n - (m + 1)) 0) v m (length-take-le m s h)
 
-pub take-bytes : (m : ℕ) (s : List ℕ) → ((i : ℕ) → getD s i 0 < 256) → (i : ℕ) → getD (take m s) i 0 < 256
-take-bytes zero s h i = lit< tt
-take-bytes (suc m) [] h i = lit< tt
-take-bytes (suc m) (x ∷ s) h zero = h 0
-take-bytes (suc m) (x ∷ s) h (suc i) = take-bytes m s (λ j. h (suc j)) i
-
-pub drop-bytes : (a : ℕ) (s : List ℕ) → ((i : ℕ) → getD s i 0 < 256) → (i : ℕ) → getD (drop a s) i 0 < 256
-drop-bytes a s h i = rw (getD-drop a s i 0) (h (a + i))
-
 module _ (s : List ℕ) (bytes : (i : ℕ) → getD s i 0 < 256) (m : ℕ) where
   -- whole bytes, and some bits behind them
-  split-row : (rest : ℕ) → take (8 * m + rest) (bitsOf s) ≡ bitsOf (take m s) ++ take rest (bitsOf (drop m s))
-  split-row rest =
-      take-add (8 * m) rest (bitsOf s)
-      ∙ ap₂ (λ (x y : Bits). x ++ take rest y) (take-bitsOf m s) (drop-bitsOf m s)
-
-  packed-front : m ≤ length s → bytesOf m (bitsOf (take m s)) ≡ take m s
-  packed-front h =
-      ap (λ (n : ℕ). bytesOf n (bitsOf (take m s))) (sym (length-take-le m s h))
-      ∙ bytesOf-bitsOf (take m s) (take-bytes m s bytes)
-
-  packed : (rest n : ℕ) → m ≤ length s
+  packed-parts : (rest n : ℕ) → m ≤ length s
       → bytesOf (m + n) (take (8 * m + rest) (bitsOf s)) ≡ take m s ++ bytesOf n (take rest (bitsOf (drop m s)))
-  packed rest n h =
-      ap (bytesOf (m + n)) (split-row rest)
-      ∙ bytesOf-append m n (bitsOf (take m s)) (take rest (bitsOf (drop m s)))
-      (length-bitsOf (take m s) ∙ ap (λ (l : ℕ). 8 * l) (length-take-le m s h))
-      ∙ ap (λ (l : List ℕ). l ++ bytesOf n (take rest (bitsOf (drop m s)))) (packed-front h)
+  packed-parts rest n h =
+      ap (bytesOf (m + n)) (take-add (8 * m) rest (bitsOf s))
+      ∙ bytesOf-append m n (take (8 * m) (bitsOf s)) (take rest (drop (8 * m) (bitsOf s)))
+      (length-take-le (8 * m) (bitsOf s) (omega (arith, length-bitsOf s)))
+      ∙ ap₂ (λ (x : List ℕ) (y : Bits). x ++ bytesOf n (take rest y)) (packed-front m s bytes h) (drop-bitsOf m s)
 
   -- the first bits of the byte behind
   next-bits : (rest : ℕ) → m < length s → rest < 8 → take rest (bitsOf (drop m s)) ≡ take rest (binary 8 (getD s m 0))
@@ -128,7 +108,7 @@ module _ (order : List ℕ) (bytes : (i : ℕ) → getD order i 0 < 256) (bits s
       ≡ take (bits / 8 - start) (drop start order) ++ bytesOf n (take (bits % 8) (bitsOf (drop (bits / 8 - start) (drop start order))))
   order-packed n =
       ap (bytesOf (bits / 8 - start + n)) order-row
-      ∙ packed (drop start order) (drop-bytes start order bytes) (bits / 8 - start) (bits % 8) n
+      ∙ packed-parts (drop start order) (drop-bytes start order bytes) (bits / 8 - start) (bits % 8) n
       (omega (arith, length-drop start order))
 
   -- no bits, or some bits, behind the last whole byte

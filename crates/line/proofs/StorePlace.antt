@@ -11,7 +11,7 @@ use lib.Dec.{leb}
 use lib.ListN.{length, take, drop, getD, length-drop, drop-of-length-le}
 use lib.Seq.{length-take-le}
 use Rattle.crc.specs.Bits.{Bits, bitsOf, bytesOf}
-use Rattle.crc.proofs.Bytes.{length-bytesOf, bytesOf-lt}
+use Rattle.crc.proofs.Bytes.{length-bytesOf, bytesOf-lt, bitsOf-bytesOf-exact}
 use Rattle.block.specs.Lengths.{isLength}
 use Rattle.block.specs.Calls.{tooShort}
 use Rattle.block.proofs.Lengths.{length-facts, length-bytes}
@@ -19,7 +19,7 @@ use Rattle.block.proofs.Truth.{either}
 use Rattle.line.specs.Order.{mostItems}
 use Rattle.line.specs.Receiving.{storeAt}
 use Rattle.line.proofs.ItemBlocks.{item-byte}
-use Rattle.line.proofs.BitMoves.{whole-bytes, placed-store}
+use Rattle.line.proofs.BitMoves.{placed-store}
 
 module _ (k taken : ℕ) (known : isLength k ≡ true) where
   pub start-lt : taken ≤ mostItems → taken * (k / 8) ≤ mostItems * 480
@@ -65,4 +65,4 @@ module _ (k taken : ℕ) (known : isLength k ≡ true) where
           ∙ ap (λ (i : ℕ). take from store ++ (new ++ drop i rest)) (en ∙ sym l)
           ∙ placed-store store new from g bs (bytesOf-lt (k / 8) d)
           ∙ ap (λ (x : ℕ). storeAt x (bitsOf new) store) (item-byte taken k known)
-          ∙ ap (λ (x : Bits). storeAt (taken * k) x store) (whole-bytes (k / 8) d (ed ∙ sym (length-bytes k known)))
+          ∙ ap (λ (x : Bits). storeAt (taken * k) x store) (bitsOf-bytesOf-exact (k / 8) d (ed ∙ sym (length-bytes k known)))

@@ -31,7 +31,7 @@ fn merge(new: u8, n: usize, old: u8) -> u8
 }
 
 // The byte at a place, or 0 behind the last.
-fn byte_at(s: &[u8], i: usize) -> u8
+pub fn byte_at(s: &[u8], i: usize) -> u8
     ensures { λ r. ⌜ r ≡ getD (now (s .entry)) i 0 ⌝ }
 {
     if i < s.len() { s[i] } else { 0 }

@@ -46,7 +46,7 @@ pub(crate) fn letter(i: usize) -> u8
 }
 
 // The first count bits of a byte, zeros behind them.
-fn first_bits(x: u8, count: usize) -> u8
+fn keep_first(x: u8, count: usize) -> u8
     requires { ⌜ count < 8 ⌝ }
     ensures { λ r. ⌜ r ≡ number (take 8 (take count (binary 8 x) ++ zeros 8)) ⌝ }
 {
@@ -67,7 +67,7 @@ fn last_data(order: &[u8], bits: usize, start: usize) -> [u8; 480]
     }
     let rest = bits % 8;
     if 0 < rest {
-        payload[whole] = first_bits(order[start + whole], rest);
+        payload[whole] = keep_first(order[start + whole], rest);
     }
     payload
 }

@@ -1,3 +1,5 @@
+-- Lemmas of the calls for C and Rust; those of one function of the code stand in the folder of its file.
+-- A state's bytes: Flags, Places. What a state's fields may be: Ranges (sender), ReceiverRange. Written and read back: RoundTrip.
 pub mod Flags
 pub mod Places
 pub mod Ranges

@@ -7,7 +7,7 @@ use Prim.Native.Nat.{ℕ, suc, _+_, _*_, _^_, _≤_, _<_}
 use native.Mathlib.Omega.{arith}
 use borrow.Author.Tests.{ltb-true, leb-true, not-false}
 use lib.Dec.{eqb, leb, ltb}
-use lib.ListN.{length, take, length-append, length-drop, length-take, length-replicate}
+use lib.ListN.{length, take, length-append, length-drop, length-take}
 use Rattle.crc.specs.Bits.{Bits, bitsOf}
 use Rattle.crc.proofs.Bytes.{length-bytesOf}
 use Rattle.block.specs.Answer as A
@@ -17,10 +17,12 @@ use Rattle.block.specs.Calls.{tooShort}
 use Rattle.block.proofs.Lengths.{length-facts}
 use Rattle.block.proofs.Truth.{cond-case}
 use Rattle.block.proofs.Refusals.{passed-test}
-use Rattle.line.specs.Receiving.{arrayBytes, zeroArray, freshReceiver, openReceiver, Rule, unfinished, standing, sequence-found, sync-block, check-fails, accepts, previous, out-of-sequence, ends, wrong-length, ends-again, anything-else, meaning, judge, blank, lastBad, afterBad, after, heldBits, Reception, latest, isSequence, search, underAlarm, holding, missing, finishedRow, inStep, byPhase, reception, heldInRange, receiverInRange, receive}
+use Rattle.line.specs.Receiving.{arrayBytes, freshReceiver, openReceiver, Rule, unfinished, standing, sequence-found, sync-block, check-fails, accepts, previous, out-of-sequence, ends, wrong-length, ends-again, anything-else, meaning, judge, blank, lastBad, afterBad, after, heldBits, Reception, latest, isSequence, search, underAlarm, holding, missing, finishedRow, inStep, byPhase, reception, heldInRange, receiverInRange, receive}
 use Rattle.line.specs.declared.receiver.Receiver.{Receiver}
 use Rattle.line.specs.declared.receiving.Phase.{Phase}
 use Rattle.line.specs.declared.receiving.Phase.the-variants as P
+use Rattle.line.proofs.Delivery.WrittenBits.{length-zeroArray}
+use Rattle.line.proofs.Delivery.SearchAnyBits.{length-latest}
 use Rattle.line.proofs.ReceivingCall.{InRange, in-range, held-search}
 use Rattle.line_c.specs.State.{ReceiverFits}
 
@@ -45,10 +47,6 @@ receiver-fits s h b =
     }
 
 -- ---- the state after an event
-
-length-zeroArray : length zeroArray ≡ arrayBytes
-unfolding zeroArray
-length-zeroArray = length-replicate {A = ℕ} arrayBytes 0
 
 abbrev Fits : Reception → Type 0
 Fits x = ReceiverFits (x .state)
@@ -84,9 +82,6 @@ module _ (s : Receiver) (r : InRange s) (f : ReceiverFits s) where
   after-fits anything-else = afterBad-fits (leb lastBad (s .«bad_row» + 1) || eqb (s .taken) 0)
 
   -- ---- in search
-
-  length-latest : (row : Bits) → length (latest row) ≤ 15
-  length-latest row = simp length-drop (omega arith)
 
   search-fits : (new window : Bits) (used : ℕ) → length window ≤ 15 → ReceiverFits (search s window new used .state)
   search-fits [] window used h =

@@ -1,3 +1,6 @@
+-- Lemmas of the run program's text; those of one function of the code stand in the folder of its file.
+-- Texts: Appending, Decimal. Line one: LineOne, Ranges, Openings (opening by what is kept of it). A period: Orders, Parts, Sent
+-- (the block in the line's array), Shifting, ReceivingCalls, Uses, PeriodCalls. The whole input: Whole.
 pub mod Appending
 pub mod Decimal
 pub mod ReceivingCalls

@@ -1,9 +1,9 @@
 -- A period over the first bytes of an order is the period over the order, if those hold its length. Assumes nothing.
 use mathlib.Core.Path.{_≡_, refl, sym, ap, _∙_}
-use mathlib.Core.Bool.{Bool, true, false, cond}
-use mathlib.Core.List.{List, [], _∷_, _++_}
+use mathlib.Core.Bool.{Bool}
+use mathlib.Core.List.{List}
 use mathlib.Core.Logic.{⊎-elim}
-use Prim.Native.Nat.{ℕ, _+_, _*_, _≤_, _<_}
+use Prim.Native.Nat.{ℕ, _*_, _≤_, _<_}
 use native.Mathlib.Omega.{arith}
 use lib.ListN.{length, take, replicate}
 use lib.Seq.{take-all, take-take, length-take-le}
@@ -14,12 +14,11 @@ use Rattle.block.specs.Answer.{Answer, refused, done}
 use Rattle.block.specs.Calls.{tooShort}
 use Rattle.line.specs.Order.{orderBits}
 use Rattle.line.specs.Sending as S
-use Rattle.line.specs.Sending.{send, sendState, transmit}
-use Rattle.line.specs.declared.sender.Next.{Next}
-use Rattle.line.specs.declared.sender.Next.the-variants.{Sync, Older, Newer}
+use Rattle.line.specs.Sending.{send}
 use Rattle.line.specs.declared.sender.Sender.{Sender}
 use Rattle.line.specs.declared.receiver.Receiver.{Receiver}
-use Rattle.session.specs.Period.{readingOf, lineBytes, Course, sentCourse, period}
+use Rattle.line.proofs.Delivery.SendStep.{setup-kept}
+use Rattle.session.specs.Period.{readingOf, lineBytes, sentCourse, period}
 use Rattle.session.specs.declared.period.Kind.{Kind}
 use Rattle.session.proofs.Decimal.{below-or}
 
@@ -54,17 +53,10 @@ period-kept m kind s r order store h =
     (course-kept m kind s r (readingOf kind (r .back)) order store (send s order (readingOf kind (r .back)) (replicate lineBytes 0)) h)
 
 -- a period leaves what the sender's opening fixed
-transmit-setup : (s : Sender) (next : Next) (reading : Bool) → transmit s next reading .state .setup ≡ s .setup
-unfolding transmit
-transmit-setup s Sync reading = refl
-transmit-setup s Older reading = refl
-transmit-setup s Newer false = refl
-transmit-setup s Newer true = refl
-
 course-setup : (kind : Kind) (s : Sender) (r : Receiver) (reading : Bool) (order store : List ℕ) (a : Answer S.Block)
     → sentCourse kind s r reading order store a .period .sender .setup ≡ s .setup
 course-setup kind s r reading order store (refused n) = refl
-course-setup kind s r reading order store (done b) = transmit-setup s (s .next) reading
+course-setup kind s r reading order store (done b) = setup-kept s (s .next) reading
 
 pub period-setup : (kind : Kind) (s : Sender) (r : Receiver) (order store : List ℕ)
     → period kind s r order store .period .sender .setup ≡ s .setup

@@ -15,7 +15,7 @@ use Rattle.block.specs.Lengths.{isLength, blockLength, blockBytes}
 use Rattle.block.specs.Block.{cancelled}
 use Rattle.block.proofs.Lengths.{length-facts}
 use Rattle.block.proofs.Block.{length-syncBlock, length-cancelled}
-use Rattle.block.proofs.Packing.{bytesOf-add}
+use Rattle.crc.proofs.Bytes.{bytesOf-add}
 use Rattle.line.specs.Order.{orderBits, itemBits}
 use Rattle.line.specs.Sending.{Block, synchronising, item, sentBits, send, sendBytes}
 use Rattle.line.proofs.Items.{length-orderBits, length-itemBits}

@@ -1,24 +1,15 @@
 -- A slice's bits from a bit on, by bytes: each byte of them comes from two bytes of the slice. Assumes nothing.
-use mathlib.Core.Path.{_≡_, refl, sym, ap, ap₂, _∙_}
-use mathlib.Core.Bool.{false}
+use mathlib.Core.Path.{_≡_, refl, sym, ap, _∙_}
 use mathlib.Core.List.{List, [], _∷_, _++_, append-assoc, append-nil}
-use Prim.Native.Nat.{ℕ, zero, suc, _+_, _-_, _*_, _/_, _%_, _^_, _≤_, _<_}
+use Prim.Native.Nat.{ℕ, _+_, _-_, _*_, _/_, _%_, _^_, _≤_, _<_}
 use native.Mathlib.Nat.{zero-div, add-zero}
 use native.Mathlib.Numerals.{add-one}
 use native.Mathlib.Omega.{arith}
 use lib.ListN.{length, getD, set, take, drop, length-append, length-drop}
-use lib.Seq.{take-suc-set, drop-set-lt, take-append-le, drop-append-le, drop-nil, drop-drop, take-at, drop-at, getD-drop}
+use lib.Seq.{take-suc-set, drop-set-lt, take-append-le, drop-append-le, drop-nil, drop-drop, getD-drop}
 use Rattle.crc.specs.Bits.{Bits, binary, number, bitsOf, bytesOf, zeros}
-use Rattle.crc.proofs.Rows.{length-binary, number-binary-mod, binary-join, binary-zero}
-use Rattle.crc.proofs.Bytes.{drop-bitsOf}
-use Rattle.block.proofs.Packing.{binary-split, bytesOf-add}
-
--- the front and the rest of a number's digits
-front-binary : (a b n : ℕ) → take a (binary (a + b) n) ≡ binary a (n / 2 ^ b)
-front-binary a b n = rw (binary-split a b n) (take-at (binary a (n / 2 ^ b)) (binary b n) a (length-binary a (n / 2 ^ b)))
-
-rest-binary : (a b n : ℕ) → drop a (binary (a + b) n) ≡ binary b n
-rest-binary a b n = rw (binary-split a b n) (drop-at (binary a (n / 2 ^ b)) (binary b n) a (length-binary a (n / 2 ^ b)))
+use Rattle.crc.proofs.Rows.{length-binary, number-binary-mod, binary-join, take-binary, drop-binary, binary-zero}
+use Rattle.crc.proofs.Bytes.{drop-bitsOf, bytesOf-add}
 
 -- eight bits of two bytes
 two-bytes : (part x y : ℕ) (r : Bits) → part ≤ 8 → y < 256
@@ -29,10 +20,10 @@ two-bytes part x y r h hy =
     let j : binary 16 m ≡ binary 8 x ++ binary 8 y = binary-join 8 8 x y hy in
     let e : 16 ≡ part + (8 + w) = omega arith in
     let l : part ≤ length (binary 16 m) = rw (length-binary 16 m) (omega arith) in
-    let d : drop part (binary 16 m) ≡ binary (8 + w) m = rw e (rest-binary part (8 + w) m) in
+    let d : drop part (binary 16 m) ≡ binary (8 + w) m = rw e (drop-binary part (8 + w) m) in
     let f : 8 ≤ length (binary (8 + w) m) = rw (length-binary (8 + w) m) (omega arith) in
     rw (← append-assoc, ← j, drop-append-le part (binary 16 m) r l, d, take-append-le 8 (binary (8 + w) m) r f)
-    (front-binary 8 w m)
+    (take-binary 8 w m)
 
 -- the first byte of a slice's bits from a bit on
 first-byte : (part : ℕ) (t : List ℕ) → part ≤ 8 → getD t 1 0 < 256

@@ -1,14 +1,9 @@
 // The bits of a slice moved to its start.
 ghost use mathlib.Core.Path.{_≡_};
 ghost use Prim.Native.Nat.{_+_, _-_, _*_, _/_, _%_, _^_, _<_};
-ghost use lib.ListN.{length, drop, getD};
+ghost use lib.ListN.{length, drop};
 ghost use Rattle.crc.specs.Bits.{bitsOf, bytesOf};
-
-fn byte_at(s: &[u8], i: usize) -> u8
-    ensures { λ r. ⌜ r ≡ getD (now (s .entry)) i 0 ⌝ }
-{
-    if i < s.len() { s[i] } else { 0 }
-}
+use line::hold::byte_at;
 
 // Eight bits of two bytes, from a bit of the first on.
 fn shifted(first: u8, second: u8, part: usize) -> u8

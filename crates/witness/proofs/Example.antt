@@ -1,30 +1,28 @@
 -- Document 01's example: k 240, L 8, the order a5; four undisturbed periods, and one call more. Assumes nothing.
-use mathlib.Core.Path.{_≡_, refl, ap}
+use mathlib.Core.Path.{_≡_, refl}
 use mathlib.Core.Bool.{true, false}
 use mathlib.Core.List.{List, [], _∷_, _++_}
 use native.Mathlib.Omega.{arith}
 use Prim.Native.Nat.{ℕ}
 use lib.ListN.{replicate}
-use Rattle.crc.specs.Bits.{Bits, binary, number, bitsOf, bytesOf, xorBits, parity}
-use Rattle.crc.specs.Check.{remainder, passes, check}
+use Rattle.crc.specs.Bits.{Bits}
 use Rattle.line.specs.Refusals as Refusals
 use Rattle.block.specs.Lengths.{isLength}
-use Rattle.block.specs.Block.{blockBits, verdict, syncBlock, cancelled}
-use Rattle.line.specs.Order.{validLength, itemCount, letter, isLetter, orderBits, filled, endPayload, itemService, itemPayload, itemBits}
+use Rattle.block.specs.Block.{syncBlock}
+use Rattle.line.specs.Order.{itemCount, orderBits, itemBits}
 use Rattle.line.specs.LoopTime.{isSpeed, blockTime, hasEntry, longestLoop, loopTime}
-use Rattle.line.specs.Sending.{synchronising, item, freshSender, openSender, senderInRange, send, transmit, plainBits, sentBits}
-use Rattle.line.specs.Receiving.{freshReceiver, openReceiver, zeroArray, place, endRule, serviceRule, looksSync, judge, inStep, reception, receiverInRange, receive, storeAt}
+use Rattle.line.specs.Sending.{synchronising, item, freshSender, openSender}
+use Rattle.line.specs.Receiving.{freshReceiver, openReceiver}
 use Rattle.line.specs.Course.{sending, World, opened, course, final}
 use Rattle.line.specs.Delivery.{Assumptions, Openings, Delivered, Delivery}
-use Rattle.line.specs.declared.sender.Next.the-variants.{Sync, Older, Newer}
+use Rattle.line.specs.declared.sender.Next.the-variants.{Older, Newer}
 use Rattle.line.specs.declared.receiving.Event.the-variants as E
 use Rattle.line.specs.declared.receiver.Opened.{Opened}
 use Rattle.line.specs.declared.receiver.Opening.the-variants as Opening
 use Rattle.line.proofs.Delivery.Answers.{runs}
 use Rattle.line.proofs.Delivery.Theorem.{delivery}
-use Rattle.line.specs.declared.receiving.Phase.the-variants as P
-use Rattle.witness.proofs.Tally.{refuses, tallied, Row, Rows, Goes, allCalls, allTally, lastWorld, walk, goes-meets}
-use Rattle.witness.proofs.PeriodRows.{sender, well, between, plain}
+use Rattle.witness.proofs.Meets.{meets}
+use Rattle.witness.proofs.PeriodRows.{refuses, Row, allCalls, trace, sender, well, between, period}
 
 abbrev order : List ℕ
 order = 0xa5 ∷ []
@@ -47,48 +45,32 @@ w₀ = opened (freshSender 240 8) (freshReceiver 240) initialStore
 
 abbrev rows : List Row
 rows =
-    plain order initialStore initialStore true (syncBlock 240) synchronising true true E.Sync (sender 8 1 0 true Older false) (well 0 false)
-    ∷ plain order initialStore stored false (block 0) (item 0 false false false) false true E.Accepted
+    period order initialStore initialStore true (syncBlock 240) synchronising true true E.Sync (sender 8 1 0 true Older false) (well 0 false)
+    ∷ period order initialStore stored false (block 0) (item 0 false false false) false true E.Accepted
     (sender 8 1 0 true Newer false) (well 1 false)
-    ∷ plain order stored stored false (block 1) (item 1 true true false) false true (E.Ended 8)
+    ∷ period order stored stored false (block 1) (item 1 true true false) false true (E.Ended 8)
     (sender 8 2 0 false Newer false) (well 1 true)
-    ∷ plain order stored stored false (block 2) (item 2 true true false) false true E.Previous
+    ∷ period order stored stored false (block 2) (item 2 true true false) false true E.Previous
     (sender 8 2 0 false Newer true) (well 1 true)
     ∷ (record {
       calls = sending order false (replicate 33 0) [] ∷ [];
-      tally = tallied true true false false (refuses Refusals.rest ∷ []);
+      outcomes = refuses Refusals.rest ∷ [];
       world = between (sender 8 2 0 false Newer true) (well 1 true) stored (item 2 true true false);
     })
     ∷ []
 
-computed : Rows 240 content false w₀ rows
-unfolding send senderInRange transmit plainBits sentBits freshSender itemBits itemPayload itemService filled cancelled xorBits parity receive receiverInRange reception inStep judge looksSync verdict passes remainder check blockBits syncBlock serviceRule endRule endPayload place letter isLetter validLength itemCount number binary bitsOf bytesOf zeroArray freshReceiver isLength storeAt
-computed = (
-  record { counts = refl; leads = refl },
-  (
-    record { counts = refl; leads = refl },
-    (
-      record { counts = refl; leads = refl },
-      (
-        record { counts = refl; leads = refl },
-        (
-          record { counts = refl; leads = refl },
-          tt,
-        ),
-      ),
-    ),
-  ),
-)
-
-goes : Goes 240 content false w₀ (allCalls rows) (allTally false rows) (lastWorld w₀ rows)
-goes = walk false w₀ rows computed
+pub example-computed : trace w₀ rows ≡ rows
+unfolding trace
+example-computed = refl
 
 pub example : Assumptions 240 content (course w₀ (allCalls rows))
-example = goes-meets goes refl refl
+unfolding trace
+example = meets refl refl
 
 -- at the end the store has the order with its zero filling, and behind it what it had
 pub example-stored : final w₀ (allCalls rows) .store ≡ stored
-example-stored = ap (λ (w : World). w .store) (goes .leads)
+unfolding trace
+example-stored = refl
 
 -- both ends opened at 200 bit/s with loop 0, and what demand 3 says of the calls as they run
 abbrev ready : Opened

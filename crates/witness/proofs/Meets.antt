@@ -16,7 +16,7 @@ use Rattle.line.specs.Sending.{Block, synchronising, item}
 use Rattle.line.specs.Receiving.{meaning}
 use Rattle.line.specs.Course.{Sent, Heard, Entry, send-refused, receive-refused, sent, heard, onSent, onHeard}
 use Rattle.line.specs.Delivery.{All, eventOf, isCancelled, isItem, OnLine, SameOrder, SameStore, Admitted, NotWhole, SyncAtLast, SyncNotData, Assumptions}
-use Rattle.line.proofs.Delivery.BetweenLosses.{implies, implies-true, spaced, spaced-between}
+use Rattle.line.proofs.Delivery.BetweenLosses.{implies, implies-true, spaced, spaced-between, BetweenLosses, between-spaced}
 use Rattle.line.specs.declared.receiving.Event.{Event}
 use Rattle.line.specs.declared.receiving.Event.the-variants as E
 use Rattle.line.proofs.receiving.Event.{the-type}
@@ -71,7 +71,7 @@ begins [] y = true
 begins (a ∷ x) [] = false
 begins (a ∷ x) (b ∷ y) = sameBit a b && begins x y
 
-begins-with : (x y : Bits) → begins x y ≡ true → (remaining : Bits) × (y ≡ x ++ remaining)
+begins-with : (x y : Bits) → begins x y ≡ true → (later : Bits) × (y ≡ x ++ later)
 begins-with [] y h = (y, refl)
 begins-with (a ∷ x) [] h = absurd (false≢true h)
 begins-with (a ∷ x) (b ∷ y) h =
@@ -162,14 +162,15 @@ heardMeets y =
 abbrev pub entryMeets : ℕ → Bits → Entry → Bool
 entryMeets k content e = onSent (onHeard true heardMeets e) (sentMeets k content) e
 
-record Met (k : ℕ) (content : Bits) (e : Entry) : Type 0 where
-  line : OnLine k e
-  order : SameOrder content e
-  store : SameStore e
-  damage : Admitted e
-  not-whole : NotWhole e
-  sync-at-last : SyncAtLast e
-  sync-not-data : SyncNotData e
+-- all clauses but the one on losses
+pub record Met (k : ℕ) (content : Bits) (e : Entry) : Type 0 where
+  pub line : OnLine k e
+  pub order : SameOrder content e
+  pub store : SameStore e
+  pub damage : Admitted e
+  pub not-whole : NotWhole e
+  pub sync-at-last : SyncAtLast e
+  pub sync-not-data : SyncNotData e
 
 sent-meets : (k : ℕ) (content : Bits) (x : Sent) → sentMeets k content x ≡ true → Met k content (sent x)
 sent-meets k content x h =
@@ -229,45 +230,31 @@ abbrev pub eachMeets : ℕ → Bits → List Entry → Bool
 eachMeets k content [] = true
 eachMeets k content (e ∷ es) = entryMeets k content e && eachMeets k content es
 
-all-met : (k : ℕ) (content : Bits) (P : Entry → Type 0) → ((e : Entry) → Met k content e → P e)
-    → (es : List Entry) → eachMeets k content es ≡ true → All P es
-all-met k content P f [] h = tt
-all-met k content P f (e ∷ es) h =
+all-met : (k : ℕ) (content : Bits) (es : List Entry) → eachMeets k content es ≡ true → All (Met k content) es
+all-met k content [] h = tt
+all-met k content (e ∷ es) h =
     let a = and-true _ _ h in
-    (f e (entry-meets k content e (a .0)), all-met k content P f es (a .1))
+    (entry-meets k content e (a .0), all-met k content es (a .1))
 
--- all clauses but the one on losses
-pub record OtherClauses (k : ℕ) (content : Bits) (es : List Entry) : Type 0 where
-  pub line : All (OnLine k) es
-  pub order : All (SameOrder content) es
-  pub store : All SameStore es
-  pub damage : All Admitted es
-  pub not-whole : All NotWhole es
-  pub sync-at-last : All SyncAtLast es
-  pub sync-not-data : All SyncNotData es
+all-map : {P Q : Entry → Type 0} → ((e : Entry) → P e → Q e) → (es : List Entry) → All P es → All Q es
+all-map f [] h = tt
+all-map f (e ∷ es) h = (f e (h .0), all-map f es (h .1))
 
-pub others-meet : (k : ℕ) (content : Bits) (es : List Entry) → eachMeets k content es ≡ true → OtherClauses k content es
-others-meet k content es h =
+pub meets : {k : ℕ} {content : Bits} {es : List Entry} → eachMeets k content es ≡ true → spaced false es ≡ true → Assumptions k content es
+meets {k} {content} {es} h s =
+    let m = all-met k content es h in
     record {
-      line = all-met k content (OnLine k) (λ e m. m .line) es h;
-      order = all-met k content (SameOrder content) (λ e m. m .order) es h;
-      store = all-met k content SameStore (λ e m. m .store) es h;
-      damage = all-met k content Admitted (λ e m. m .damage) es h;
-      not-whole = all-met k content NotWhole (λ e m. m .not-whole) es h;
-      sync-at-last = all-met k content SyncAtLast (λ e m. m .sync-at-last) es h;
-      sync-not-data = all-met k content SyncNotData (λ e m. m .sync-not-data) es h;
-    }
-
-pub meets : (k : ℕ) (content : Bits) (es : List Entry) → eachMeets k content es ≡ true → spaced false es ≡ true → Assumptions k content es
-meets k content es h s =
-    let o = others-meet k content es h in
-    record {
-      line = o .line;
-      order = o .order;
-      store = o .store;
-      damage = o .damage;
-      not-whole = o .not-whole;
-      sync-at-last = o .sync-at-last;
-      sync-not-data = o .sync-not-data;
+      line = all-map (λ e c. c .line) es m;
+      order = all-map (λ e c. c .order) es m;
+      store = all-map (λ e c. c .store) es m;
+      damage = all-map (λ e c. c .damage) es m;
+      not-whole = all-map (λ e c. c .not-whole) es m;
+      sync-at-last = all-map (λ e c. c .sync-at-last) es m;
+      sync-not-data = all-map (λ e c. c .sync-not-data) es m;
       between-losses = spaced-between es s;
     }
+
+-- where losses are not spaced, that clause alone is broken
+pub breaks : (k : ℕ) (content : Bits) (es : List Entry) → eachMeets k content es ≡ true → spaced false es ≡ false
+    → All (Met k content) es × (BetweenLosses es → ⊥)
+breaks k content es h s = (all-met k content es h, λ b. true≢false (sym (between-spaced es b) ∙ s))

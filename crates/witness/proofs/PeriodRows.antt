@@ -1,20 +1,61 @@
--- What the computed lists of calls are written with: worlds between block periods, and a period as a row of a table.
+-- A list of calls written as a table: each row a block period, with what its calls did and the world behind them.
 -- Assumes nothing.
 use mathlib.Core.Bool.{Bool, true, false, not}
-use mathlib.Core.List.{List, [], _∷_}
+use mathlib.Core.List.{List, [], _∷_, map, flatMap}
 use Prim.Native.Nat.{ℕ}
 use lib.ListN.{replicate}
-use Rattle.crc.specs.Bits.{Bits, bytesOf}
-use Rattle.line.specs.Sending.{Block}
-use Rattle.line.specs.Receiving.{freshReceiver, blank}
-use Rattle.line.specs.Course.{sending, receiving, World}
+use Rattle.crc.specs.Bits.{Bits, binary, number, bitsOf, bytesOf, xorBits, parity}
+use Rattle.crc.specs.Check.{remainder, passes, check}
+use Rattle.block.specs.Answer.{Answer}
+use Rattle.block.specs.Lengths.{isLength}
+use Rattle.block.specs.Block.{blockBits, verdict, syncBlock, cancelled}
+use Rattle.line.specs.Order.{validLength, itemCount, letter, isLetter, filled, endPayload, itemService, itemPayload, itemBits}
+use Rattle.line.specs.Sending.{Block, freshSender, senderInRange, send, transmit, plainBits, sentBits}
+use Rattle.line.specs.Receiving.{freshReceiver, zeroArray, place, endRule, serviceRule, looksSync, judge, blank, Reception, inStep, reception, receiverInRange, receive, storeAt}
+use Rattle.line.specs.Course.{Call, sending, receiving, World, Entry, send-refused, receive-refused, sent, heard, course, final}
+use Rattle.line.specs.Delivery.{eventOf}
 use Rattle.line.specs.declared.sender.Sender.{Sender}
 use Rattle.line.specs.declared.sender.Next.{Next}
 use Rattle.line.specs.declared.receiver.Receiver.{Receiver}
 use Rattle.line.specs.declared.receiving.Event.{Event}
 use Rattle.line.specs.declared.receiving.Phase.{Phase}
 use Rattle.line.specs.declared.receiving.Phase.the-variants as P
-use Rattle.witness.proofs.Tally.{sends, hears, tallied, Row}
+use Rattle.witness.proofs.Meets.{sameBits}
+
+-- what a call did: its refusal; or the block sent, the reading, the return bit then standing and whether the copy is as
+-- sent; or the event and the number of bits used
+pub data Outcome : Type 0 where
+  refuses : ℕ → Outcome
+  sends : (block : Block) (reading back as-sent : Bool) → Outcome
+  hears : Event → ℕ → Outcome
+
+abbrev pub outcome : Entry → Outcome
+outcome (send-refused n) = refuses n
+outcome (receive-refused n) = refuses n
+outcome (sent x) = sends (x .block) (x .reading) (x .back) (sameBits (x .arrives) (x .bits))
+outcome (heard y) = hears (eventOf y) (y .used)
+
+-- calls, what they did and the world behind them
+pub record Row : Type 0 where
+  pub calls : List Call
+  pub outcomes : List Outcome
+  pub world : World
+
+abbrev pub allCalls : List Row → List Call
+allCalls = flatMap (λ r. r .calls)
+
+-- `receive`, and where this unfolds so does all that it computes with
+unfoldable pub received : Receiver → List ℕ → ℕ → List ℕ → Answer Reception
+unfolding receive receiverInRange reception inStep judge looksSync verdict passes remainder check blockBits syncBlock serviceRule endRule endPayload place letter isLetter validLength itemCount number binary bitsOf bytesOf zeroArray freshReceiver isLength storeAt
+received = receive
+
+-- The rows that these calls come to, each from the world behind the row before. Where this unfolds, so does all that both
+-- ends compute with.
+unfoldable pub trace : World → List Row → List Row
+unfolding flatMap received send senderInRange transmit plainBits sentBits freshSender itemBits itemPayload itemService filled cancelled xorBits parity
+trace w [] = []
+trace w (r ∷ rs) =
+    record { calls = r .calls; outcomes = map outcome (course w (r .calls)); world = final w (r .calls) } ∷ trace (r .world) rs
 
 -- a sender of an order of L bits: its newer item, the run, whether opening lasts, what is next, whether it is finished
 abbrev pub sender : (L newer run : ℕ) → Bool → Next → Bool → Sender
@@ -39,21 +80,15 @@ between s r store b = record { sender = s; receiver = r; store = store; block = 
 
 -- A period: one sending call, and one receiving call that takes the whole copy. The order, the store lent and as it is
 -- left; the reading and the copy; the block sent, the return bit then standing, whether the copy is as sent, the event; the
--- states afterwards, and whether a loss then pends.
+-- states afterwards.
 abbrev pub period : (order store store′ : List ℕ) (reading : Bool) (arrives : Bits) (b : Block) (back as-sent : Bool) (event : Event)
-    (s : Sender) (r : Receiver) (spaced alarm pending : Bool) → Row
-period order store store′ reading arrives b back as-sent event s r spaced alarm pending =
+    (s : Sender) (r : Receiver) → Row
+period order store store′ reading arrives b back as-sent event s r =
     record {
       calls = sending order reading (replicate 33 0) arrives ∷ receiving (bytesOf 33 arrives) 260 store ∷ [];
-      tally = tallied true spaced alarm pending (sends b reading back as-sent ∷ hears event 260 ∷ []);
+      outcomes = sends b reading back as-sent ∷ hears event 260 ∷ [];
       world = between s r store′ b;
     }
-
--- one that loses nothing and brings no alarm
-abbrev pub plain : (order store store′ : List ℕ) (reading : Bool) (arrives : Bits) (b : Block) (back as-sent : Bool) (event : Event)
-    (s : Sender) (r : Receiver) → Row
-plain order store store′ reading arrives b back as-sent event s r =
-    period order store store′ reading arrives b back as-sent event s r true false false
 
 -- the first bit inverted
 abbrev pub damaged : Bits → Bits

@@ -2,7 +2,7 @@
 -- Assumes nothing.
 use mathlib.Core.Path.{_≡_, refl, ap, ap₂, sym, _∙_}
 use mathlib.Core.Bool.{Bool, true, false, _&&_, _||_, true≢false, and-assoc, or-assoc}
-use mathlib.Core.List.{List, [], _∷_, _++_}
+use mathlib.Core.List.{List, [], _∷_, _++_, map}
 use Prim.Native.Nat.{ℕ}
 use Rattle.crc.specs.Bits.{Bits}
 use Rattle.line.specs.Sending.{Block}
@@ -108,10 +108,19 @@ pub record Row : Type 0 where
   pub tally : Tally
   pub world : World
 
-abbrev pub Rows : ℕ → Bits → Bool → World → List Row → Type 0
-Rows k content p w [] = Unit {0}
-Rows k content p w (r ∷ rs) =
-    Goes k content p w (r .calls) (r .tally) (r .world) × Rows k content (r .tally .pending) (r .world) rs
+-- what each row's calls come to from the world before them, and the world behind them
+abbrev tallies : ℕ → Bits → Bool → World → List Row → List Tally
+tallies k content p w [] = []
+tallies k content p w (r ∷ rs) = tally k content p (course w (r .calls)) ∷ tallies k content (r .tally .pending) (r .world) rs
+
+abbrev worlds : World → List Row → List World
+worlds w [] = []
+worlds w (r ∷ rs) = final w (r .calls) ∷ worlds (r .world) rs
+
+-- they are as the rows say
+pub record Rows (k : ℕ) (content : Bits) (p : Bool) (w : World) (rs : List Row) : Type 0 where
+  pub counts : tallies k content p w rs ≡ map (λ r. r .tally) rs
+  pub leads : worlds w rs ≡ map (λ r. r .world) rs
 
 abbrev pub allCalls : List Row → List Call
 allCalls [] = []
@@ -128,4 +137,8 @@ lastWorld w (r ∷ rs) = lastWorld (r .world) rs
 pub walk : {k : ℕ} {content : Bits} (p : Bool) (w : World) (rs : List Row) → Rows k content p w rs
     → Goes k content p w (allCalls rs) (allTally p rs) (lastWorld w rs)
 walk p w [] h = record { counts = refl; leads = refl }
-walk p w (r ∷ rs) h = then (h .0) (walk (r .tally .pending) (r .world) rs (h .1))
+walk {k} {content} p w (r ∷ rs) h =
+    let c = h .counts in
+    let l = h .leads in
+    let g : Goes k content p w (r .calls) (r .tally) (r .world) = record { counts = cc; leads = cc } in
+    then g (walk (r .tally .pending) (r .world) rs (record { counts = cc; leads = cc }))

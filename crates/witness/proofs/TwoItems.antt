@@ -1,12 +1,21 @@
--- An order of two data items, whose items 2 and 3 are end blocks, and its stores. Assumes nothing.
-use mathlib.Core.List.{List, _++_}
+-- An order of two data items, whose items 2 and 3 are end blocks, its stores, and block periods that several lists of
+-- calls have. Assumes nothing.
+use mathlib.Core.Bool.{Bool, true, false}
+use mathlib.Core.List.{List, [], _∷_, _++_}
 use Prim.Native.Nat.{ℕ}
-use lib.ListN.{replicate}
+use lib.ListN.{drop, replicate}
 use Rattle.crc.specs.Bits.{Bits}
+use Rattle.block.specs.Block.{syncBlock, cancelled}
 use Rattle.line.specs.Order.{orderBits, itemBits}
-use Rattle.line.specs.Sending.{freshSender}
-use Rattle.line.specs.Receiving.{freshReceiver}
+use Rattle.line.specs.Sending.{synchronising, item, freshSender}
+use Rattle.line.specs.Receiving.{freshReceiver, searching}
 use Rattle.line.specs.Course.{World, opened}
+use Rattle.line.specs.declared.sender.Next.{Next}
+use Rattle.line.specs.declared.sender.Next.the-variants.{Sync, Older, Newer}
+use Rattle.line.specs.declared.receiver.Receiver.{Receiver}
+use Rattle.line.specs.declared.receiving.Event.the-variants as E
+use Rattle.line.specs.declared.receiving.Phase.the-variants as P
+use Rattle.witness.proofs.PeriodRows.{Row, sender, receiver, well, period, damaged}
 
 abbrev pub order : List ℕ
 order = replicate 30 1 ++ replicate 30 2
@@ -29,3 +38,41 @@ two = replicate 30 1 ++ (replicate 30 2 ++ replicate 1 9)
 
 abbrev pub w₀ : World
 w₀ = opened (freshSender 240 480) (freshReceiver 240) initialStore
+
+-- the first period: a synchronising block, found; and the second: item 0, accepted
+abbrev pub synchronised : Row
+synchronised =
+    period order initialStore initialStore true (syncBlock 240) synchronising true true E.Sync
+    (sender 480 1 0 true Older false) (well 0 false)
+
+abbrev pub accepted : Row
+accepted =
+    period order initialStore one false (block 0) (item 0 false false false) false true E.Accepted
+    (sender 480 1 0 true Newer false) (well 1 false)
+
+-- item 2 is cancelled: the store, the return bit then standing, the run, what is next, and the receiver afterwards
+abbrev pub cancels : List ℕ → Bool → ℕ → Next → Receiver → Row
+cancels store back run next r =
+    period order store store true (cancelled (block 2)) (item 2 true true true) back true E.Bad (sender 480 2 run false next false) r
+
+-- item 1 is repeated, and damaged: the store, the run, and the receiver afterwards
+abbrev pub fails : List ℕ → ℕ → Receiver → Row
+fails store run r =
+    period order store store true (damaged (block 1)) (item 1 false false false) true false E.Bad (sender 480 2 run false Newer false) r
+
+-- a search passes item 1 and a cancelled block, and finds a synchronising block: the store and the items taken
+abbrev pub resynchronises : List ℕ → ℕ → List Row
+resynchronises store taken =
+    period order store store true (block 1) (item 1 false false false) true true E.None
+    (sender 480 2 4 false Newer false) (searching (receiver 0 true taken false P.Search) (drop 245 (block 1)))
+    ∷ period order store store true (cancelled (block 2)) (item 2 true true true) true true E.None
+    (sender 480 2 5 false Sync false) (searching (receiver 0 true taken false P.Search) (drop 245 (cancelled (block 2))))
+    ∷ period order store store true (syncBlock 240) synchronising true true E.Sync
+    (sender 480 2 5 false Older false) (well taken false)
+    ∷ []
+
+-- item 2 brings the end: the return bit then standing
+abbrev pub ends : Bool → Row
+ends back =
+    period order two two false (block 2) (item 2 true true false) back true (E.Ended 480)
+    (sender 480 3 0 false Newer false) (well 2 true)

@@ -6,19 +6,18 @@ use mathlib.Core.List.{List, [], _∷_, _++_, append-assoc}
 use mathlib.Core.Path.{_≡_, sym, ap, ap₂, _∙_}
 use native.Mathlib.Nat.{le-of-lt}
 use native.Mathlib.Omega.{arith}
-use Prim.Native.Nat.{ℕ, zero, suc, _/_, _+_, _*_, _<_}
+use Prim.Native.Nat.{ℕ, suc, _/_, _+_, _*_, _<_}
 use lib.Bits.{bitXor, xor-shr, xor-lt}
 use lib.Dec.{lit<}
 use lib.ListN.{length, getD, take, drop, set, length-append, length-set}
 use lib.Seq.{set-split, split-at, take-at, drop-at, length-take-le}
 use Rattle.crc.specs.Bits.{Bits, binary, xorBits, bitsOf, bytesOf}
-use Rattle.crc.proofs.Rows.{length-binary, binary-xor, xor-bits-false, xor-bits-comm, xorBits-zeros}
-use Rattle.crc.proofs.Bytes.{length-bitsOf, bitsOf-append, bytesOf-bitsOf}
+use Rattle.crc.proofs.Rows.{length-binary, binary-split, binary-xor, xor-bits-false, xor-bits-comm, xorBits-zeros}
+use Rattle.crc.proofs.Bytes.{length-bitsOf, bitsOf-append, set-bytes, packed}
 use Rattle.block.specs.Block.{cancelled}
 use Rattle.block.specs.Lengths.{isLength, blockLength}
 use Rattle.block.proofs.Block.{cancelled-append}
 use Rattle.block.proofs.Lengths.{length-bytes}
-use Rattle.block.proofs.Packing.{binary-split}
 use Rattle.block.proofs.Refusals.{cancel-length, cancel-slice, cancel-done}
 use Rattle.block.proofs.cancel_block.Statement.{statement}
 use Rattle.block.proofs.cancel_block.Tie as tie
@@ -41,14 +40,6 @@ inverted : (x : ℕ) → binary 8 (bitXor x 16) ≡ cancelled (binary 4 (x / 16)
 inverted x =
     binary-split 4 4 (bitXor x 16)
     ∙ ap₂ (λ (l t : Bits). l ++ t) (ap (binary 4) (xor-shr x 16 4) ∙ high-half (x / 16)) (low-half x)
-
--- a byte stored among bytes
-set-lt : (s : List ℕ) (j v : ℕ) → v < 256 → ((i : ℕ) → getD s i 0 < 256) → (i : ℕ) → getD (set s j v) i 0 < 256
-set-lt [] j v hv b i = b i
-set-lt (x ∷ s) zero v hv b zero = hv
-set-lt (x ∷ s) zero v hv b (suc i) = b (suc i)
-set-lt (x ∷ s) (suc j) v hv b zero = b 0
-set-lt (x ∷ s) (suc j) v hv b (suc i) = set-lt s j v hv (λ n. b (suc n)) i
 
 module _ (j : ℕ) (s : List ℕ) (h : j < length s) where
   abbrev byte : ℕ
@@ -92,8 +83,8 @@ module _ (j : ℕ) (s : List ℕ) (h : j < length s) where
   stored : ((i : ℕ) → getD s i 0 < 256)
       → set s j (bitXor byte 16) ≡ bytesOf (length s) (cancelled (take (8 * j + 4) (bitsOf s)) ++ drop (8 * j + 4) (bitsOf s))
   stored b =
-      sym (bytesOf-bitsOf (set s j (bitXor byte 16)) (set-lt s j (bitXor byte 16) (xor-lt 8 byte 16 (b j) (lit< tt)) b))
-      ∙ ap₂ bytesOf (length-set s j (bitXor byte 16)) bits-stored
+      packed (set s j (bitXor byte 16)) (length s) (cancelled (take (8 * j + 4) (bitsOf s)) ++ drop (8 * j + 4) (bitsOf s))
+      (length-set s j (bitXor byte 16)) (set-bytes s j (bitXor byte 16) (xor-lt 8 byte 16 (b j) (lit< tt)) b) bits-stored
 
 known-length-requires : tie.Need-known-length-requires
 known-length-requires c κs = search needs

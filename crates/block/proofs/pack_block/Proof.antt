@@ -9,11 +9,11 @@ use lib.Seq.{take-at, drop-append-add, drop-append-le, drop-drop, length-take-le
 use Rattle.crc.specs.Bits.{Bits, binary, bitsOf, bytesOf}
 use Rattle.crc.specs.Check.{check, register}
 use Rattle.crc.proofs.Rows.{length-binary}
-use Rattle.crc.proofs.Bytes.{length-bitsOf, length-bytesOf, bitsOf-append, take-bitsOf}
+use Rattle.crc.proofs.Bytes.{length-bitsOf, length-bytesOf, bitsOf-append, take-bitsOf, bytesOf-add, bytesOf-front}
 use Rattle.crc.proofs.Register.{register-append, register-check}
 use Rattle.block.specs.Block.{blockBits}
 use Rattle.block.specs.Calls.{overwritten}
-use Rattle.block.proofs.Packing.{bytesOf-add, bytesOf-front, shifted-rest}
+use Rattle.block.proofs.Packing.{shifted-rest}
 use Rattle.block.proofs.pack_block.Statement.{statement}
 use Rattle.block.proofs.pack_block.Tie as tie
 

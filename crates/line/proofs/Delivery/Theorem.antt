@@ -1,25 +1,17 @@
 -- Demand 3 holds. Assumes nothing.
 use mathlib.Core.Path.{_≡_, refl, ap, sym, _∙_, subst, subst₂}
-use mathlib.Core.Logic.{_⊎_, inl, inr, ⊎-elim}
-use mathlib.Core.Bool.{Bool, true, false, _||_, not, false≢true}
+use mathlib.Core.Logic.{inl, ⊎-elim}
+use mathlib.Core.Bool.{Bool, true, false, _||_, false≢true}
 use mathlib.Core.List.{List, [], _∷_, _++_}
 use mathlib.Core.Option.{Option}
 use native.Mathlib.Omega.{arith}
 use native.Mathlib.Nat.{zero-mul}
 use Prim.Native.Nat.{ℕ, _*_, _≤_}
-use lib.Dec.{eqb, ltb}
 use lib.ListN.{length, take, drop}
-use borrow.Author.Tests.{eqb-false, ltb-false, not-false}
 use Rattle.crc.specs.Bits.{bit, bitsOf}
-use Rattle.block.specs.Answer as A
-use Rattle.line.specs.Refusals as Refusals
-use Rattle.block.specs.Answer.{Answer, refused, done, refuseIf}
-use Rattle.block.specs.Lengths.{isLength}
-use Rattle.block.specs.Calls.{tooShort}
-use Rattle.block.proofs.Truth.{cond-case, or-true, or-yes, bit-true}
-use Rattle.line.specs.LoopTime.{loopTime}
-use Rattle.line.specs.Order.{longestOrder, filled, orderBits}
-use Rattle.line.specs.Sending.{freshSender, unless-refused, openSender}
+use Rattle.block.proofs.Truth.{or-true, or-yes, bit-true}
+use Rattle.line.specs.Order.{filled, orderBits}
+use Rattle.line.specs.Sending.{freshSender}
 use Rattle.line.specs.Receiving.{withLength, freshReceiver, openedReceiver, openingAnswer, OpenReceiver}
 use Rattle.line.specs.Course.{Call, World, opened, Heard, Entry, send-refused, receive-refused, sent, heard, onHeard, course, final}
 use Rattle.line.specs.Delivery.{All, some, kindOf, isEnd, isLost, reportsEnd, accepted, Period, group, Undisturbed, brings, Assumptions, Guarantees, Openings, Delivery}
@@ -28,7 +20,8 @@ use Rattle.line.specs.declared.sender.Opened.the-variants as SenderOpene
 use Rattle.line.specs.declared.receiver.Receiver.{Receiver}
 use Rattle.line.specs.declared.receiver.Opened as ReceiverOpened
 use Rattle.line.specs.declared.receiver.Opening.the-variants as Opening
-use Rattle.line.proofs.Items.{length-orderBits}
+use Rattle.line.proofs.Items.{valid-length, length-orderBits}
+use Rattle.line.proofs.SenderRange.{Openable, opened as sender-opened}
 use Rattle.line.proofs.Delivery.Ends.{Basic}
 use Rattle.line.proofs.Delivery.Invariant.{opened-idle}
 use Rattle.line.proofs.Delivery.WrittenBits.{length-zeroArray}
@@ -40,58 +33,6 @@ use Rattle.line.proofs.Delivery.FivePeriods.{within-five}
 use Rattle.line.proofs.Delivery.Answers.{answers}
 
 -- ---- the openings
-
--- what an opened sender makes sure of
-pub record OpenedWell (k L : ℕ) (order : List ℕ) (s : Sender) : Type 0 where
-  pub known : isLength k ≡ true
-  pub low : 1 ≤ L
-  pub high : L ≤ longestOrder
-  pub lent : L ≤ 8 * length order
-  pub fresh : s ≡ freshSender k L
-
-abbrev Opens : ℕ → ℕ → List ℕ → Answer Sender → Type 0
-Opens k L order a = (s : Sender) → done s ≡ a → OpenedWell k L order s
-
-not-opened : (k L : ℕ) (order : List ℕ) (n : ℕ) → Opens k L order (refused n)
-not-opened k L order n s e = absurd (let v : _≡_ {A = ℕ} 0 1 = cc in omega arith)
-
--- the loop-time test refuses, or k is one of the four
-abbrev Known : ℕ → Answer (Unit {0}) → Type 0
-Known k a = ((n : ℕ) × (a ≡ refused n)) ⊎ (isLength k ≡ true)
-
-known : (k speed loop-ms : ℕ) → Known k (loopTime k speed loop-ms)
-unfolding loopTime
-known k speed loop-ms =
-    cond-case (Known k) (not (isLength k)) (λ e. inl (A.block, refl)) (λ e. inr (not-false (isLength k) e))
-
-opens-untimed : (k L : ℕ) (order : List ℕ) → isLength k ≡ true
-    → Opens k L order
-    (refuseIf (eqb L 0) Refusals.empty
-    (refuseIf (ltb longestOrder L) Refusals.long (refuseIf (tooShort order L) A.short (done (freshSender k L)))))
-opens-untimed k L order g =
-    cond-case (Opens k L order) (eqb L 0) (λ e. not-opened k L order Refusals.empty)
-    (λ b. cond-case (Opens k L order) (ltb longestOrder L) (λ e. not-opened k L order Refusals.long)
-    (λ c. cond-case (Opens k L order) (tooShort order L) (λ e. not-opened k L order A.short)
-    (λ d s q.
-    let n = eqb-false L 0 b in
-    record {
-      known = g;
-      low = omega arith;
-      high = ltb-false longestOrder L c;
-      lent = ltb-false (8 * length order) L d;
-      fresh = let v : s ≡ freshSender k L = cc in v;
-    })))
-
-opens-timed : (k L : ℕ) (order : List ℕ) (a : Answer (Unit {0})) (b : Answer Sender) → Known k a
-    → (isLength k ≡ true → Opens k L order b) → Opens k L order (unless-refused a b)
-opens-timed k L order (refused n) b h f = not-opened k L order n
-opens-timed k L order (done u) b (inl h) f = absurd (let v : _≡_ {A = ℕ} 0 1 = cc (h .1) in omega arith)
-opens-timed k L order (done u) b (inr h) f = f h
-
-sender-opens : (k speed loop-ms L : ℕ) (order : List ℕ) → Opens k L order (openSender k speed loop-ms L order)
-unfolding openSender
-sender-opens k speed loop-ms L order =
-    opens-timed k L order (loopTime k speed loop-ms) _ (known k speed loop-ms) (opens-untimed k L order)
 
 receiver-opens : (k : ℕ) (o : ReceiverOpened.Opened) → OpenReceiver k o → o .answer ≡ Opening.Opened → o .state ≡ freshReceiver k
 receiver-opens k o h e = h .state ∙ ap (openedReceiver k) (sym (sym (ap openingAnswer e) ∙ h .answers))
@@ -219,8 +160,8 @@ module _ (o : Session) (fit : Fit o) (calls : List Call) (w : World) (base : Bas
 
 module _ (k speed loop-ms L : ℕ) (order : List ℕ) (s : Sender) (r : ReceiverOpened.Opened) (initialStore : List ℕ)
     (h : Openings k speed loop-ms L order s r initialStore) where
-  pub opened-well : OpenedWell k L order s
-  opened-well = sender-opens k speed loop-ms L order s (h .sender .answers)
+  pub opened-well : Openable k L order s
+  opened-well = sender-opened k speed loop-ms L order s (sym (h .sender .answers))
 
   abbrev session : Session
   session = record { k = k; L = L; content = orderBits L order; initialStore = initialStore }
@@ -229,8 +170,8 @@ module _ (k speed loop-ms L : ℕ) (order : List ℕ) (s : Sender) (r : Receiver
   fit =
       record {
         known = opened-well .known;
-        low = opened-well .low;
-        high = opened-well .high;
+        low = valid-length L (opened-well .valid) .0;
+        high = valid-length L (opened-well .valid) .1;
         content = length-orderBits L order (opened-well .lent);
         room = h .room;
       }
@@ -238,7 +179,7 @@ module _ (k speed loop-ms L : ℕ) (order : List ℕ) (s : Sender) (r : Receiver
   -- the ends as opened are fresh
   from-fresh : (P : World → Type 0) → P (start session) → P (opened s (r .state) initialStore)
   from-fresh P =
-      subst₂ (λ (a : Sender) (b : Receiver). P (opened a b initialStore)) (sym (opened-well .fresh))
+      subst₂ (λ (a : Sender) (b : Receiver). P (opened a b initialStore)) (sym (opened-well .state))
       (sym (receiver-opens k r (h .receiver) (h .not-refused)))
 
   pub guaranteed : (calls : List Call) → Assumptions k (orderBits L order) (course (opened s (r .state) initialStore) calls)

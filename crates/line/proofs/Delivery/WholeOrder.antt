@@ -5,13 +5,13 @@ use mathlib.Core.Bool.{Bool, true, false, _||_, false≢true}
 use mathlib.Core.List.{List, [], _∷_}
 use mathlib.Core.Option.{Option}
 use native.Mathlib.Omega.{arith}
-use Prim.Native.Nat.{ℕ, zero, suc, _-_, _*_, _≤_, _<_}
+use Prim.Native.Nat.{ℕ, _-_, _*_, _≤_, _<_}
 use lib.Dec.{eqb}
 use lib.ListN.{length, take, getD}
 use lib.Seq.{take-at, take-take}
 use borrow.Author.Tests.{eq-eqb}
 use Rattle.crc.specs.Bits.{Bits, bitsOf, bytesOf, zeros}
-use Rattle.crc.proofs.Bytes.{length-bitsOf, take-bitsOf, bytesOf-bitsOf}
+use Rattle.crc.proofs.Bytes.{length-bitsOf, take-bitsOf, take-bytes, bytesOf-bitsOf}
 use Rattle.line.specs.Order.{itemCount, filled, orderBits}
 use Rattle.line.specs.Receiving.{withLength}
 use Rattle.line.specs.Course.{Call, World, opened, Entry, course, final}
@@ -55,19 +55,13 @@ all-stored k L content initialStore es w pos long g e =
 
 -- ---- bits and bytes
 
-bytes-taken : (m : ℕ) (s : List ℕ) → ((i : ℕ) → getD s i 0 < 256) → (i : ℕ) → getD (take m s) i 0 < 256
-bytes-taken zero s h i = omega arith
-bytes-taken (suc m) [] h i = omega arith
-bytes-taken (suc m) (x ∷ s) h zero = h zero
-bytes-taken (suc m) (x ∷ s) h (suc i) = bytes-taken m s (λ j. h (suc j)) i
-
 same-bytes : (m : ℕ) (s t : List ℕ) → ((i : ℕ) → getD s i 0 < 256) → ((i : ℕ) → getD t i 0 < 256)
     → take (8 * m) (bitsOf s) ≡ take (8 * m) (bitsOf t) → take m s ≡ take m t
 same-bytes m s t a b e =
     let bits : bitsOf (take m s) ≡ bitsOf (take m t) = sym (take-bitsOf m s) ∙ e ∙ take-bitsOf m t in
     let long : length (take m s) ≡ length (take m t) =
     omega (arith, length-bitsOf (take m s), length-bitsOf (take m t), ap length bits) in
-    sym (bytesOf-bitsOf (take m s) (bytes-taken m s a)) ∙ ap₂ bytesOf long bits ∙ bytesOf-bitsOf (take m t) (bytes-taken m t b)
+    sym (bytesOf-bitsOf (take m s) (take-bytes m s a)) ∙ ap₂ bytesOf long bits ∙ bytesOf-bitsOf (take m t) (take-bytes m t b)
 
 -- ---- from the openings
 

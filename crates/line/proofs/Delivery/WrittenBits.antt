@@ -1,12 +1,12 @@
 -- Bits written into bytes: the receiver's array and the store, as rows of bits. Assumes nothing.
 use mathlib.Core.Path.{_≡_, refl, ap, sym, _∙_}
-use mathlib.Core.List.{List, _++_, append-assoc, append-nil}
+use mathlib.Core.List.{List, _++_, append-assoc}
 use Prim.Native.Nat.{ℕ, _+_, _-_, _*_, _≤_}
 use native.Mathlib.Omega.{arith}
 use lib.ListN.{length, take, drop, length-append, length-drop, length-replicate}
 use lib.Seq.{length-take-le, take-at, drop-at}
 use Rattle.crc.specs.Bits.{Bits, zeros, bitsOf, bytesOf}
-use Rattle.crc.proofs.Bytes.{length-bitsOf, bitsOf-append, length-bytesOf, bitsOf-bytesOf}
+use Rattle.crc.proofs.Bytes.{length-bitsOf, bitsOf-append, length-bytesOf, bitsOf-bytesOf, bitsOf-bytesOf-exact}
 use Rattle.line.specs.Receiving.{arrayBytes, zeroArray, heldBits, searching, overwrite, holding, storeAt}
 use Rattle.line.specs.declared.receiver.Receiver.{Receiver}
 
@@ -23,32 +23,20 @@ length-overwrite at new row h =
       length-drop (at + length new) row,
     )
 
--- its first bits are the old ones and the new
-pub take-overwrite : (at : ℕ) (new row : Bits) → at + length new ≤ length row
-    → take (at + length new) (overwrite at new row) ≡ take at row ++ new
-take-overwrite at new row h =
-    ap (take (at + length new)) (sym (append-assoc (take at row) new (drop (at + length new) row)))
-    ∙ take-at (take at row ++ new) (drop (at + length new) row) (at + length new) long
-  where
-    long : length (take at row ++ new) ≡ at + length new
-    long = omega (arith, length-append (take at row) new, length-take-le at row (omega arith))
+module _ (at : ℕ) (new row : Bits) (h : at + length new ≤ length row) where
+  parts : overwrite at new row ≡ (take at row ++ new) ++ drop (at + length new) row
+  parts = sym (append-assoc (take at row) new (drop (at + length new) row))
 
--- and the others stand as they were
-pub drop-overwrite : (at : ℕ) (new row : Bits) → at + length new ≤ length row
-    → drop (at + length new) (overwrite at new row) ≡ drop (at + length new) row
-drop-overwrite at new row h =
-    ap (drop (at + length new)) (sym (append-assoc (take at row) new (drop (at + length new) row)))
-    ∙ drop-at (take at row ++ new) (drop (at + length new) row) (at + length new) long
-  where
-    long : length (take at row ++ new) ≡ at + length new
-    long = omega (arith, length-append (take at row) new, length-take-le at row (omega arith))
+  long : length (take at row ++ new) ≡ at + length new
+  long = omega (arith, length-append (take at row) new, length-take-le at row (omega arith))
 
--- ---- bytes that hold a row exactly
+  -- its first bits are the old ones and the new
+  pub take-overwrite : take (at + length new) (overwrite at new row) ≡ take at row ++ new
+  take-overwrite = ap (take (at + length new)) parts ∙ take-at (take at row ++ new) (drop (at + length new) row) (at + length new) long
 
-pub bitsOf-exact : (m : ℕ) (row : Bits) → length row ≡ 8 * m → bitsOf (bytesOf m row) ≡ row
-bitsOf-exact m row h =
-    let z : 8 * m - length row ≡ 0 = omega arith in
-    bitsOf-bytesOf m row (omega arith) ∙ ap (λ (n : ℕ). row ++ zeros n) z ∙ append-nil row
+  -- and the others stand as they were
+  pub drop-overwrite : drop (at + length new) (overwrite at new row) ≡ drop (at + length new) row
+  drop-overwrite = ap (drop (at + length new)) parts ∙ drop-at (take at row ++ new) (drop (at + length new) row) (at + length new) long
 
 -- ---- the receiver's array
 
@@ -65,7 +53,7 @@ length-holding s new = length-bytesOf arrayBytes (overwrite (s .held) new (bitsO
 pub heldBits-holding : (s : Receiver) (new : Bits) → length (s .bits) ≡ arrayBytes → s .held + length new ≤ 3864
     → heldBits (holding s new) ≡ heldBits s ++ new
 heldBits-holding s new a h =
-    ap (take (s .held + length new)) (bitsOf-exact arrayBytes (overwrite (s .held) new (bitsOf (s .bits))) long)
+    ap (take (s .held + length new)) (bitsOf-bytesOf-exact arrayBytes (overwrite (s .held) new (bitsOf (s .bits))) long)
     ∙ take-overwrite (s .held) new (bitsOf (s .bits)) fits
   where
     fits : s .held + length new ≤ length (bitsOf (s .bits))
@@ -93,7 +81,7 @@ module _ (at : ℕ) (payload : Bits) (store : List ℕ) (h : at + length payload
   pub bitsOf-storeAt : bitsOf (storeAt at payload store) ≡ overwrite at payload (bitsOf store)
   unfolding storeAt
   bitsOf-storeAt =
-      bitsOf-exact (length store) (overwrite at payload (bitsOf store))
+      bitsOf-bytesOf-exact (length store) (overwrite at payload (bitsOf store))
       (omega (
         arith,
         length-overwrite at payload (bitsOf store)

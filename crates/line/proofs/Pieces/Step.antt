@@ -10,7 +10,7 @@ use lib.ListN.{length, take, drop, length-append}
 use lib.Seq.{take-append-le, take-append-add, drop-drop}
 use borrow.Author.Tests.{ltb-true, ltb-false}
 use Rattle.crc.specs.Bits.{Bits, bitsOf, bytesOf}
-use Rattle.crc.proofs.Bytes.{length-bitsOf}
+use Rattle.crc.proofs.Bytes.{length-bitsOf, bitsOf-bytesOf-exact}
 use Rattle.block.specs.Lengths.{isLength}
 use Rattle.block.proofs.Lengths.{length-facts}
 use Rattle.line.specs.Receiving.{arrayBytes, Rule, unfinished, standing, sequence-found, sync-block, check-fails, accepts, previous, out-of-sequence, ends, wrong-length, ends-again, anything-else, meaning, judge, heldBits, stops, overwrite, holding, missing, finishedRow, inStep}
@@ -19,7 +19,7 @@ use Rattle.line.specs.declared.receiver.Receiver.{Receiver}
 use Rattle.line.proofs.InStepBits.{step-on, step-done}
 use Rattle.block.proofs.Truth.{either}
 use Rattle.line.proofs.Delivery.BlockRules.{Judged, as-sync, fails, as-data, as-other, judged}
-use Rattle.line.proofs.Delivery.WrittenBits.{length-overwrite, take-overwrite, drop-overwrite, bitsOf-exact, heldBits-holding}
+use Rattle.line.proofs.Delivery.WrittenBits.{length-overwrite, take-overwrite, drop-overwrite, heldBits-holding}
 use Rattle.line.proofs.Delivery.BitByBit.{after-holding}
 
 -- a row written behind a row written is both written
@@ -52,7 +52,7 @@ module _ (s : Receiver) (array : length (s .bits) ≡ arrayBytes) (a : Bits) (ro
         phase = s .phase;
       })
       (ap (λ (row : Bits). bytesOf arrayBytes (overwrite (s .held + length a) b row))
-      (bitsOf-exact arrayBytes (overwrite (s .held) a (bitsOf (s .bits))) long)
+      (bitsOf-bytesOf-exact arrayBytes (overwrite (s .held) a (bitsOf (s .bits))) long)
       ∙ ap (bytesOf arrayBytes) (overwrite-again (s .held) a b (bitsOf (s .bits)) fits)) n
     where
       long : length (overwrite (s .held) a (bitsOf (s .bits))) ≡ 8 * arrayBytes

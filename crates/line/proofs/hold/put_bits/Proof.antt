@@ -5,13 +5,14 @@ use Prim.Native.Nat.{ℕ, suc, _+_, _-_, _*_, _/_, _%_, _≤_}
 use native.Mathlib.Omega.{arith}
 use lib.ListN.{length, take, drop, getD, set, length-set}
 use Rattle.crc.specs.Bits.{binary, bitsOf}
+use Rattle.crc.proofs.Bytes.{set-bytes, packed}
 use native.Mathlib.Nat.{add-zero}
 use native.Mathlib.Numerals.{add-one}
 use lib.Seq.{drop-set-lt}
 use mir.Syntax.{w8}
 use mir.Val.{Fits}
 use Rattle.line.specs.Receiving.{overwrite}
-use Rattle.line.proofs.BitMoves.{held-bits, one-byte-more, set-bytes, last-byte, packed, further}
+use Rattle.line.proofs.BitMoves.{held-bits, one-byte-more, last-byte, further}
 use borrow.Author.Needs.{needs}
 use Rattle.line.proofs.hold.put_bits.Statement.{statement}
 use Rattle.line.proofs.hold.put_bits.Tie as tie

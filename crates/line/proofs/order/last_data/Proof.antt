@@ -54,14 +54,14 @@ loop-again c =
     let a = c .before .before .before .before .args in
     (search needs, again (a .order .now) (l .payload) (a .start) (l .j) (l .inv .1) (omega arith) (omega arith))
 
-add-first-bits : tie.Need-add-first-bits Inv-loop μ-loop
-add-first-bits c = search needs
+add-keep-first : tie.Need-add-keep-first Inv-loop μ-loop
+add-keep-first c = search needs
 
-shared-slice-read-first-bits : tie.Need-shared-slice-read-first-bits Inv-loop μ-loop
-shared-slice-read-first-bits c = search needs
+shared-slice-read-keep-first : tie.Need-shared-slice-read-keep-first Inv-loop μ-loop
+shared-slice-read-keep-first c = search needs
 
-first-bits-requires : tie.Need-first-bits-requires Inv-loop μ-loop
-first-bits-requires c κs = search needs
+keep-first-requires : tie.Need-keep-first-requires Inv-loop μ-loop
+keep-first-requires c κs = search needs
 
 array-write-payload-2 : tie.Need-array-write-payload-2 Inv-loop μ-loop
 array-write-payload-2 c = search needs
@@ -96,8 +96,8 @@ returns c =
     let a = entry .before .args in
     let l = c .before .before .before .before .loop in
     some-rest (a .order .now) (l .payload) (a .bits) (a .start) (l .j) (λ i. entry .shared-slice-known .given i .fits)
-    (omega arith) (omega arith) (omega arith) (l .inv .1) (omega arith) (c .first-bits .result) (c .before .before .if1 .taken)
-    (c .first-bits .ensures)
+    (omega arith) (omega arith) (omega arith) (l .inv .1) (omega arith) (c .keep-first .result) (c .before .before .if1 .taken)
+    (c .keep-first .ensures)
 
 returns-2 : tie.Need-returns-2 Inv-loop μ-loop
 returns-2 c =
@@ -121,9 +121,9 @@ last-data-spec =
     add-j
     loop-less
     loop-again
-    add-first-bits
-    shared-slice-read-first-bits
-    first-bits-requires
+    add-keep-first
+    shared-slice-read-keep-first
+    keep-first-requires
     array-write-payload-2
     returns
     returns-2)

@@ -1,4 +1,4 @@
--- `first_bits` keeps the first bits of a byte: a computed test over all bytes and counts. Assumes nothing.
+-- `keep_first` keeps the first bits of a byte: a computed test over all bytes and counts. Assumes nothing.
 use borrow.Author.Needs.{needs}
 use mathlib.Core.Bool.{Bool}
 use mathlib.Core.List.{_++_}
@@ -8,8 +8,8 @@ use lib.Dec.{eqb, eqb→eq}
 use lib.ListN.{take}
 use Rattle.crc.specs.Bits.{binary, number, zeros}
 use Rattle.line.proofs.Table.{at-cell}
-use Rattle.line.proofs.order.first_bits.Statement.{statement}
-use Rattle.line.proofs.order.first_bits.Tie as tie
+use Rattle.line.proofs.order.keep_first.Statement.{statement}
+use Rattle.line.proofs.order.keep_first.Tie as tie
 
 right : ℕ → ℕ → Bool
 right x count =
@@ -29,5 +29,5 @@ returns c =
     eqb→eq (bitAnd x (255 - 255 / 2 ^ count)) (number (take 8 (take count (binary 8 x) ++ zeros 8)))
     (at-cell right 256 8 tt x count (c .fits .x .fits) (search needs))
 
-pub first-bits-spec : {M : Type 1} → statement M
-first-bits-spec = tie.close (tie.spec cast-result shr-result returns)
+pub keep-first-spec : {M : Type 1} → statement M
+keep-first-spec = tie.close (tie.spec cast-result shr-result returns)
