@@ -20,7 +20,7 @@ use Rattle.session.specs.Period.{readingOf, lineBytes, Lent, arriving, h
 use Rattle.session.specs.declared.period.Block.{Block}
 use Rattle.session.specs.declared.period.Kind.{Kind}
 use Rattle.session.specs.declared.period.Outcome.the-variants as O
-use Rattle.session.specs.declared.period.Reading.{Reception}
+use Rattle.session.specs.declared.period.Reading.{Reading}
 use Rattle.session.specs.declared.period.Sending.{Sending}
 use Rattle.session.specs.declared.period.Sending.the-variants as W
 use Rattle.session.proofs.ReceivingCalls.{held-bits, lent-packed}
@@ -31,7 +31,7 @@ shown-refused : (a : Answer S.Block) (reading : Bool) (n : ℕ) → W.Refused n 
 shown-refused (refused m) reading n e = cc
 shown-refused (done b) reading n e = absurd (let z : _≡_ {A = ℕ} 0 1 = cc in omega arith)
 
-shown-sent : (a : Answer S.Block) (reading : Bool) (block : Block) (used : Reception) → W.Sent block used ≡ shownSending a reading
+shown-sent : (a : Answer S.Block) (reading : Bool) (block : Block) (used : Reading) → W.Sent block used ≡ shownSending a reading
     → (b : S.Block) × ((a ≡ done b) × ((block ≡ shownBlock b) × (used ≡ shownReading b reading)))
 shown-sent (refused m) reading block used e = absurd (let z : _≡_ {A = ℕ} 0 1 = cc in omega arith)
 shown-sent (done b) reading block used e = (b, (refl, (cc, cc)))
@@ -49,14 +49,14 @@ module _ (kind : Kind) (s : Sender) (r : Receiver) (order store : List ℕ) (rea
       sym (kept .answers) ∙ shown-refused (sentAnswer (step .answer)) reading n (sym a ∙ shown) in
       rw (kept .state, g, ← e, g)
 
-  pub record BlockSent (block : Block) (used : Reception) : Type 0 where
+  pub record BlockSent (block : Block) (used : Reading) : Type 0 where
     pub count : s .setup .k ≤ 3840
     pub lent : Lent line (s .setup .k + 20)
     pub course : period kind s r order store
         ≡ heardCourse (step .state) block used
         (hear (s .setup .k + 20) r (arriving kind (take (s .setup .k + 20) (bitsOf line))) store E.None)
 
-  sent-at : (b : S.Block) (block : Block) (used : Reception) → sentAnswer (step .answer) ≡ done b → block ≡ shownBlock b
+  sent-at : (b : S.Block) (block : Block) (used : Reading) → sentAnswer (step .answer) ≡ done b → block ≡ shownBlock b
       → used ≡ shownReading b reading → BlockSent block used
   unfolding period
   sent-at b block used a sb sr =
@@ -72,7 +72,7 @@ module _ (kind : Kind) (s : Sender) (r : Receiver) (order store : List ℕ) (rea
         course = rw (sb, sr, l, ← o .count, held-bits bits m, kept .state, g, ← e, g);
       }
 
-  pub sent : (block : Block) (used : Reception) → sending ≡ W.Sent block used → BlockSent block used
+  pub sent : (block : Block) (used : Reading) → sending ≡ W.Sent block used → BlockSent block used
   sent block used a =
       let x = shown-sent (sentAnswer (step .answer)) reading block used (sym a ∙ shown) in
       sent-at (x .0) block used (x .1 .0) (x .1 .1 .0) (x .1 .1 .1)

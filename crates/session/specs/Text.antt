@@ -14,7 +14,7 @@ use Rattle.session.specs.declared.period.Block.the-variants as B
 use Rattle.session.specs.declared.period.Line.{Line}
 use Rattle.session.specs.declared.period.Outcome.{Outcome}
 use Rattle.session.specs.declared.period.Outcome.the-variants as O
-use Rattle.session.specs.declared.period.Reading.{Reception}
+use Rattle.session.specs.declared.period.Reading.{Reading}
 use Rattle.session.specs.declared.period.Reading.the-variants as R
 use Rattle.session.specs.declared.text.Text.{Text}
 
@@ -64,7 +64,7 @@ abbrev pub blockText : Block → List ℕ
 blockText B.Synchronising = ascii "S"
 blockText (B.Item i end cancelled) = markText cancelled ++ itemText i end
 
-abbrev pub readingText : Reception → List ℕ
+abbrev pub readingText : Reading → List ℕ
 readingText R.Ignored = ascii "-"
 readingText (R.Used b) = bitText b
 

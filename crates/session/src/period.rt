@@ -33,14 +33,14 @@ pub enum Block {
     },
 }
 
-pub enum Reception {
+pub enum Reading {
     Ignored,
     Used(bool),
 }
 
 pub struct Line {
     pub block: Block,
-    pub reading: Reception,
+    pub reading: Reading,
     // The period's last event other than none, else none.
     pub event: Event,
     // The return bit afterwards.
@@ -55,7 +55,7 @@ pub enum Outcome {
 // How the sending call of a period ended, its block and reading as they are shown.
 pub enum Sending {
     Refused(u8),
-    Sent { block: Block, reading: Reception },
+    Sent { block: Block, reading: Reading },
 }
 
 // How the receiving calls of a period ended.
@@ -100,13 +100,13 @@ fn last_event(last: Event, event: Event) -> Event
     }
 }
 
-fn shown_reading(used: bool, reading: bool) -> Reception
+fn shown_reading(used: bool, reading: bool) -> Reading
     ensures { λ r. ⌜ r ≡ ifUsed used reading ⌝ }
 {
     if used {
-        Reception::Used(reading)
+        Reading::Used(reading)
     } else {
-        Reception::Ignored
+        Reading::Ignored
     }
 }
 
@@ -117,7 +117,7 @@ fn shown_sending(answer: Sent, reading: bool) -> Sending
         Sent::Refused(number) => Sending::Refused(number),
         Sent::Synchronising => Sending::Sent {
             block: Block::Synchronising,
-            reading: Reception::Ignored,
+            reading: Reading::Ignored,
         },
         Sent::Item {
             number,
@@ -202,7 +202,7 @@ fn heard_period(
     sender: Sender,
     receiver: Receiver,
     block: Block,
-    reading: Reception,
+    reading: Reading,
     line: &mut [u8],
     count: usize,
     store: &mut [u8],

@@ -7,7 +7,7 @@ ghost use Rattle.session.specs.Text.{Appends, emptyText, decimal, bitTex
 use crate::period::Block;
 use crate::period::Line;
 use crate::period::Outcome;
-use crate::period::Reception;
+use crate::period::Reading;
 use line::receiving::Event;
 
 // The longest line has 62 bytes.
@@ -108,14 +108,14 @@ impl Text {
         }
     }
 
-    fn reading(self, reading: Reception) -> Text
+    fn reading(self, reading: Reading) -> Text
         requires { ⌜ self .len < 64 ⌝ }
         ensures { λ r. ⌜ Appends self (readingText reading) r ⌝ }
         ensures { λ r. ⌜ r .len ≤ self .len + 1 ⌝ }
     {
         match reading {
-            Reception::Ignored => self.byte(b'-'),
-            Reception::Used(bit) => self.bit(bit),
+            Reading::Ignored => self.byte(b'-'),
+            Reading::Used(bit) => self.bit(bit),
         }
     }
 

@@ -1,175 +1,118 @@
 -- Corner cases of the receiving end, each tried by computing it at k 240. Assumes nothing.
 use mathlib.Core.Path.{_≡_, refl}
-use mathlib.Core.Bool.{Bool, true, false, not}
-use mathlib.Core.List.{[], _∷_, _++_}
+use mathlib.Core.Bool.{true, false}
+use mathlib.Core.List.{List, [], _∷_, _++_, map}
 use native.Mathlib.Omega.{arith}
 use Prim.Native.Nat.{ℕ}
 use lib.ListN.{length, take, drop, replicate}
-use Rattle.crc.specs.Bits.{Bits, binary, number, bitsOf, bytesOf, zeros}
-use Rattle.crc.specs.Check.{remainder, passes, check}
+use Rattle.crc.specs.Bits.{Bits, binary, bytesOf, zeros}
 use Rattle.block.specs.Answer as A
 use Rattle.block.specs.Answer.{Answer, refused, done}
-use Rattle.block.specs.Lengths.{isLength}
-use Rattle.block.specs.Block.{blockBits, verdict, syncBlock, syncSequence}
-use Rattle.line.specs.Order.{validLength, itemCount, letter, letterA, letterB, letterC, isLetter, endPayload, endService}
-use Rattle.line.specs.Receiving.{freshReceiver, zeroArray, Rule, sequence-found, sync-block, check-fails, accepts, previous, out-of-sequence, ends, wrong-length, ends-again, anything-else, unfinished, standing, place, endRule, serviceRule, looksSync, judge, blank, Reception, idle, searching, inStep, reception, receiverInRange, receive}
+use Rattle.block.specs.Block.{blockBits, syncBlock, syncSequence}
+use Rattle.line.specs.Order.{letterA, letterB, letterC, endPayload, endService}
+use Rattle.line.specs.Receiving.{Rule, sequence-found, sync-block, check-fails, accepts, previous, out-of-sequence, ends, wrong-length, ends-again, anything-else, unfinished, standing, Reception, idle, searching, receive}
 use Rattle.line.specs.declared.receiver.Receiver.{Receiver}
-use Rattle.line.specs.declared.receiving.Phase.{Phase}
 use Rattle.line.specs.declared.receiving.Phase.the-variants as P
 use Rattle.line.specs.declared.receiving.Event.the-variants as E
 use Rattle.line.proofs.Delivery.WrittenBits.{length-zeroArray}
 use Rattle.line.proofs.Delivery.BitByBit.{bitByBit, Waiting, bit-by-bit}
-
--- ---- states and blocks
-
--- nothing held: the row, the return bit, the items taken, whether the end is, and what the receiver is doing
-abbrev state : ℕ → Bool → ℕ → Bool → Phase → Receiver
-state row back taken ended phase = blank (freshReceiver 240) row back taken ended phase
-
--- in step with return bit 0: the items taken, and whether the end is
-abbrev good : ℕ → Bool → Receiver
-good taken ended = state 0 false taken ended P.InStep
-
-abbrev block : ℕ → Bits
-block service = blockBits (binary 4 service) (zeros 240)
+use Rattle.witness.proofs.PeriodRows.{received, receiver, well, bad, damaged, zeroBlock}
 
 abbrev endBlock : ℕ → Bits
 endBlock L = blockBits (binary 4 endService) (endPayload 240 L)
 
--- the first bit inverted
-abbrev damaged : Bits → Bits
-damaged [] = []
-damaged (b ∷ bs) = not b ∷ bs
-
 -- ---- what a call comes to
 
--- a block lent whole in one call, with a store for the first item
-abbrev whole : Receiver → Bits → Answer Reception
-whole s row = receive s (bytesOf 33 row) 260 (replicate 30 0)
+-- a call, and what it comes to
+pub record Case : Type 0 where
+  pub call : Answer Reception
+  pub answer : Answer Reception
 
--- it is read by this rule, with this state afterwards
-abbrev Reads : Receiver → Bits → Rule → Receiver → Type 0
-Reads s row rule after = whole s row ≡ done (record { rule = rule; row = row; used = 260; state = after })
+abbrev gives : Answer Reception → Answer Reception → Case
+gives call answer = record { call = call; answer = answer }
+
+-- a block lent whole in one call, with a store for the first item, is read by this rule, with this state afterwards
+abbrev reads : Receiver → Bits → Rule → Receiver → Case
+reads s row rule after =
+    gives (receive s (bytesOf 33 row) 260 (replicate 30 0)) (done (record { rule = rule; row = row; used = 260; state = after }))
 
 -- bits lent in search, with the sequence found at the last of them
-abbrev Finds : Receiver → Bits → ℕ → Receiver → Type 0
-Finds s row used after =
-    receive s (bytesOf 33 row) (length row) [] ≡ done (record { rule = sequence-found; row = []; used = used; state = after })
+abbrev finds : Receiver → Bits → ℕ → Receiver → Case
+finds s row used after =
+    gives (receive s (bytesOf 33 row) (length row) []) (done (record { rule = sequence-found; row = []; used = used; state = after }))
 
 -- ... or with none found, and this window held
-abbrev Passes : Receiver → Bits → Bits → Type 0
-Passes s row window =
-    receive s (bytesOf 33 row) (length row) []
-    ≡ done (record { rule = unfinished; row = []; used = length row; state = searching s window })
+abbrev findsNone : Receiver → Bits → Bits → Case
+findsNone s row window =
+    gives (receive s (bytesOf 33 row) (length row) [])
+    (done (record { rule = unfinished; row = []; used = length row; state = searching s window }))
 
-pub record Corners : Type 0 where
-  -- 0 bits: nothing changed, and a standing alarm is reported
-  pub none-in-search : receive (state 3 false 2 false P.Search) [] 0 [] ≡ done (idle (state 3 false 2 false P.Search))
-  pub none-in-step : receive (state 3 true 2 false P.InStep) [] 0 [] ≡ done (idle (state 3 true 2 false P.InStep))
-  pub none-under-alarm :
-      receive (state 3 false 2 false P.SequenceAlarm) [] 0 []
-      ≡ done (record { rule = standing E.SequenceAlarm; row = []; used = 0; state = state 3 false 2 false P.SequenceAlarm })
-  -- a standing alarm takes all bits, sets the return bit and clears the row
-  pub all-under-alarm :
-      receive (state 3 false 2 false P.LengthAlarm) (0 ∷ []) 5 []
-      ≡ done (record { rule = standing E.LengthAlarm; row = []; used = 5; state = state 0 true 2 false P.LengthAlarm })
-  -- a short line slice under a standing alarm
-  pub short-under-alarm : receive (state 0 true 2 false P.SequenceAlarm) (0 ∷ []) 9 [] ≡ refused A.short
-  -- a search call of more than 16 bits; the bits behind the sequence are not used
-  pub search-long : Finds (state 5 true 2 false P.Search) (zeros 8 ++ (syncSequence ++ zeros 4)) 24 (good 2 false)
-  -- 15 bits held, then one: the window slides on
-  pub fifteen-held :
-      Finds (searching (state 0 true 0 false P.Search) (take 15 syncSequence)) (drop 15 syncSequence) 1 (good 0 false)
-  pub fifteen-others :
-      Passes (searching (state 0 true 0 false P.Search) (zeros 15)) (true ∷ []) (zeros 14 ++ (true ∷ []))
-  -- the sequence's first bits were received before the search began
-  pub not-before : Passes (state 0 true 0 false P.Search) (drop 1 syncSequence) (drop 1 syncSequence)
-  -- a search that begins in mid-list passes whole blocks, keeps r, and then rule 4 holds
-  pub search-passes : Passes (state 0 true 2 false P.Search) (block letterB) (drop 245 (block letterB))
-  pub search-finds : Finds (searching (state 0 true 2 false P.Search) (drop 245 (block letterB))) (syncBlock 240) 260 (good 2 false)
-  pub older-after-search : Reads (good 2 false) (block letterB) previous (good 2 false)
-  -- the eighth bad is a synchronising block: a search begins behind it, and does not see its sequence
-  pub eighth-synchronising :
-      Reads (state 7 true 2 false P.InStep) (damaged (syncBlock 240)) check-fails (state 0 true 2 false P.Search)
-  pub seventh-bad : Reads (state 6 true 2 false P.InStep) (damaged (syncBlock 240)) check-fails (state 7 true 2 false P.InStep)
-  pub eighth-undamaged : Reads (state 7 true 2 false P.InStep) (syncBlock 240) sync-block (good 2 false)
-  -- rule 7 goes back to search with r at 0, where the letter C is of no item; rule 2 does not
-  pub seven-at-zero : Reads (state 2 true 0 false P.InStep) (block 0b1111) anything-else (state 0 true 0 false P.Search)
-  pub seven-letter-C : Reads (good 0 false) (block letterC) anything-else (state 0 true 0 false P.Search)
-  pub seven-later : Reads (state 2 true 1 false P.InStep) (block 0b1111) anything-else (state 3 true 1 false P.InStep)
-  pub seven-eighth : Reads (state 7 true 1 false P.InStep) (block 0b1111) anything-else (state 0 true 1 false P.Search)
-  pub two-at-zero : Reads (state 2 true 0 false P.InStep) (damaged (block letterA)) check-fails (state 3 true 0 false P.InStep)
-  pub five-at-zero : Reads (good 0 false) (block letterB) out-of-sequence (state 0 true 0 false P.SequenceAlarm)
-  pub six-at-zero : Reads (good 0 false) (endBlock 240) wrong-length (state 0 true 0 false P.LengthAlarm)
-  -- r at 1,093: no further item; the letters of items 1,092 and 1,094 as ever
-  pub full-expected : Reads (good 1093 false) (block letterB) anything-else (state 1 true 1093 false P.InStep)
-  pub full-previous : Reads (good 1093 false) (block letterA) previous (good 1093 false)
-  pub full-next : Reads (good 1093 false) (block letterC) out-of-sequence (state 0 true 1093 false P.SequenceAlarm)
-  pub full-end : Reads (good 1093 false) (endBlock 262144) (ends 262144) (good 1093 true)
-  -- an end block: its L makes r items or another number; its version and L are within range or not
-  pub end-fits : Reads (good 2 false) (endBlock 241) (ends 241) (good 2 true)
-  pub end-other : Reads (good 2 false) (endBlock 240) wrong-length (state 0 true 2 false P.LengthAlarm)
-  pub end-too-long : Reads (good 1093 false) (endBlock 262145) wrong-length (state 0 true 1093 false P.LengthAlarm)
-  pub end-version : Reads (good 1 false) (block endService) wrong-length (state 0 true 1 false P.LengthAlarm)
-  -- after the end: an end block again, and any letter
-  pub end-again : Reads (good 2 true) (endBlock 240) ends-again (good 2 true)
-  pub letter-after-end : Reads (good 2 true) (block letterC) out-of-sequence (state 0 true 2 true P.SequenceAlarm)
-  pub older-after-end : Reads (good 2 true) (block letterB) out-of-sequence (state 0 true 2 true P.SequenceAlarm)
-  -- the store is judged only where a block would be accepted, and then none of the bits is used
-  pub store-short : receive (good 0 false) (bytesOf 33 (block letterA)) 260 (replicate 29 0) ≡ refused A.short
-  pub store-enough : Reads (good 0 false) (block letterA) accepts (good 1 false)
-  pub store-not-judged :
-      receive (good 1 false) (bytesOf 33 (block letterA)) 260 []
-      ≡ done (record { rule = previous; row = block letterA; used = 260; state = good 1 false })
+abbrev pub cases : List Case
+cases =
+    -- 0 bits: nothing changed, and a standing alarm is reported
+    gives (receive (receiver 3 false 2 false P.Search) [] 0 []) (done (idle (receiver 3 false 2 false P.Search)))
+    ∷ gives (receive (bad 3 2) [] 0 []) (done (idle (bad 3 2)))
+    ∷ gives (receive (receiver 3 false 2 false P.SequenceAlarm) [] 0 [])
+    (done (record { rule = standing E.SequenceAlarm; row = []; used = 0; state = receiver 3 false 2 false P.SequenceAlarm }))
+    -- a standing alarm takes all bits, sets the return bit and clears the row
+    ∷ gives (receive (receiver 3 false 2 false P.LengthAlarm) (0 ∷ []) 5 [])
+    (done (record { rule = standing E.LengthAlarm; row = []; used = 5; state = receiver 0 true 2 false P.LengthAlarm }))
+    -- a short line slice under a standing alarm
+    ∷ gives (receive (receiver 0 true 2 false P.SequenceAlarm) (0 ∷ []) 9 []) (refused A.short)
+    -- a search call of more than 16 bits; the bits behind the sequence are not used
+    ∷ finds (receiver 5 true 2 false P.Search) (zeros 8 ++ (syncSequence ++ zeros 4)) 24 (well 2 false)
+    -- 15 bits held, then one: the window slides on
+    ∷ finds (searching (receiver 0 true 0 false P.Search) (take 15 syncSequence)) (drop 15 syncSequence) 1 (well 0 false)
+    ∷ findsNone (searching (receiver 0 true 0 false P.Search) (zeros 15)) (true ∷ []) (zeros 14 ++ (true ∷ []))
+    -- the sequence's first bits were received before the search began
+    ∷ findsNone (receiver 0 true 0 false P.Search) (drop 1 syncSequence) (drop 1 syncSequence)
+    -- a search that begins in mid-list passes whole blocks, keeps r, and then rule 4 holds
+    ∷ findsNone (receiver 0 true 2 false P.Search) (zeroBlock letterB) (drop 245 (zeroBlock letterB))
+    ∷ finds (searching (receiver 0 true 2 false P.Search) (drop 245 (zeroBlock letterB))) (syncBlock 240) 260 (well 2 false)
+    ∷ reads (well 2 false) (zeroBlock letterB) previous (well 2 false)
+    -- the eighth bad is a synchronising block: a search begins behind it, and does not see its sequence
+    ∷ reads (bad 7 2) (damaged (syncBlock 240)) check-fails (receiver 0 true 2 false P.Search)
+    ∷ reads (bad 6 2) (damaged (syncBlock 240)) check-fails (bad 7 2)
+    ∷ reads (bad 7 2) (syncBlock 240) sync-block (well 2 false)
+    -- rule 7 goes back to search with r at 0, where the letter C is of no item; rule 2 does not
+    ∷ reads (bad 2 0) (zeroBlock 0b1111) anything-else (receiver 0 true 0 false P.Search)
+    ∷ reads (well 0 false) (zeroBlock letterC) anything-else (receiver 0 true 0 false P.Search)
+    ∷ reads (bad 2 1) (zeroBlock 0b1111) anything-else (bad 3 1)
+    ∷ reads (bad 7 1) (zeroBlock 0b1111) anything-else (receiver 0 true 1 false P.Search)
+    ∷ reads (bad 2 0) (damaged (zeroBlock letterA)) check-fails (bad 3 0)
+    ∷ reads (well 0 false) (zeroBlock letterB) out-of-sequence (receiver 0 true 0 false P.SequenceAlarm)
+    ∷ reads (well 0 false) (endBlock 240) wrong-length (receiver 0 true 0 false P.LengthAlarm)
+    -- r at 1,093: no further item; the letters of items 1,092 and 1,094 as ever
+    ∷ reads (well 1093 false) (zeroBlock letterB) anything-else (bad 1 1093)
+    ∷ reads (well 1093 false) (zeroBlock letterA) previous (well 1093 false)
+    ∷ reads (well 1093 false) (zeroBlock letterC) out-of-sequence (receiver 0 true 1093 false P.SequenceAlarm)
+    ∷ reads (well 1093 false) (endBlock 262144) (ends 262144) (well 1093 true)
+    -- an end block: its L makes r items or another number; its version and L are within range or not
+    ∷ reads (well 2 false) (endBlock 241) (ends 241) (well 2 true)
+    ∷ reads (well 2 false) (endBlock 240) wrong-length (receiver 0 true 2 false P.LengthAlarm)
+    ∷ reads (well 1093 false) (endBlock 262145) wrong-length (receiver 0 true 1093 false P.LengthAlarm)
+    ∷ reads (well 1 false) (zeroBlock endService) wrong-length (receiver 0 true 1 false P.LengthAlarm)
+    -- after the end: an end block again, and any letter
+    ∷ reads (well 2 true) (endBlock 240) ends-again (well 2 true)
+    ∷ reads (well 2 true) (zeroBlock letterC) out-of-sequence (receiver 0 true 2 true P.SequenceAlarm)
+    ∷ reads (well 2 true) (zeroBlock letterB) out-of-sequence (receiver 0 true 2 true P.SequenceAlarm)
+    -- the store is judged only where a block would be accepted, and then none of the bits is used
+    ∷ gives (receive (well 0 false) (bytesOf 33 (zeroBlock letterA)) 260 (replicate 29 0)) (refused A.short)
+    ∷ reads (well 0 false) (zeroBlock letterA) accepts (well 1 false)
+    ∷ gives (receive (well 1 false) (bytesOf 33 (zeroBlock letterA)) 260 [])
+    (done (record { rule = previous; row = zeroBlock letterA; used = 260; state = well 1 false }))
+    ∷ []
 
-pub corners : Corners
-unfolding receive receiverInRange reception inStep judge looksSync verdict passes remainder check blockBits syncBlock serviceRule endRule endPayload place letter isLetter validLength itemCount number binary bitsOf bytesOf zeroArray freshReceiver isLength
-corners =
-    record {
-      none-in-search = refl;
-      none-in-step = refl;
-      none-under-alarm = refl;
-      all-under-alarm = refl;
-      short-under-alarm = refl;
-      search-long = refl;
-      fifteen-held = refl;
-      fifteen-others = refl;
-      not-before = refl;
-      search-passes = refl;
-      search-finds = refl;
-      older-after-search = refl;
-      eighth-synchronising = refl;
-      seventh-bad = refl;
-      eighth-undamaged = refl;
-      seven-at-zero = refl;
-      seven-letter-C = refl;
-      seven-later = refl;
-      seven-eighth = refl;
-      two-at-zero = refl;
-      five-at-zero = refl;
-      six-at-zero = refl;
-      full-expected = refl;
-      full-previous = refl;
-      full-next = refl;
-      full-end = refl;
-      end-fits = refl;
-      end-other = refl;
-      end-too-long = refl;
-      end-version = refl;
-      end-again = refl;
-      letter-after-end = refl;
-      older-after-end = refl;
-      store-short = refl;
-      store-enough = refl;
-      store-not-judged = refl;
-    }
+pub corners : map (λ c. c .call) cases ≡ map (λ c. c .answer) cases
+unfolding received
+corners = refl
 
 -- a block split into calls of one bit is read as in one call
 abbrev tail : Bits
-tail = drop 1 (block letterA)
+tail = drop 1 (zeroBlock letterA)
 
-waiting : Waiting (state 2 true 0 false P.InStep) (length (false ∷ tail))
-unfolding check remainder blockBits binary freshReceiver isLength
+waiting : Waiting (bad 2 0) (length (false ∷ tail))
+unfolding received
 waiting =
     record {
       known = refl;
@@ -180,7 +123,7 @@ waiting =
       held = refl;
     }
 
-pub one-bit-calls : bitByBit (state 2 true 0 false P.InStep) (replicate 30 0) (false ∷ tail) (refused 0)
-    ≡ done (record { rule = accepts; row = block letterA; used = 1; state = good 1 false })
-unfolding judge looksSync verdict passes remainder check blockBits serviceRule place letter isLetter number binary bitsOf bytesOf freshReceiver
-one-bit-calls = bit-by-bit (state 2 true 0 false P.InStep) (replicate 30 0) false tail (refused 0) waiting
+pub one-bit-calls : bitByBit (bad 2 0) (replicate 30 0) (false ∷ tail) (refused 0)
+    ≡ done (record { rule = accepts; row = zeroBlock letterA; used = 1; state = well 1 false })
+unfolding received
+one-bit-calls = bit-by-bit (bad 2 0) (replicate 30 0) false tail (refused 0) waiting

@@ -65,7 +65,7 @@ example-computed = refl
 
 pub example : Assumptions 240 content (course w₀ (allCalls rows))
 unfolding trace
-example = meets refl refl
+example = meets refl
 
 -- at the end the store has the order with its zero filling, and behind it what it had
 pub example-stored : final w₀ (allCalls rows) .store ≡ stored

@@ -44,7 +44,7 @@ waits-computed = refl
 
 pub waits-meets : Assumptions 240 content (course w₀ (allCalls waits))
 unfolding trace
-waits-meets = meets refl refl
+waits-meets = meets refl
 
 -- what each call did
 pub waits-told : map outcome (course w₀ (allCalls waits)) ≡ flatMap (λ r. r .outcomes) waits

@@ -1,5 +1,5 @@
 -- Computed witnesses. The receiving end's corner cases: Corners; a call in pieces: Pieces; the sending end: Sends. How a list
--- of calls is written and judged: Meets, Tally, PeriodRows, TwoItems. Lists: Example, Repeats, Losses, Moved, FourPeriods.
+-- of calls is written and judged: Meets, PeriodRows, TwoItems. Lists: Example, Repeats, Losses, Moved, FourPeriods.
 pub mod Corners
 pub mod Pieces
 pub mod Sends

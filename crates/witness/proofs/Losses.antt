@@ -31,7 +31,7 @@ alarms-computed = refl
 
 pub alarms-meets : Assumptions 240 content (course w₀ (allCalls alarms))
 unfolding trace
-alarms-meets = meets refl refl
+alarms-meets = meets refl
 
 -- A reading of 1 where 0 was meant cancels item 1. Item 0 comes again, damaged, and its request is lost, but item 1 is
 -- good. The same with item 2.
@@ -58,4 +58,4 @@ two-losses-computed = refl
 
 pub two-losses-meets : Assumptions 240 content (course w₀ (allCalls two-losses))
 unfolding trace
-two-losses-meets = meets refl refl
+two-losses-meets = meets refl

@@ -1,6 +1,6 @@
 -- Whether a course meets what is supposed of it, as a truth value; and that it then does. Assumes nothing.
 use mathlib.Core.Path.{_≡_, refl, ap, ap₂, sym, _∙_, subst}
-use mathlib.Core.Bool.{Bool, true, false, not, _&&_, _||_, true≢false, false≢true}
+use mathlib.Core.Bool.{Bool, true, false, not, _&&_, _||_, Bool·beq, true≢false, false≢true}
 use mathlib.Core.List.{List, [], _∷_, _++_}
 use native.Mathlib.Omega.{arith}
 use Prim.Native.Nat.{ℕ, suc, _≤_}
@@ -23,61 +23,46 @@ use Rattle.line.proofs.receiving.Event.{the-type}
 
 -- ---- rows, bytes and blocks
 
-abbrev sameBit : Bool → Bool → Bool
-sameBit true b = b
-sameBit false b = not b
+-- whether two lists are the same, item by item
+abbrev same : {A : Type 0} → (A → A → Bool) → List A → List A → Bool
+same eq [] [] = true
+same eq [] (b ∷ y) = false
+same eq (a ∷ x) [] = false
+same eq (a ∷ x) (b ∷ y) = eq a b && same eq x y
 
-same-bit : (a b : Bool) → sameBit a b ≡ true → a ≡ b
-same-bit true b h = sym h
-same-bit false true h = absurd (false≢true h)
-same-bit false false h = refl
+same-list : {A : Type 0} (eq : A → A → Bool) → ((a b : A) → eq a b ≡ true → a ≡ b) → (x y : List A) → same eq x y ≡ true → x ≡ y
+same-list eq f [] [] h = refl
+same-list eq f [] (b ∷ y) h = absurd (false≢true h)
+same-list eq f (a ∷ x) [] h = absurd (false≢true h)
+same-list eq f (a ∷ x) (b ∷ y) h =
+    let e = and-true (eq a b) (same eq x y) h in
+    ap₂ _∷_ (f a b (e .0)) (same-list eq f x y (e .1))
 
 abbrev pub sameBits : Bits → Bits → Bool
-sameBits [] [] = true
-sameBits [] (b ∷ y) = false
-sameBits (a ∷ x) [] = false
-sameBits (a ∷ x) (b ∷ y) = sameBit a b && sameBits x y
+sameBits = same Bool·beq
 
 same-bits : (x y : Bits) → sameBits x y ≡ true → x ≡ y
-same-bits [] [] h = refl
-same-bits [] (b ∷ y) h = absurd (false≢true h)
-same-bits (a ∷ x) [] h = absurd (false≢true h)
-same-bits (a ∷ x) (b ∷ y) h =
-    let e = and-true (sameBit a b) (sameBits x y) h in
-    ap₂ _∷_ (same-bit a b (e .0)) (same-bits x y (e .1))
+same-bits = same-list Bool·beq same-bit
+  where
+    same-bit : (a b : Bool) → Bool·beq a b ≡ true → a ≡ b
+    same-bit true true h = refl
+    same-bit true false h = absurd (false≢true h)
+    same-bit false true h = absurd (false≢true h)
+    same-bit false false h = refl
 
 bits-same : (x : Bits) → sameBits x x ≡ true
 bits-same [] = refl
 bits-same (true ∷ x) = bits-same x
 bits-same (false ∷ x) = bits-same x
 
-abbrev sameBytes : List ℕ → List ℕ → Bool
-sameBytes [] [] = true
-sameBytes [] (b ∷ y) = false
-sameBytes (a ∷ x) [] = false
-sameBytes (a ∷ x) (b ∷ y) = eqb a b && sameBytes x y
-
-same-bytes : (x y : List ℕ) → sameBytes x y ≡ true → x ≡ y
-same-bytes [] [] h = refl
-same-bytes [] (b ∷ y) h = absurd (false≢true h)
-same-bytes (a ∷ x) [] h = absurd (false≢true h)
-same-bytes (a ∷ x) (b ∷ y) h =
-    let e = and-true (eqb a b) (sameBytes x y) h in
-    ap₂ _∷_ (eqb-true a b (e .0)) (same-bytes x y (e .1))
-
 -- a row begins with another
 abbrev begins : Bits → Bits → Bool
-begins [] y = true
-begins (a ∷ x) [] = false
-begins (a ∷ x) (b ∷ y) = sameBit a b && begins x y
+begins x y = sameBits x (take (length x) y)
 
 begins-with : (x y : Bits) → begins x y ≡ true → (later : Bits) × (y ≡ x ++ later)
-begins-with [] y h = (y, refl)
-begins-with (a ∷ x) [] h = absurd (false≢true h)
-begins-with (a ∷ x) (b ∷ y) h =
-    let e = and-true (sameBit a b) (begins x y) h in
-    let z = begins-with x y (e .1) in
-    (z .0, ap₂ _∷_ (sym (same-bit a b (e .0))) (z .1))
+begins-with x y h =
+    let n = length x in
+    (drop n y, sym (take-append-drop n y) ∙ ap (λ (r : Bits). r ++ drop n y) (sym (same-bits x (take n y) h)))
 
 not-item : (b : Block) → isItem b ≡ false → b ≡ synchronising
 not-item synchronising h = refl
@@ -86,13 +71,7 @@ not-item (item i end used cancel) h = absurd (true≢false h)
 -- ---- damage
 
 abbrev noOnes : Bits → Bool
-noOnes [] = true
-noOnes (b ∷ e) = not b && noOnes e
-
-no-ones : (e : Bits) → noOnes e ≡ true → e ≡ zeros (length e)
-no-ones [] h = refl
-no-ones (true ∷ e) h = absurd (false≢true h)
-no-ones (false ∷ e) h = ap (λ (r : Bits). false ∷ r) (no-ones e h)
+noOnes e = sameBits e (zeros (length e))
 
 -- all ones within 16 adjacent places
 abbrev within16 : Bits → Bool
@@ -115,7 +94,7 @@ within-burst (true ∷ e) h =
       ones = true ∷ take 15 e;
       behind = length (drop 15 e);
       short = omega (arith, length-take 15 e);
-      parts = ap (λ (r : Bits). true ∷ r) (sym (take-append-drop 15 e) ∙ ap (λ (r : Bits). take 15 e ++ r) (no-ones (drop 15 e) h));
+      parts = ap (λ (r : Bits). true ∷ r) (sym (take-append-drop 15 e) ∙ ap (λ (r : Bits). take 15 e ++ r) (same-bits (drop 15 e) _ h));
     }
 within-burst (false ∷ e) h =
     let b = within-burst e h in
@@ -155,7 +134,7 @@ sentMeets k content x =
 abbrev heardMeets : Heard → Bool
 heardMeets y =
     begins (y .lent) (y .left)
-    && (sameBytes (y .store) (y .kept)
+    && (same eqb (y .store) (y .kept)
     && (implies (isSyncEvent (eventOf y)) (not (isItem (y .block)) && eqb (y .used) (length (y .left)))
     && (isItem (y .block) || not (meaning (y .rule) .data-or-end))))
 
@@ -205,7 +184,7 @@ heard-meets k content y h =
     record {
       line = begins-with (y .lent) (y .left) (a .0);
       order = tt;
-      store = same-bytes (y .store) (y .kept) (b .0);
+      store = same-list eqb eqb-true (y .store) (y .kept) (b .0);
       damage = tt;
       not-whole = tt;
       sync-at-last = λ e. at-last (and-true _ _ (sync-event (eventOf y) _ (c .0) e));
@@ -240,9 +219,10 @@ all-map : {P Q : Entry → Type 0} → ((e : Entry) → P e → Q e) → (es : L
 all-map f [] h = tt
 all-map f (e ∷ es) h = (f e (h .0), all-map f es (h .1))
 
-pub meets : {k : ℕ} {content : Bits} {es : List Entry} → eachMeets k content es ≡ true → spaced false es ≡ true → Assumptions k content es
-meets {k} {content} {es} h s =
-    let m = all-met k content es h in
+pub meets : {k : ℕ} {content : Bits} {es : List Entry} → eachMeets k content es && spaced false es ≡ true → Assumptions k content es
+meets {k} {content} {es} h =
+    let a = and-true _ _ h in
+    let m = all-met k content es (a .0) in
     record {
       line = all-map (λ e c. c .line) es m;
       order = all-map (λ e c. c .order) es m;
@@ -251,10 +231,12 @@ meets {k} {content} {es} h s =
       not-whole = all-map (λ e c. c .not-whole) es m;
       sync-at-last = all-map (λ e c. c .sync-at-last) es m;
       sync-not-data = all-map (λ e c. c .sync-not-data) es m;
-      between-losses = spaced-between es s;
+      between-losses = spaced-between es (a .1);
     }
 
 -- where losses are not spaced, that clause alone is broken
-pub breaks : (k : ℕ) (content : Bits) (es : List Entry) → eachMeets k content es ≡ true → spaced false es ≡ false
+pub breaks : (k : ℕ) (content : Bits) (es : List Entry) → eachMeets k content es && not (spaced false es) ≡ true
     → All (Met k content) es × (BetweenLosses es → ⊥)
-breaks k content es h s = (all-met k content es h, λ b. true≢false (sym (between-spaced es b) ∙ s))
+breaks k content es h =
+    let a = and-true _ _ h in
+    (all-met k content es (a .0), λ b. false≢true (sym (ap not (between-spaced es b)) ∙ a .1))

@@ -66,7 +66,7 @@ moved-computed = refl
 -- that clause alone is broken
 pub moved-breaks : All (Met 240 content) (course w₀ (allCalls moved)) × (BetweenLosses (course w₀ (allCalls moved)) → ⊥)
 unfolding trace
-moved-breaks = breaks 240 content (course w₀ (allCalls moved)) refl refl
+moved-breaks = breaks 240 content (course w₀ (allCalls moved)) refl
 
 pub moved-stored : final w₀ (allCalls moved) .store ≡ wrong
 unfolding trace

@@ -4,7 +4,7 @@ use mathlib.Core.Bool.{Bool, true, false, not}
 use mathlib.Core.List.{List, [], _∷_, map, flatMap}
 use Prim.Native.Nat.{ℕ}
 use lib.ListN.{replicate}
-use Rattle.crc.specs.Bits.{Bits, binary, number, bitsOf, bytesOf, xorBits, parity}
+use Rattle.crc.specs.Bits.{Bits, binary, number, bitsOf, bytesOf, xorBits, parity, zeros}
 use Rattle.crc.specs.Check.{remainder, passes, check}
 use Rattle.block.specs.Answer.{Answer}
 use Rattle.block.specs.Lengths.{isLength}
@@ -94,3 +94,7 @@ period order store store′ reading arrives b back as-sent event s r =
 abbrev pub damaged : Bits → Bits
 damaged [] = []
 damaged (b ∷ bs) = not b ∷ bs
+
+-- a block of these service bits whose data are zeros
+abbrev pub zeroBlock : ℕ → Bits
+zeroBlock service = blockBits (binary 4 service) (zeros 240)

@@ -4,29 +4,25 @@ use mathlib.Core.Bool.{true, false}
 use mathlib.Core.List.{List, [], _∷_, _++_}
 use Prim.Native.Nat.{ℕ}
 use lib.ListN.{take, drop, replicate}
-use Rattle.crc.specs.Bits.{Bits, binary, number, bitsOf, bytesOf, zeros}
-use Rattle.crc.specs.Check.{remainder, passes, check}
+use Rattle.crc.specs.Bits.{Bits, bytesOf}
 use Rattle.block.specs.Answer.{done}
-use Rattle.block.specs.Lengths.{isLength}
-use Rattle.block.specs.Block.{blockBits, verdict, syncBlock}
-use Rattle.line.specs.Order.{letter, letterA, letterB, isLetter}
-use Rattle.line.specs.Receiving.{freshReceiver, zeroArray, sequence-found, accepts, place, serviceRule, looksSync, judge, blank, inStep, reception, receiverInRange, receive, storeAt}
+use Rattle.block.specs.Block.{syncBlock}
+use Rattle.line.specs.Order.{letterA, letterB}
+use Rattle.line.specs.Receiving.{sequence-found, accepts, blank}
 use Rattle.line.specs.Pieces.{Piece, call, Pieces}
 use Rattle.line.specs.declared.receiver.Receiver.{Receiver}
 use Rattle.line.specs.declared.receiving.Phase.the-variants as P
 use Rattle.line.proofs.Delivery.WrittenBits.{length-zeroArray}
 use Rattle.line.proofs.Pieces.{pieces}
-
-abbrev block : ℕ → Bits
-block service = blockBits (binary 4 service) (zeros 240)
+use Rattle.witness.proofs.PeriodRows.{received, receiver, well, zeroBlock}
 
 -- ---- in search: the end of a data block and 20 bits of the synchronising block behind it, then the rest of that
 
 abbrev searches : Receiver
-searches = blank (freshReceiver 240) 0 true 2 false P.Search
+searches = receiver 0 true 2 false P.Search
 
 abbrev earlier : Bits
-earlier = drop 200 (block letterB) ++ take 20 (syncBlock 240)
+earlier = drop 200 (zeroBlock letterB) ++ take 20 (syncBlock 240)
 
 abbrev all : Piece
 all = record { line = bytesOf 40 (earlier ++ drop 20 (syncBlock 240)); count = 320 }
@@ -34,7 +30,7 @@ all = record { line = bytesOf 40 (earlier ++ drop 20 (syncBlock 240)); count = 3
 -- found at the last bit
 pub search-split : call searches [] all
     ≡ record { answer = done (record { rule = sequence-found; row = []; used = 320; state = blank searches 0 false 2 false P.InStep }); store = [] }
-unfolding Pieces receive receiverInRange reception blockBits syncBlock check remainder number binary bitsOf bytesOf zeroArray freshReceiver isLength
+unfolding Pieces received
 search-split =
     pieces searches [] all (record { line = bytesOf 10 earlier; count = 80 })
     (record { line = bytesOf 30 (drop 20 (syncBlock 240)); count = 240 } ∷ [])
@@ -43,25 +39,25 @@ search-split =
 -- ---- in step: 100 bits of a data block, its other 160, and 40 bits of the block behind it, which are not looked at
 
 abbrev stepping : Receiver
-stepping = blank (freshReceiver 240) 0 false 0 false P.InStep
+stepping = well 0 false
 
 abbrev first : Piece
-first = record { line = bytesOf 13 (take 100 (block letterA)); count = 100 }
+first = record { line = bytesOf 13 (take 100 (zeroBlock letterA)); count = 100 }
 
 abbrev further : List Piece
 further =
-    record { line = bytesOf 20 (drop 100 (block letterA)); count = 160 }
-    ∷ record { line = bytesOf 5 (take 40 (block letterB)); count = 40 }
+    record { line = bytesOf 20 (drop 100 (zeroBlock letterA)); count = 160 }
+    ∷ record { line = bytesOf 5 (take 40 (zeroBlock letterB)); count = 40 }
     ∷ []
 
 abbrev joint : Piece
-joint = record { line = bytesOf 38 (block letterA ++ take 40 (block letterB)); count = 300 }
+joint = record { line = bytesOf 38 (zeroBlock letterA ++ take 40 (zeroBlock letterB)); count = 300 }
 
 -- accepted and stored at the block's last bit
 pub step-split : call stepping (replicate 30 255) joint
     ≡ record {
-      answer = done (record { rule = accepts; row = block letterA; used = 260; state = blank stepping 0 false 1 false P.InStep });
+      answer = done (record { rule = accepts; row = zeroBlock letterA; used = 260; state = blank stepping 0 false 1 false P.InStep });
       store = replicate 30 0;
     }
-unfolding Pieces receive receiverInRange reception inStep judge looksSync verdict passes remainder check blockBits serviceRule place letter isLetter number binary bitsOf bytesOf zeroArray freshReceiver isLength storeAt
+unfolding Pieces received
 step-split = pieces stepping (replicate 30 255) joint first further length-zeroArray refl refl refl

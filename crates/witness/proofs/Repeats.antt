@@ -43,7 +43,7 @@ repeats-computed = refl
 
 pub repeats-meets : Assumptions 240 content (course w₀ (allCalls repeats))
 unfolding trace
-repeats-meets = meets refl refl
+repeats-meets = meets refl
 
 -- Eight bad blocks in a row start a search. It passes a damaged synchronising block, item 1 and a cancelled block, and
 -- finds the next synchronising block.
@@ -70,4 +70,4 @@ searches-computed = refl
 
 pub searches-meets : Assumptions 240 content (course w₀ (allCalls searches))
 unfolding trace
-searches-meets = meets refl refl
+searches-meets = meets refl

@@ -25,40 +25,35 @@ pub opens : openSender 240 200 0 8 order ≡ done fresh
 unfolding openSender loopTime isLength isSpeed hasEntry longestLoop blockTime
 opens = refl
 
--- the state after n calls on the same reading, and what the next call sends
-abbrev after : ℕ → Bool → Sender → Sender
+-- the state after n calls on the same reading
+unfoldable pub after : ℕ → Bool → Sender → Sender
+unfolding send senderInRange isLength validLength itemCount freshSender transmit
 after zero reading s = s
 after (suc n) reading s = after n reading (sendState s reading (send s order reading slice))
 
-abbrev next : ℕ → Bool → Answer Block
-next n reading = send (after n reading fresh) order reading slice
+-- what n calls on readings of 0 answer
+abbrev answers : ℕ → Sender → List (Answer Block)
+answers zero s = []
+answers (suc n) s =
+    let a = send s order false slice in
+    a ∷ answers n (sendState s false a)
 
 -- on readings of 0: a synchronising block, item 0 and the two end blocks
-pub sync-first : next 0 false ≡ done synchronising
-unfolding send senderInRange isLength validLength itemCount freshSender transmit
-sync-first = refl
-
-pub item-second : next 1 false ≡ done (item 0 false false false)
-unfolding send senderInRange isLength validLength itemCount freshSender transmit
-item-second = refl
-
-pub end-third : next 2 false ≡ done (item 1 true true false)
-unfolding send senderInRange isLength validLength itemCount freshSender transmit
-end-third = refl
-
-pub end-fourth : next 3 false ≡ done (item 2 true true false)
-unfolding send senderInRange isLength validLength itemCount freshSender transmit
-end-fourth = refl
+pub sends-all :
+    answers 4 fresh
+    ≡ done synchronising ∷ done (item 0 false false false) ∷ done (item 1 true true false) ∷ done (item 2 true true false) ∷ []
+unfolding after
+sends-all = refl
 
 pub finishes : after 4 false fresh .finished ≡ true
-unfolding send senderInRange isLength validLength itemCount freshSender transmit
+unfolding after
 finishes = refl
 
 -- on readings of 1: the opening lasts, and each third call is a cancel
 pub gives-up : gaveUp (after 192 true fresh) ≡ true
-unfolding send senderInRange isLength validLength itemCount freshSender transmit
+unfolding after
 gives-up = refl
 
 pub not-before : gaveUp (after 191 true fresh) ≡ false
-unfolding send senderInRange isLength validLength itemCount freshSender transmit
+unfolding after
 not-before = refl
