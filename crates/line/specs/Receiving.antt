@@ -188,15 +188,15 @@ blank s bad-row back taken ended phase =
       phase = phase;
     }
 
--- in step with return 0, the row cleared
+-- in step with return 0, the bad row cleared
 abbrev pub afterGood : Receiver → ℕ → Bool → Receiver
 afterGood s taken ended = blank s 0 false taken ended P.InStep
 
--- the eighth bad in a row starts a search, and a search's start clears the row
+-- the eighth bad in a row starts a search, and a search's start clears the bad row
 abbrev pub lastBad : ℕ
 lastBad = 8
 
--- after a bad block with return 1: in search, or in step with one more in the row
+-- after a bad block with return 1: in search, or in step with one more in the bad row
 abbrev pub afterBad : Receiver → Bool → Receiver
 afterBad s search =
     cond search (blank s 0 true (s .taken) (s .ended) P.Search)
@@ -290,7 +290,7 @@ inStep s new =
     (record { rule = unfinished; row = []; used = length new; state = holding s new })
     (stops s (judge (s .setup .k) (s .taken) (s .ended) (finishedRow s new)) (finishedRow s new) (missing s))
 
--- A standing alarm: return 1, the row cleared, all bits used.
+-- A standing alarm: return 1, the bad row cleared, all bits used.
 abbrev pub underAlarm : Receiver → Receiver
 underAlarm s =
     record {

@@ -139,7 +139,7 @@ impl Head {
         next.after(array, event, used)
     }
 
-    // With return 1, the row cleared: an alarm, or a search's start.
+    // With return 1, the bad row cleared: an alarm, or a search's start.
     fn return_one(self, array: &mut [u8], phase: Phase, event: Event, used: usize) -> HeadStep
         requires { ⌜ length (now array) ≡ arrayBytes ⌝ }
         ensures { λ r. ⌜ stepWith r (now (array .exit)) ≡ stepped (S.alarmed (withArray self (now (array .entry))) phase) event used ⌝ }

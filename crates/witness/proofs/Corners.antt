@@ -16,7 +16,7 @@ use Rattle.line.specs.declared.receiving.Phase.the-variants as P
 use Rattle.line.specs.declared.receiving.Event.the-variants as E
 use Rattle.line.proofs.Delivery.WrittenBits.{length-zeroArray}
 use Rattle.line.proofs.Delivery.BitByBit.{bitByBit, Waiting, bit-by-bit}
-use Rattle.witness.proofs.PeriodRows.{received, receiver, well, bad, damaged, zeroBlock}
+use Rattle.witness.proofs.PeriodRows.{received, receiver, good, bad, damaged, zeroBlock}
 
 abbrev endBlock : ℕ → Bits
 endBlock L = blockBits (binary 4 endService) (endPayload 240 L)
@@ -54,53 +54,53 @@ cases =
     ∷ gives (receive (bad 3 2) [] 0 []) (done (idle (bad 3 2)))
     ∷ gives (receive (receiver 3 false 2 false P.SequenceAlarm) [] 0 [])
     (done (record { rule = standing E.SequenceAlarm; row = []; used = 0; state = receiver 3 false 2 false P.SequenceAlarm }))
-    -- a standing alarm takes all bits, sets the return bit and clears the row
+    -- a standing alarm takes all bits, sets the return bit and clears the bad row
     ∷ gives (receive (receiver 3 false 2 false P.LengthAlarm) (0 ∷ []) 5 [])
     (done (record { rule = standing E.LengthAlarm; row = []; used = 5; state = receiver 0 true 2 false P.LengthAlarm }))
     -- a short line slice under a standing alarm
     ∷ gives (receive (receiver 0 true 2 false P.SequenceAlarm) (0 ∷ []) 9 []) (refused A.short)
     -- a search call of more than 16 bits; the bits behind the sequence are not used
-    ∷ finds (receiver 5 true 2 false P.Search) (zeros 8 ++ (syncSequence ++ zeros 4)) 24 (well 2 false)
+    ∷ finds (receiver 5 true 2 false P.Search) (zeros 8 ++ (syncSequence ++ zeros 4)) 24 (good 2 false)
     -- 15 bits held, then one: the window slides on
-    ∷ finds (searching (receiver 0 true 0 false P.Search) (take 15 syncSequence)) (drop 15 syncSequence) 1 (well 0 false)
+    ∷ finds (searching (receiver 0 true 0 false P.Search) (take 15 syncSequence)) (drop 15 syncSequence) 1 (good 0 false)
     ∷ findsNone (searching (receiver 0 true 0 false P.Search) (zeros 15)) (true ∷ []) (zeros 14 ++ (true ∷ []))
     -- the sequence's first bits were received before the search began
     ∷ findsNone (receiver 0 true 0 false P.Search) (drop 1 syncSequence) (drop 1 syncSequence)
     -- a search that begins in mid-list passes whole blocks, keeps r, and then rule 4 holds
     ∷ findsNone (receiver 0 true 2 false P.Search) (zeroBlock letterB) (drop 245 (zeroBlock letterB))
-    ∷ finds (searching (receiver 0 true 2 false P.Search) (drop 245 (zeroBlock letterB))) (syncBlock 240) 260 (well 2 false)
-    ∷ reads (well 2 false) (zeroBlock letterB) previous (well 2 false)
+    ∷ finds (searching (receiver 0 true 2 false P.Search) (drop 245 (zeroBlock letterB))) (syncBlock 240) 260 (good 2 false)
+    ∷ reads (good 2 false) (zeroBlock letterB) previous (good 2 false)
     -- the eighth bad is a synchronising block: a search begins behind it, and does not see its sequence
     ∷ reads (bad 7 2) (damaged (syncBlock 240)) check-fails (receiver 0 true 2 false P.Search)
     ∷ reads (bad 6 2) (damaged (syncBlock 240)) check-fails (bad 7 2)
-    ∷ reads (bad 7 2) (syncBlock 240) sync-block (well 2 false)
+    ∷ reads (bad 7 2) (syncBlock 240) sync-block (good 2 false)
     -- rule 7 goes back to search with r at 0, where the letter C is of no item; rule 2 does not
     ∷ reads (bad 2 0) (zeroBlock 0b1111) anything-else (receiver 0 true 0 false P.Search)
-    ∷ reads (well 0 false) (zeroBlock letterC) anything-else (receiver 0 true 0 false P.Search)
+    ∷ reads (good 0 false) (zeroBlock letterC) anything-else (receiver 0 true 0 false P.Search)
     ∷ reads (bad 2 1) (zeroBlock 0b1111) anything-else (bad 3 1)
     ∷ reads (bad 7 1) (zeroBlock 0b1111) anything-else (receiver 0 true 1 false P.Search)
     ∷ reads (bad 2 0) (damaged (zeroBlock letterA)) check-fails (bad 3 0)
-    ∷ reads (well 0 false) (zeroBlock letterB) out-of-sequence (receiver 0 true 0 false P.SequenceAlarm)
-    ∷ reads (well 0 false) (endBlock 240) wrong-length (receiver 0 true 0 false P.LengthAlarm)
+    ∷ reads (good 0 false) (zeroBlock letterB) out-of-sequence (receiver 0 true 0 false P.SequenceAlarm)
+    ∷ reads (good 0 false) (endBlock 240) wrong-length (receiver 0 true 0 false P.LengthAlarm)
     -- r at 1,093: no further item; the letters of items 1,092 and 1,094 as ever
-    ∷ reads (well 1093 false) (zeroBlock letterB) anything-else (bad 1 1093)
-    ∷ reads (well 1093 false) (zeroBlock letterA) previous (well 1093 false)
-    ∷ reads (well 1093 false) (zeroBlock letterC) out-of-sequence (receiver 0 true 1093 false P.SequenceAlarm)
-    ∷ reads (well 1093 false) (endBlock 262144) (ends 262144) (well 1093 true)
+    ∷ reads (good 1093 false) (zeroBlock letterB) anything-else (bad 1 1093)
+    ∷ reads (good 1093 false) (zeroBlock letterA) previous (good 1093 false)
+    ∷ reads (good 1093 false) (zeroBlock letterC) out-of-sequence (receiver 0 true 1093 false P.SequenceAlarm)
+    ∷ reads (good 1093 false) (endBlock 262144) (ends 262144) (good 1093 true)
     -- an end block: its L makes r items or another number; its version and L are within range or not
-    ∷ reads (well 2 false) (endBlock 241) (ends 241) (well 2 true)
-    ∷ reads (well 2 false) (endBlock 240) wrong-length (receiver 0 true 2 false P.LengthAlarm)
-    ∷ reads (well 1093 false) (endBlock 262145) wrong-length (receiver 0 true 1093 false P.LengthAlarm)
-    ∷ reads (well 1 false) (zeroBlock endService) wrong-length (receiver 0 true 1 false P.LengthAlarm)
+    ∷ reads (good 2 false) (endBlock 241) (ends 241) (good 2 true)
+    ∷ reads (good 2 false) (endBlock 240) wrong-length (receiver 0 true 2 false P.LengthAlarm)
+    ∷ reads (good 1093 false) (endBlock 262145) wrong-length (receiver 0 true 1093 false P.LengthAlarm)
+    ∷ reads (good 1 false) (zeroBlock endService) wrong-length (receiver 0 true 1 false P.LengthAlarm)
     -- after the end: an end block again, and any letter
-    ∷ reads (well 2 true) (endBlock 240) ends-again (well 2 true)
-    ∷ reads (well 2 true) (zeroBlock letterC) out-of-sequence (receiver 0 true 2 true P.SequenceAlarm)
-    ∷ reads (well 2 true) (zeroBlock letterB) out-of-sequence (receiver 0 true 2 true P.SequenceAlarm)
+    ∷ reads (good 2 true) (endBlock 240) ends-again (good 2 true)
+    ∷ reads (good 2 true) (zeroBlock letterC) out-of-sequence (receiver 0 true 2 true P.SequenceAlarm)
+    ∷ reads (good 2 true) (zeroBlock letterB) out-of-sequence (receiver 0 true 2 true P.SequenceAlarm)
     -- the store is judged only where a block would be accepted, and then none of the bits is used
-    ∷ gives (receive (well 0 false) (bytesOf 33 (zeroBlock letterA)) 260 (replicate 29 0)) (refused A.short)
-    ∷ reads (well 0 false) (zeroBlock letterA) accepts (well 1 false)
-    ∷ gives (receive (well 1 false) (bytesOf 33 (zeroBlock letterA)) 260 [])
-    (done (record { rule = previous; row = zeroBlock letterA; used = 260; state = well 1 false }))
+    ∷ gives (receive (good 0 false) (bytesOf 33 (zeroBlock letterA)) 260 (replicate 29 0)) (refused A.short)
+    ∷ reads (good 0 false) (zeroBlock letterA) accepts (good 1 false)
+    ∷ gives (receive (good 1 false) (bytesOf 33 (zeroBlock letterA)) 260 [])
+    (done (record { rule = previous; row = zeroBlock letterA; used = 260; state = good 1 false }))
     ∷ []
 
 pub corners : map (λ c. c .call) cases ≡ map (λ c. c .answer) cases
@@ -124,6 +124,6 @@ waiting =
     }
 
 pub one-bit-calls : bitByBit (bad 2 0) (replicate 30 0) (false ∷ tail) (refused 0)
-    ≡ done (record { rule = accepts; row = zeroBlock letterA; used = 1; state = well 1 false })
+    ≡ done (record { rule = accepts; row = zeroBlock letterA; used = 1; state = good 1 false })
 unfolding received
 one-bit-calls = bit-by-bit (bad 2 0) (replicate 30 0) false tail (refused 0) waiting

@@ -22,7 +22,7 @@ use Rattle.line.specs.declared.receiver.Opening.the-variants as Opening
 use Rattle.line.proofs.Delivery.Answers.{runs}
 use Rattle.line.proofs.Delivery.Theorem.{delivery}
 use Rattle.witness.proofs.Meets.{meets}
-use Rattle.witness.proofs.PeriodRows.{refuses, Row, allCalls, trace, sender, well, between, period}
+use Rattle.witness.proofs.PeriodRows.{refuses, Row, allCalls, trace, sender, good, between, period}
 
 abbrev order : List ℕ
 order = 0xa5 ∷ []
@@ -45,17 +45,17 @@ w₀ = opened (freshSender 240 8) (freshReceiver 240) initialStore
 
 abbrev rows : List Row
 rows =
-    period order initialStore initialStore true (syncBlock 240) synchronising true true E.Sync (sender 8 1 0 true Older false) (well 0 false)
+    period order initialStore initialStore true (syncBlock 240) synchronising true true E.Sync (sender 8 1 0 true Older false) (good 0 false)
     ∷ period order initialStore stored false (block 0) (item 0 false false false) false true E.Accepted
-    (sender 8 1 0 true Newer false) (well 1 false)
+    (sender 8 1 0 true Newer false) (good 1 false)
     ∷ period order stored stored false (block 1) (item 1 true true false) false true (E.Ended 8)
-    (sender 8 2 0 false Newer false) (well 1 true)
+    (sender 8 2 0 false Newer false) (good 1 true)
     ∷ period order stored stored false (block 2) (item 2 true true false) false true E.Previous
-    (sender 8 2 0 false Newer true) (well 1 true)
+    (sender 8 2 0 false Newer true) (good 1 true)
     ∷ (record {
       calls = sending order false (replicate 33 0) [] ∷ [];
       outcomes = refuses Refusals.rest ∷ [];
-      world = between (sender 8 2 0 false Newer true) (well 1 true) stored (item 2 true true false);
+      world = between (sender 8 2 0 false Newer true) (good 1 true) stored (item 2 true true false);
     })
     ∷ []
 
@@ -65,7 +65,7 @@ example-computed = refl
 
 pub example : Assumptions 240 content (course w₀ (allCalls rows))
 unfolding trace
-example = meets refl
+example = meets 240 content (course w₀ (allCalls rows)) refl
 
 -- at the end the store has the order with its zero filling, and behind it what it had
 pub example-stored : final w₀ (allCalls rows) .store ≡ stored

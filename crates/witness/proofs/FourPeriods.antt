@@ -11,7 +11,7 @@ use Rattle.line.specs.declared.sender.Next.the-variants.{Sync, Older, Newer}
 use Rattle.line.specs.declared.receiving.Event.the-variants as E
 use Rattle.line.specs.declared.receiving.Phase.the-variants as P
 use Rattle.witness.proofs.Meets.{meets}
-use Rattle.witness.proofs.PeriodRows.{outcome, Row, allCalls, trace, sender, receiver, well, bad, period, damaged}
+use Rattle.witness.proofs.PeriodRows.{outcome, Row, allCalls, trace, sender, receiver, good, bad, period, damaged}
 use Rattle.witness.proofs.TwoItems.{order, content, block, one, two, w₀, synchronised, accepted, cancels, fails, resynchronises, ends}
 
 -- A reading of 1 where 0 was meant, and damage up to a synchronising block, the eighth bad in a row. The five periods
@@ -22,7 +22,7 @@ waits =
     synchronised
     ∷ accepted
     ∷ period order one two false (block 1) (item 1 false true false) false true E.Accepted
-    (sender 480 2 0 false Newer false) (well 2 false)
+    (sender 480 2 0 false Newer false) (good 2 false)
     ∷ cancels two false 1 Older (bad 1 2)
     ∷ fails two 1 (bad 2 2)
     ∷ cancels two true 2 Older (bad 3 2)
@@ -34,7 +34,7 @@ waits =
     (sender 480 2 4 false Older false) (receiver 0 true 2 false P.Search)
     ∷ (resynchronises two 2
     ++ (period order two two false (block 1) (item 1 false false false) false true E.Previous
-    (sender 480 2 5 false Newer false) (well 2 false)
+    (sender 480 2 5 false Newer false) (good 2 false)
     ∷ ends false
     ∷ []))
 
@@ -44,7 +44,7 @@ waits-computed = refl
 
 pub waits-meets : Assumptions 240 content (course w₀ (allCalls waits))
 unfolding trace
-waits-meets = meets refl
+waits-meets = meets 240 content (course w₀ (allCalls waits)) refl
 
 -- what each call did
 pub waits-told : map outcome (course w₀ (allCalls waits)) ≡ flatMap (λ r. r .outcomes) waits

@@ -10,7 +10,7 @@ use Rattle.line.specs.declared.sender.Next.the-variants.{Sync, Older, Newer}
 use Rattle.line.specs.declared.receiving.Event.the-variants as E
 use Rattle.line.specs.declared.receiving.Phase.the-variants as P
 use Rattle.witness.proofs.Meets.{meets}
-use Rattle.witness.proofs.PeriodRows.{Row, allCalls, trace, sender, receiver, well, bad, period, damaged}
+use Rattle.witness.proofs.PeriodRows.{Row, allCalls, trace, sender, receiver, good, bad, period, damaged}
 use Rattle.witness.proofs.TwoItems.{order, content, block, initialStore, one, two, w₀, synchronised, accepted, cancels, fails, ends}
 
 -- Item 0 is damaged and its request lost: item 1 brings the sequence alarm, which stays.
@@ -31,7 +31,7 @@ alarms-computed = refl
 
 pub alarms-meets : Assumptions 240 content (course w₀ (allCalls alarms))
 unfolding trace
-alarms-meets = meets refl
+alarms-meets = meets 240 content (course w₀ (allCalls alarms)) refl
 
 -- A reading of 1 where 0 was meant cancels item 1. Item 0 comes again, damaged, and its request is lost, but item 1 is
 -- good. The same with item 2.
@@ -42,11 +42,11 @@ two-losses =
     ∷ period order one one true (cancelled (block 1)) (item 1 false true true) false true E.Bad
     (sender 480 1 1 true Sync false) (bad 1 1)
     ∷ period order one one true (syncBlock 240) synchronising true true E.Sync
-    (sender 480 1 1 true Older false) (well 1 false)
+    (sender 480 1 1 true Older false) (good 1 false)
     ∷ period order one one false (damaged (block 0)) (item 0 false false false) false false E.Bad
     (sender 480 1 1 true Newer false) (bad 1 1)
     ∷ period order one two false (block 1) (item 1 false true false) true true E.Accepted
-    (sender 480 2 0 false Newer false) (well 2 false)
+    (sender 480 2 0 false Newer false) (good 2 false)
     ∷ cancels two false 1 Older (bad 1 2)
     ∷ fails two 1 (bad 2 2)
     ∷ ends true
@@ -58,4 +58,4 @@ two-losses-computed = refl
 
 pub two-losses-meets : Assumptions 240 content (course w₀ (allCalls two-losses))
 unfolding trace
-two-losses-meets = meets refl
+two-losses-meets = meets 240 content (course w₀ (allCalls two-losses)) refl

@@ -41,14 +41,14 @@ same-list eq f (a ∷ x) (b ∷ y) h =
 abbrev pub sameBits : Bits → Bits → Bool
 sameBits = same Bool·beq
 
+same-bit : (a b : Bool) → Bool·beq a b ≡ true → a ≡ b
+same-bit true true h = refl
+same-bit true false h = absurd (false≢true h)
+same-bit false true h = absurd (false≢true h)
+same-bit false false h = refl
+
 same-bits : (x y : Bits) → sameBits x y ≡ true → x ≡ y
 same-bits = same-list Bool·beq same-bit
-  where
-    same-bit : (a b : Bool) → Bool·beq a b ≡ true → a ≡ b
-    same-bit true true h = refl
-    same-bit true false h = absurd (false≢true h)
-    same-bit false true h = absurd (false≢true h)
-    same-bit false false h = refl
 
 bits-same : (x : Bits) → sameBits x x ≡ true
 bits-same [] = refl
@@ -57,12 +57,17 @@ bits-same (false ∷ x) = bits-same x
 
 -- a row begins with another
 abbrev begins : Bits → Bits → Bool
-begins x y = sameBits x (take (length x) y)
+begins [] y = true
+begins (a ∷ x) [] = false
+begins (a ∷ x) (b ∷ y) = Bool·beq a b && begins x y
 
 begins-with : (x y : Bits) → begins x y ≡ true → (later : Bits) × (y ≡ x ++ later)
-begins-with x y h =
-    let n = length x in
-    (drop n y, sym (take-append-drop n y) ∙ ap (λ (r : Bits). r ++ drop n y) (sym (same-bits x (take n y) h)))
+begins-with [] y h = (y, refl)
+begins-with (a ∷ x) [] h = absurd (false≢true h)
+begins-with (a ∷ x) (b ∷ y) h =
+    let e = and-true (Bool·beq a b) (begins x y) h in
+    let z = begins-with x y (e .1) in
+    (z .0, ap₂ _∷_ (sym (same-bit a b (e .0))) (z .1))
 
 not-item : (b : Block) → isItem b ≡ false → b ≡ synchronising
 not-item synchronising h = refl
@@ -71,7 +76,13 @@ not-item (item i end used cancel) h = absurd (true≢false h)
 -- ---- damage
 
 abbrev noOnes : Bits → Bool
-noOnes e = sameBits e (zeros (length e))
+noOnes [] = true
+noOnes (b ∷ e) = not b && noOnes e
+
+no-ones : (e : Bits) → noOnes e ≡ true → e ≡ zeros (length e)
+no-ones [] h = refl
+no-ones (true ∷ e) h = absurd (false≢true h)
+no-ones (false ∷ e) h = ap (λ (r : Bits). false ∷ r) (no-ones e h)
 
 -- all ones within 16 adjacent places
 abbrev within16 : Bits → Bool
@@ -94,7 +105,7 @@ within-burst (true ∷ e) h =
       ones = true ∷ take 15 e;
       behind = length (drop 15 e);
       short = omega (arith, length-take 15 e);
-      parts = ap (λ (r : Bits). true ∷ r) (sym (take-append-drop 15 e) ∙ ap (λ (r : Bits). take 15 e ++ r) (same-bits (drop 15 e) _ h));
+      parts = ap (λ (r : Bits). true ∷ r) (sym (take-append-drop 15 e) ∙ ap (λ (r : Bits). take 15 e ++ r) (no-ones (drop 15 e) h));
     }
 within-burst (false ∷ e) h =
     let b = within-burst e h in
@@ -138,7 +149,7 @@ heardMeets y =
     && (implies (isSyncEvent (eventOf y)) (not (isItem (y .block)) && eqb (y .used) (length (y .left)))
     && (isItem (y .block) || not (meaning (y .rule) .data-or-end))))
 
-abbrev pub entryMeets : ℕ → Bits → Entry → Bool
+abbrev entryMeets : ℕ → Bits → Entry → Bool
 entryMeets k content e = onSent (onHeard true heardMeets e) (sentMeets k content) e
 
 -- all clauses but the one on losses
@@ -205,7 +216,7 @@ entry-meets k content (heard y) h = heard-meets k content y h
 
 -- ---- the list
 
-abbrev pub eachMeets : ℕ → Bits → List Entry → Bool
+abbrev eachMeets : ℕ → Bits → List Entry → Bool
 eachMeets k content [] = true
 eachMeets k content (e ∷ es) = entryMeets k content e && eachMeets k content es
 
@@ -219,8 +230,8 @@ all-map : {P Q : Entry → Type 0} → ((e : Entry) → P e → Q e) → (es : L
 all-map f [] h = tt
 all-map f (e ∷ es) h = (f e (h .0), all-map f es (h .1))
 
-pub meets : {k : ℕ} {content : Bits} {es : List Entry} → eachMeets k content es && spaced false es ≡ true → Assumptions k content es
-meets {k} {content} {es} h =
+pub meets : (k : ℕ) (content : Bits) (es : List Entry) → eachMeets k content es && spaced false es ≡ true → Assumptions k content es
+meets k content es h =
     let a = and-true _ _ h in
     let m = all-met k content es (a .0) in
     record {

@@ -16,7 +16,7 @@ use Rattle.line.specs.declared.sender.Next.the-variants.{Older, Newer}
 use Rattle.line.specs.declared.receiving.Event.the-variants as E
 use Rattle.line.proofs.Delivery.BetweenLosses.{BetweenLosses}
 use Rattle.witness.proofs.Meets.{Met, breaks}
-use Rattle.witness.proofs.PeriodRows.{Row, allCalls, trace, sender, well, bad, period, damaged}
+use Rattle.witness.proofs.PeriodRows.{Row, allCalls, trace, sender, good, bad, period, damaged}
 
 -- five data items
 abbrev order : List ℕ
@@ -46,17 +46,17 @@ w₀ = opened (freshSender 240 1200) (freshReceiver 240) initialStore
 abbrev pub moved : List Row
 moved =
     period order initialStore initialStore true (syncBlock 240) synchronising true true E.Sync
-    (sender 1200 1 0 true Older false) (well 0 false)
+    (sender 1200 1 0 true Older false) (good 0 false)
     ∷ period order initialStore one false (block 0) (item 0 false false false) false true E.Accepted
-    (sender 1200 1 0 true Newer false) (well 1 false)
+    (sender 1200 1 0 true Newer false) (good 1 false)
     ∷ period order one one false (damaged (block 1)) (item 1 false true false) false false E.Bad
     (sender 1200 2 0 false Newer false) (bad 1 1)
     ∷ period order one one false (damaged (block 2)) (item 2 false true false) true false E.Bad
     (sender 1200 3 0 false Newer false) (bad 2 1)
     ∷ period order one one false (block 3) (item 3 false true false) true true E.Previous
-    (sender 1200 4 0 false Newer false) (well 1 false)
+    (sender 1200 4 0 false Newer false) (good 1 false)
     ∷ period order one wrong false (block 4) (item 4 false true false) false true E.Accepted
-    (sender 1200 5 0 false Newer false) (well 2 false)
+    (sender 1200 5 0 false Newer false) (good 2 false)
     ∷ []
 
 pub moved-computed : trace w₀ moved ≡ moved

@@ -67,11 +67,11 @@ abbrev pub receiver : (bad-row : ℕ) → Bool → (taken : ℕ) → Bool → Ph
 receiver row back taken ended phase = blank (freshReceiver 240) row back taken ended phase
 
 -- in step with return bit 0
-abbrev pub well : (taken : ℕ) → Bool → Receiver
-well taken ended = receiver 0 false taken ended P.InStep
+abbrev pub good : (taken : ℕ) → Bool → Receiver
+good taken ended = receiver 0 false taken ended P.InStep
 
 -- in step behind this many bad blocks in a row
-abbrev pub bad : (row taken : ℕ) → Receiver
+abbrev pub bad : (bad-row taken : ℕ) → Receiver
 bad row taken = receiver row true taken false P.InStep
 
 -- between two periods all bits of the last block are used

@@ -14,7 +14,7 @@ use Rattle.line.specs.declared.receiver.Receiver.{Receiver}
 use Rattle.line.specs.declared.receiving.Phase.the-variants as P
 use Rattle.line.proofs.Delivery.WrittenBits.{length-zeroArray}
 use Rattle.line.proofs.Pieces.{pieces}
-use Rattle.witness.proofs.PeriodRows.{received, receiver, well, zeroBlock}
+use Rattle.witness.proofs.PeriodRows.{received, receiver, good, zeroBlock}
 
 -- ---- in search: the end of a data block and 20 bits of the synchronising block behind it, then the rest of that
 
@@ -39,7 +39,7 @@ search-split =
 -- ---- in step: 100 bits of a data block, its other 160, and 40 bits of the block behind it, which are not looked at
 
 abbrev stepping : Receiver
-stepping = well 0 false
+stepping = good 0 false
 
 abbrev first : Piece
 first = record { line = bytesOf 13 (take 100 (zeroBlock letterA)); count = 100 }

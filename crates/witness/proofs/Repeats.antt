@@ -13,7 +13,7 @@ use Rattle.line.specs.declared.sender.Next.the-variants.{Sync, Older, Newer}
 use Rattle.line.specs.declared.receiving.Event.the-variants as E
 use Rattle.line.specs.declared.receiving.Phase.the-variants as P
 use Rattle.witness.proofs.Meets.{meets}
-use Rattle.witness.proofs.PeriodRows.{Row, allCalls, trace, sender, receiver, well, bad, period, damaged}
+use Rattle.witness.proofs.PeriodRows.{Row, allCalls, trace, sender, receiver, good, bad, period, damaged}
 use Rattle.witness.proofs.TwoItems.{order, content, block, one, two, w₀, synchronised, accepted, cancels, fails, resynchronises, ends}
 
 -- Item 1 is damaged, and the next block is cancelled.
@@ -31,10 +31,10 @@ abbrev pub repeats : List Row
 repeats =
     asks
     ++ (period order one two true (block 1) (item 1 false false false) true true E.Accepted
-    (sender 480 2 1 false Newer false) (well 2 false)
+    (sender 480 2 1 false Newer false) (good 2 false)
     ∷ ends false
     ∷ period order two two false (block 3) (item 3 true true false) false true E.Previous
-    (sender 480 3 0 false Newer true) (well 2 true)
+    (sender 480 3 0 false Newer true) (good 2 true)
     ∷ [])
 
 pub repeats-computed : trace w₀ repeats ≡ repeats
@@ -43,7 +43,7 @@ repeats-computed = refl
 
 pub repeats-meets : Assumptions 240 content (course w₀ (allCalls repeats))
 unfolding trace
-repeats-meets = meets refl
+repeats-meets = meets 240 content (course w₀ (allCalls repeats)) refl
 
 -- Eight bad blocks in a row start a search. It passes a damaged synchronising block, item 1 and a cancelled block, and
 -- finds the next synchronising block.
@@ -60,7 +60,7 @@ searches =
     (sender 480 2 4 false Older false) (searching (receiver 0 true 1 false P.Search) (drop 245 (cancelled (syncBlock 240))))
     ∷ (resynchronises one 1
     ++ (period order one two false (block 1) (item 1 false false false) false true E.Accepted
-    (sender 480 2 5 false Newer false) (well 2 false)
+    (sender 480 2 5 false Newer false) (good 2 false)
     ∷ ends false
     ∷ [])))
 
@@ -70,4 +70,4 @@ searches-computed = refl
 
 pub searches-meets : Assumptions 240 content (course w₀ (allCalls searches))
 unfolding trace
-searches-meets = meets refl
+searches-meets = meets 240 content (course w₀ (allCalls searches)) refl

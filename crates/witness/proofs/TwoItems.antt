@@ -15,7 +15,7 @@ use Rattle.line.specs.declared.sender.Next.the-variants.{Sync, Older, Newer}
 use Rattle.line.specs.declared.receiver.Receiver.{Receiver}
 use Rattle.line.specs.declared.receiving.Event.the-variants as E
 use Rattle.line.specs.declared.receiving.Phase.the-variants as P
-use Rattle.witness.proofs.PeriodRows.{Row, sender, receiver, well, period, damaged}
+use Rattle.witness.proofs.PeriodRows.{Row, sender, receiver, good, period, damaged}
 
 abbrev pub order : List ℕ
 order = replicate 30 1 ++ replicate 30 2
@@ -43,12 +43,12 @@ w₀ = opened (freshSender 240 480) (freshReceiver 240) initialStore
 abbrev pub synchronised : Row
 synchronised =
     period order initialStore initialStore true (syncBlock 240) synchronising true true E.Sync
-    (sender 480 1 0 true Older false) (well 0 false)
+    (sender 480 1 0 true Older false) (good 0 false)
 
 abbrev pub accepted : Row
 accepted =
     period order initialStore one false (block 0) (item 0 false false false) false true E.Accepted
-    (sender 480 1 0 true Newer false) (well 1 false)
+    (sender 480 1 0 true Newer false) (good 1 false)
 
 -- item 2 is cancelled: the store, the return bit then standing, the run, what is next, and the receiver afterwards
 abbrev pub cancels : List ℕ → Bool → ℕ → Next → Receiver → Row
@@ -68,11 +68,11 @@ resynchronises store taken =
     ∷ period order store store true (cancelled (block 2)) (item 2 true true true) true true E.None
     (sender 480 2 5 false Sync false) (searching (receiver 0 true taken false P.Search) (drop 245 (cancelled (block 2))))
     ∷ period order store store true (syncBlock 240) synchronising true true E.Sync
-    (sender 480 2 5 false Older false) (well taken false)
+    (sender 480 2 5 false Older false) (good taken false)
     ∷ []
 
 -- item 2 brings the end: the return bit then standing
 abbrev pub ends : Bool → Row
 ends back =
     period order two two false (block 2) (item 2 true true false) back true (E.Ended 480)
-    (sender 480 3 0 false Newer false) (well 2 true)
+    (sender 480 3 0 false Newer false) (good 2 true)

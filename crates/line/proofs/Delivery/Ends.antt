@@ -79,7 +79,7 @@ pub data Sends (N : ℕ) (s : Ends) (reading : ℕ) (t : Ends) : Next → Next �
       → t .danger ≡ s .danger
       → Sends N s reading t Newer Sync (item i 0)
 
--- in step with return 0, the row cleared: r items taken, the end taken (1) or not (0), in danger or not
+-- in step with return 0, the bad row cleared: r items taken, the end taken (1) or not (0), in danger or not
 pub record InStep (t : Ends) (r end d : ℕ) : Type 0 where
   pub search : t .search ≡ 0
   pub bad-row : t .bad-row ≡ 0

@@ -1,4 +1,4 @@
--- What the receiver's private functions ask and promise: the code's rules, and what is handed back for a reading.
+-- What the receiver's private functions ask and promise: the code's rules, and what is handed back for a reception.
 -- Assumes nothing.
 use mathlib.Core.Path.{_≡_}
 use mathlib.Core.Bool.{true}

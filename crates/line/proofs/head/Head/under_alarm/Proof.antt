@@ -1,4 +1,4 @@
--- `Head::under_alarm` clears the row and asks for a repeat. Assumes nothing.
+-- `Head::under_alarm` clears the bad row and asks for a repeat. Assumes nothing.
 use mathlib.Core.Path.{refl}
 use Rattle.line.proofs.head.Head.under_alarm.Statement.{statement}
 use Rattle.line.proofs.head.Head.under_alarm.Tie as tie
