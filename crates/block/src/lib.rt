@@ -2,7 +2,7 @@
 ghost use mathlib.Core.Path.{_≡_};
 ghost use mathlib.Core.List.{_++_};
 ghost use Prim.Native.Nat.{_+_, _*_, _/_, _≤_, _<_};
-ghost use lib.ListN.{length, take, drop};
+ghost use lib.ListN.{length, take, drop, getD};
 ghost use Rattle.crc.specs.Bits.{binary, bitsOf, bytesOf};
 ghost use Rattle.crc.specs.Check.{remainder};
 ghost use Rattle.block.specs.Answer.{done};
@@ -55,6 +55,13 @@ pub fn too_short(s: &[u8], bits: usize) -> bool
         return false;
     }
     s.len() <= (bits - 1) / 8
+}
+
+// The byte at a place, or 0 behind the last.
+pub fn byte_at(s: &[u8], i: usize) -> u8
+    ensures { λ r. ⌜ r ≡ getD (now (s .entry)) i 0 ⌝ }
+{
+    if i < s.len() { s[i] } else { 0 }
 }
 
 // The first m bytes of to become those of from without its first four bits.

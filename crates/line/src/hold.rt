@@ -2,9 +2,10 @@
 ghost use mathlib.Core.Path.{_≡_};
 ghost use mathlib.Core.List.{_++_};
 ghost use Prim.Native.Nat.{_+_, _*_, _≤_, _<_};
-ghost use lib.ListN.{length, take, drop, getD};
+ghost use lib.ListN.{length, take, drop};
 ghost use Rattle.crc.specs.Bits.{binary, bitsOf, bytesOf};
 ghost use Rattle.line.specs.Receiving.{arrayBytes, overwrite};
+use block::byte_at;
 
 // The first n bits of a byte, as the last n of a byte.
 fn first_bits(x: u8, n: usize) -> u8
@@ -28,13 +29,6 @@ fn merge(new: u8, n: usize, old: u8) -> u8
     ensures { λ r. ⌜ binary 8 r ≡ take n (binary 8 new) ++ drop n (binary 8 old) ⌝ }
 {
     new & !(255 >> n) | old & (255 >> n)
-}
-
-// The byte at a place, or 0 behind the last.
-pub fn byte_at(s: &[u8], i: usize) -> u8
-    ensures { λ r. ⌜ r ≡ getD (now (s .entry)) i 0 ⌝ }
-{
-    if i < s.len() { s[i] } else { 0 }
 }
 
 // The first count bits of the line become the array's from place held on; no other bit of the array changes.

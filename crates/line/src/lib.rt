@@ -1,6 +1,6 @@
 // The order line's two ends: loop times, the order as items, the sending end and the receiving end.
 pub mod head;
-pub mod hold;
+mod hold;
 pub mod loop_time;
 mod order;
 pub mod receiver;
