@@ -16,14 +16,14 @@ use Rattle.line.proofs.Pieces.Calls.{Full, outcome, rowAnswer, receive-
 
 pub pieces : Pieces
 unfolding Pieces
-pieces s store whole first further array enough counts bits =
+pieces s store whole first further array held counts bits =
     ap (outcome s store) (receive-row s store whole full ∙ ap (rowAnswer s store) bits)
     ∙ next-calls s store array further (lent first) (parts .1)
     ∙ ap (λ (y : Outcome). nextCalls y further) (ap (outcome s store) (sym (receive-row s store first (parts .0))))
   where
     full : Full whole
     full =
-        let n = ltb-false (8 * length (whole .line)) (whole .count) enough in
+        let n = ltb-false (8 * length (whole .line)) (whole .count) held in
         omega (arith, length-take (whole .count) (bitsOf (whole .line)), length-bitsOf (whole .line))
 
     parts : Full first × (length (joined further) ≡ total further)

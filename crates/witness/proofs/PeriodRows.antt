@@ -62,9 +62,9 @@ abbrev pub sender : (L newer run : ℕ) → Bool → Next → Bool → Sender
 sender L newer run opening next finished =
     record { setup = record { k = 240; length = L }; newer = newer; run = run; opening = opening; next = next; finished = finished }
 
--- a receiver with nothing held: the row, the return bit, the items taken, whether the end is, and what it is doing
+-- a receiver with nothing held: the bad row, the return bit, the items taken, whether the end is, and what it is doing
 abbrev pub receiver : (bad-row : ℕ) → Bool → (taken : ℕ) → Bool → Phase → Receiver
-receiver row back taken ended phase = blank (freshReceiver 240) row back taken ended phase
+receiver bad-row back taken ended phase = blank (freshReceiver 240) bad-row back taken ended phase
 
 -- in step with return bit 0
 abbrev pub good : (taken : ℕ) → Bool → Receiver
@@ -72,7 +72,7 @@ good taken ended = receiver 0 false taken ended P.InStep
 
 -- in step behind this many bad blocks in a row
 abbrev pub bad : (bad-row taken : ℕ) → Receiver
-bad row taken = receiver row true taken false P.InStep
+bad bad-row taken = receiver bad-row true taken false P.InStep
 
 -- between two periods all bits of the last block are used
 abbrev pub between : Sender → Receiver → List ℕ → Block → World

@@ -19,7 +19,7 @@ pub record Ready (s : Sender) : Type 0 where
 -- such a state, with the order lent whole and room for the block
 pub record Lent (s : Sender) (order slice : List ℕ) : Type 0 where
   pub ready : Ready s
-  pub whole : s .setup .length ≤ 8 * length order
+  pub order-lent : s .setup .length ≤ 8 * length order
   pub room : blockLength (s .setup .k) ≤ 8 * length slice
 
 -- the block that is next goes out

@@ -101,7 +101,7 @@ prepared c =
     let g = l .before .before .before in
     record {
       ready = ready (start c .args .self) (start c .args .order .now) (start c .args .reading) (start c .args .block .now) (ranged (g .before .before)) (going g);
-      whole = ltb-false _ _ (lent l);
+      order-lent = ltb-false _ _ (lent l);
       room = ltb-false _ _ (room c);
     }
 

@@ -20,7 +20,7 @@ write-item-requires : tie.Need-write-item-requires
 write-item-requires c κs =
     let start = c .before .before .before .before in
     let r = in-range (start .args .self) (start .pre .ready .range) in
-    (r .known, r .valid, start .pre .whole, start .pre .room)
+    (r .known, r .valid, start .pre .order-lent, start .pre .room)
 
 cancel-block-requires : tie.Need-cancel-block-requires
 cancel-block-requires c κs = search needs
@@ -49,7 +49,7 @@ returns c =
     let content : Bits = orderBits L (a .order .now) in
     let row : Bits = itemBits k L content (s .newer) in
     let n : length row ≡ blockLength k =
-    length-itemBits k L content (r .known) (length-orderBits L (a .order .now) (start .pre .whole)) (s .newer)
+    length-itemBits k L content (r .known) (length-orderBits L (a .order .now) (start .pre .order-lent)) (s .newer)
     in
     let room : blockLength k ≤ 8 * length (w .write-item .last .1 .1 .1 .1 .0) = rw (w .write-item .kept .1 .1 .1 .1 .0) (start .pre .room) in
     rw (t .if1 .taken)

@@ -17,7 +17,7 @@ write-item-requires : tie.Need-write-item-requires
 write-item-requires c κs =
     let start = c .before .before .before .before .before in
     let r = in-range (start .args .self) (start .pre .ready .range) in
-    (r .known, r .valid, start .pre .whole, start .pre .room)
+    (r .known, r .valid, start .pre .order-lent, start .pre .room)
 
 item-requires : tie.Need-item-requires
 item-requires c κs = search needs
