@@ -241,7 +241,7 @@ module _ (o : Session) (fit : Fit o) (w : World) (l d : ℕ) (copy : Bits) (f : 
           };
         }
 
--- ---- any reading of a call while a block is on the line
+-- ---- any reception of a call while a block is on the line
 
 -- where what is supposed of its entry holds, the call does what it should
 abbrev pub ReceptionKept : (o : Session) (w : World) (l d : ℕ) (copy : Bits) (f : LineBlock) (lent : Bits) (store : List ℕ)
