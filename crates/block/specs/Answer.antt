@@ -10,8 +10,8 @@ pub data Answer (A : Type 0) : Type 0 where
 abbrev pub refuseIf : {A : Type 0} → Bool → ℕ → Answer A → Answer A
 refuseIf test n next = cond test (refused n) next
 
--- The numbers that the block's calls refuse by: document 01, "What the ends turn away", by its words. A crate above has
--- its own.
+-- The numbers that the block's calls refuse by: docs/PROTOCOL.md, "What the ends turn away", by its words. A crate above
+-- has its own.
 abbrev pub block : ℕ
 block = 1
 

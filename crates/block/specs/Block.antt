@@ -1,4 +1,4 @@
--- The block as a row of bits. Assumes nothing.
+-- The block as a row of bits: docs/PROTOCOL.md, "The block". Assumes nothing.
 use mathlib.Core.Bool.{true, false, cond, not}
 use mathlib.Core.List.{[], _∷_, _++_}
 use Prim.Native.Nat.{ℕ, zero, suc, _/_}

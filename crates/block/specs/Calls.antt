@@ -15,7 +15,7 @@ use Rattle.block.specs.declared.Built.the-variants as B
 use Rattle.block.specs.declared.Read.{Read}
 use Rattle.block.specs.declared.Read.the-variants as R
 
--- ---- the answers: document 01's number and values for each case
+-- ---- the answers: a refusal's number, or the values, for each case
 
 abbrev pub builtAnswer : Built → Answer (Unit {0})
 builtAnswer B.Done = done tt

@@ -1,4 +1,4 @@
--- The registers that divide a row by the generator, and a row's check bits. Assumes nothing.
+-- The registers that divide a row by the generator, and a row's check bits (V.41, section 2). Assumes nothing.
 use mathlib.Core.Bool.{Bool}
 use mathlib.Core.List.{[], _∷_, _++_}
 use Prim.Native.Nat.{ℕ, _+_, _*_, _/_, _^_}

@@ -1,4 +1,4 @@
--- Polynomials over GF(2), V.41's generator, and division by it. Assumes nothing.
+-- Polynomials over GF(2), V.41's generator, and division by it (V.41, section 2). Assumes nothing.
 -- A polynomial is the number whose binary digits are its coefficients: the sum is bitXor, and x times p is p * 2.
 use mathlib.Core.Path.{_≡_}
 use mathlib.Core.List.{[], _∷_}

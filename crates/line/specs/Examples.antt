@@ -1,5 +1,5 @@
--- Document 01's examples that are proved, as one table, and the test that a row passes: over the definitions that the
--- promises cite. Assumes nothing.
+-- The examples of docs/PROTOCOL.md that are proved, as one table, and the test that a row passes: over the definitions that
+-- the promises cite. Assumes nothing.
 use mathlib.Core.Bool.{Bool, true, false, _&&_}
 use mathlib.Core.List.{List, [], _∷_}
 use Prim.Native.Nat.{ℕ}

@@ -1,4 +1,4 @@
--- The refusals' numbers, document 01 in its order, a receiving call in place and in pieces, demand 3, the examples that
+-- The refusals' numbers, docs/PROTOCOL.md in its order, a receiving call in place and in pieces, demand 3, the examples that
 -- are proved, and what the private functions ask and promise.
 pub mod Refusals
 pub mod LoopTime

@@ -1,4 +1,5 @@
--- Loop times: the longest loop for a block length and a speed, and the loop-time test. Assumes nothing.
+-- Loop times: the longest loop for a block length and a speed, and the loop-time test. docs/PROTOCOL.md, "Loop time". Assumes
+-- nothing.
 use mathlib.Core.Path.{_≡_}
 use mathlib.Core.Bool.{Bool, not, _||_}
 use mathlib.Core.List.{List, [], _∷_}

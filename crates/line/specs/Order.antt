@@ -1,4 +1,4 @@
--- The order as items. Assumes nothing.
+-- The order as items: docs/PROTOCOL.md, section of this name. Assumes nothing.
 use mathlib.Core.Bool.{Bool, cond, _&&_, _||_}
 use mathlib.Core.List.{List, _++_}
 use Prim.Native.Nat.{ℕ, zero, suc, _+_, _-_, _*_, _/_, _%_}

@@ -1,4 +1,5 @@
--- The receiving end: opening a receiver and a receiving call, with their promises. Assumes nothing.
+-- The receiving end: opening a receiver and a receiving call, with their promises. docs/PROTOCOL.md, "Receiving", whose rules
+-- have their numbers here. Assumes nothing.
 use mathlib.Core.Path.{_≡_}
 use mathlib.Core.Bool.{Bool, true, false, cond, not, _&&_, _||_}
 use mathlib.Core.List.{List, [], _∷_, _++_}

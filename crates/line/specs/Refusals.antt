@@ -1,4 +1,4 @@
--- The numbers that the two ends refuse by besides the block's: document 01, "What the ends turn away", by its words.
+-- The numbers that the two ends refuse by besides the block's: docs/PROTOCOL.md, "What the ends turn away", by its words.
 -- Assumes nothing.
 use Prim.Native.Nat.{ℕ}
 

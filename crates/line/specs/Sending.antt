@@ -1,4 +1,4 @@
--- The sending end: opening a sender and a sending call, with their promises. Assumes nothing.
+-- The sending end: opening a sender and a sending call, with their promises. docs/PROTOCOL.md, "Sending". Assumes nothing.
 use mathlib.Core.Path.{_≡_}
 use mathlib.Core.Bool.{Bool, true, false, cond, not, _&&_, _||_}
 use mathlib.Core.List.{List}
