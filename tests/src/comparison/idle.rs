@@ -14,6 +14,7 @@ use Office::{Finished, GaveUp, GoingOn};
 use Period::{Damaged, Undisturbed};
 
 const ITEMS: [u8; 2] = [0xA0, 0xA1];
+const SECOND: [u8; 2] = [0xB0, 0xB1];
 const DELIVERED: [&str; 5] = ["sync", "accepted", "accepted", "ended", "previous"];
 
 #[derive(Clone, Copy, Debug, PartialEq, Eq)]
@@ -55,13 +56,14 @@ pub fn compare<S: SendingEnd, R: ReceivingEnd>(
 ) -> Result<Tally, Difference> {
     let calls = Lockstep { sending, receiving };
     let mut tally = Tally::default();
-    let idle_cases: [(&str, IdleCase<S, R>); 6] = [
+    let idle_cases: [(&str, IdleCase<S, R>); 7] = [
         ("search finds nothing", Ends::idle_in_search),
         ("sequence begun before idle", Ends::idle_completes_sequence),
         ("in step before item 0", Ends::idle_before_item_0),
         ("in step in mid-order", Ends::idle_in_mid_order),
         ("in step in mid-block", Ends::idle_in_mid_block),
         ("in step after the end", Ends::idle_after_end),
+        ("opened while idle", Ends::opened_while_idle),
     ];
     let cases: [(&str, Case<S, R>); 2] = [
         ("sequence in the older item", Ends::sequence_in_older),
@@ -106,19 +108,39 @@ impl<S: SendingEnd, R: ReceivingEnd> Ends<'_, S, R> {
         (0..periods).try_for_each(|_| self.period(Undisturbed))
     }
 
-    /// However many idle bits come first, *sync* comes at the synchronising block's last bit.
+    /// However many idle bits come first, the synchronising block leaves the machine as it does
+    /// without them, whether it arrives whole or its last bit is damaged.
     fn idle_in_search(&mut self, idle: Idle) -> Outcome {
-        for count in (0..40).chain([8 * self.n()]) {
-            self.open_machine()?;
-            self.receive_all(idle.bits(0, count))?;
-            self.begin(0)?;
-            self.expect(&[], GoingOn, &[])?;
-            self.period(Undisturbed)?;
-            same(&|| format!("{count} idle bits"), &0, &self.receiver().held)?;
-            self.expect(&["sync"], GoingOn, &[])?;
+        for (period, events) in [(Damaged, &[][..]), (Undisturbed, &["sync"])] {
+            let mut without = None;
+            for count in (0..40).chain([8 * self.n()]) {
+                self.open_machine()?;
+                self.receive_all(idle.bits(0, count))?;
+                self.begin(0)?;
+                self.period(period)?;
+                self.expect(events, GoingOn, &[])?;
+                let without = without.get_or_insert(self.receiver());
+                same(&|| format!("{count} idle bits"), without, &self.receiver())?;
+            }
         }
         self.until_rest()?;
         self.expect(&DELIVERED[1..], Finished, &ITEMS)
+    }
+
+    /// Between two orders the line is idle for two blocks; the machine is opened when it can tell
+    /// steady bits from a session's.
+    fn opened_while_idle(&mut self, idle: Idle) -> Outcome {
+        self.begin(0)?;
+        self.until_rest()?;
+        self.expect(&DELIVERED, Finished, &ITEMS)?;
+        let told = self.n() + 3;
+        self.receive_all(idle.bits(0, told))?;
+        self.expect(&["bad"], Finished, &ITEMS)?;
+        self.open_machine()?;
+        self.receive_all(idle.bits(told, 2 * self.n() - told))?;
+        self.open_office(&SECOND)?;
+        self.until_rest()?;
+        self.expect(&DELIVERED, Finished, &SECOND)
     }
 
     /// A search that began before the last block's end may find the sequence in that block's last
@@ -253,6 +275,7 @@ mod tests {
     use super::super::agreed;
     use super::*;
     use crate::calls::{Reference, TableDriven};
+    use crate::reference::block::{cancel, synchronising_block};
 
     #[test]
     fn each_case_ends_as_it_says() {
@@ -262,5 +285,27 @@ mod tests {
     #[test]
     fn the_table_driven_ends_agree() {
         agreed(compare(&TableDriven, &TableDriven));
+    }
+    /// Every n + 3 bits in a row hold the service bits of a block, which are never all the same.
+    #[test]
+    fn steady_bits_of_a_session_are_fewer_than_a_block_and_three() {
+        for (k, byte) in LENGTHS.into_iter().flat_map(|k| [(k, 0x00), (k, 0xFF)]) {
+            let order = vec![byte; 4 * k / 8];
+            let items = (0..6).map(|item| item_block(k, 4 * k, &order, item));
+            let mut blocks = vec![synchronising_block(k)];
+            for item in items {
+                let mut cancelled = item.clone();
+                cancel(&mut cancelled);
+                blocks.extend([item, cancelled]);
+            }
+            for (first, second) in blocks
+                .iter()
+                .flat_map(|a| blocks.iter().map(move |b| (a, b)))
+            {
+                let bits = [&first[..], second].concat();
+                let longest = bits.chunk_by(|a, b| a == b).map(<[bool]>::len).max();
+                assert!(longest < Some(block_bits(k) + 3), "{longest:?}");
+            }
+        }
     }
 }
