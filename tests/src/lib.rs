@@ -7,10 +7,12 @@ pub mod damage;
 pub mod delivery;
 #[cfg(feature = "fuzz")]
 mod fuzz;
+pub mod give_up;
 pub mod interface;
 #[cfg(feature = "linked")]
 pub mod link;
 pub mod program;
 pub mod reference;
 pub mod rng;
+pub mod suppositions;
 pub mod table;

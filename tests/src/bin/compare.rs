@@ -2,10 +2,11 @@
 //!
 //! `compare` runs every group of calls, `compare block` one of them. `compare program PATH` runs
 //! scripts through the run program at PATH, and `compare blocks FILE` writes blocks that the
-//! library built, for `crc_hqx.py`.
+//! library built, for `crc_hqx.py`. The last line is the verdict in words; a failure is one line
+//! that says what is wrong, and the case where there is one.
 
-use order_line_tests::comparison::{block, both_ends, loop_time, receiver, sender, session};
-use order_line_tests::comparison::{Difference, Tally};
+use order_line_tests::comparison::{block, both_ends, idle, loop_time, receiver, sender};
+use order_line_tests::comparison::{session, two_orders, Difference, Tally};
 use order_line_tests::link::Library;
 use order_line_tests::program::Program;
 use std::process::ExitCode;
@@ -22,7 +23,7 @@ const BLOCKS_WRITTEN: usize = 800;
 /// A group's name and the run of all its cases.
 type Group = (&'static str, fn() -> Result<Tally, Difference>);
 
-const GROUPS: [Group; 5] = [
+const GROUPS: [Group; 7] = [
     ("loop_time", || loop_time::compare(&Library)),
     ("block", || block::compare(&Library, SEED, BLOCK_CASES)),
     ("sender", || {
@@ -34,53 +35,81 @@ const GROUPS: [Group; 5] = [
     ("both_ends", || {
         both_ends::compare(&Library, &Library, SEED, SESSIONS)
     }),
+    ("two_orders", || two_orders::compare(&Library, &Library)),
+    ("idle", || idle::compare(&Library, &Library)),
 ];
+
+const USAGE: &str = "usage: compare [GROUP | program PATH | blocks FILE]";
 
 fn main() -> ExitCode {
     let arguments: Vec<String> = env::args().skip(1).collect();
     let arguments: Vec<&str> = arguments.iter().map(String::as_str).collect();
-    let result = match arguments[..] {
-        [] => run_groups(|_| true),
+    let verdict = match arguments[..] {
+        [] => run_groups(&GROUPS),
         ["program", path] => run_program(path),
         ["blocks", file] => write_blocks(file),
-        [name] if GROUPS.iter().any(|group| group.0 == name) => run_groups(|group| group == name),
-        _ => Err(String::from(
-            "usage: compare [GROUP | program PATH | blocks FILE]",
-        )),
+        [name] => run_group(name),
+        _ => Err(String::from(USAGE)),
     };
-    match result {
-        Ok(()) => ExitCode::SUCCESS,
+    match verdict {
+        Ok(words) => {
+            println!("{words}");
+            ExitCode::SUCCESS
+        }
         Err(message) => {
-            eprintln!("{message}");
+            eprintln!("compare: {message}");
             ExitCode::FAILURE
         }
     }
 }
 
-fn run_groups(wanted: impl Fn(&str) -> bool) -> Result<(), String> {
+/// The verdict in words, or what is wrong.
+type Verdict = Result<String, String>;
+
+fn run_group(name: &str) -> Verdict {
+    match GROUPS.iter().position(|group| group.0 == name) {
+        Some(place) => run_groups(&GROUPS[place..=place]),
+        None => {
+            let names = GROUPS.map(|group| group.0).join(", ");
+            Err(format!("no group {name}; the groups are {names}"))
+        }
+    }
+}
+
+fn run_groups(groups: &[Group]) -> Verdict {
     println!("seed {SEED}");
-    for (name, run) in GROUPS.into_iter().filter(|group| wanted(group.0)) {
+    for (name, run) in groups {
         report(name, run())?;
     }
-    Ok(())
+    let names: Vec<&str> = groups.iter().map(|group| group.0).collect();
+    let names = names.join(", ");
+    Ok(format!(
+        "The library agrees with the second implementation in every case of {names}."
+    ))
 }
 
-fn run_program(path: &str) -> Result<(), String> {
+fn run_program(path: &str) -> Verdict {
+    let program = Program::at(path)?;
     println!("seed {SEED}");
-    let path = String::from(path);
-    report(
-        "program",
-        session::compare(&Program { path }, SEED, SCRIPTS),
-    )
+    report("program", session::compare(&program, SEED, SCRIPTS))?;
+    Ok(format!(
+        "{path} writes what the second implementation writes, on every script."
+    ))
 }
 
+/// Prints what a group counted.
 fn report(name: &str, result: Result<Tally, Difference>) -> Result<(), String> {
-    let tally = result.map_err(|difference| format!("{name}: DIFFERENT\n{difference}"))?;
+    let tally = result.map_err(|difference| {
+        format!("{name}: DIFFERENT from the second implementation\n{difference}")
+    })?;
     println!("{name}: {tally}");
     Ok(())
 }
 
-fn write_blocks(file: &str) -> Result<(), String> {
+fn write_blocks(file: &str) -> Verdict {
     let lines = block::built_blocks(&Library, SEED, BLOCKS_WRITTEN);
-    fs::write(file, lines).map_err(|error| format!("{file}: {error}"))
+    fs::write(file, lines).map_err(|error| format!("cannot write {file}: {error}"))?;
+    Ok(format!(
+        "{BLOCKS_WRITTEN} blocks that the library built are in {file}, for crc_hqx.py."
+    ))
 }

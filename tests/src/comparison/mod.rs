@@ -6,6 +6,8 @@
 pub mod any_bytes;
 pub mod block;
 pub mod both_ends;
+mod ends;
+pub mod idle;
 pub mod lockstep;
 pub mod loop_time;
 pub mod orders;
@@ -13,6 +15,7 @@ pub mod receiver;
 pub mod sender;
 pub mod session;
 mod spoil;
+pub mod two_orders;
 
 #[cfg(test)]
 mod faults;

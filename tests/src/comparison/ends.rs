@@ -1,0 +1,191 @@
+//! Both ends of one line, period by period, in lockstep with the second implementation, and what
+//! came of it: the machine's events, how the office ended and what the store holds.
+//!
+//! Every item of an order is filled with one byte, so that an order and a store are written as a
+//! byte for each item.
+
+use super::lockstep::{BufferPair, Lockstep};
+use super::{same, Difference, GuardedBuffer};
+use crate::calls::{Opening, ReceivingEnd, SendingEnd};
+use crate::interface::{load_receiver, load_sender, RECEIVER_BYTES, SENDER_BYTES};
+use crate::reference::bits::{pack, unpack, Bits};
+use crate::reference::block::{block_bits, block_bytes};
+use crate::reference::receiver::{Received, Receiver};
+use crate::reference::sender::{Sender, Sent};
+
+/// What the store's bytes are before anything is stored.
+const EMPTY: u8 = 0xEE;
+/// The items that the store has room for.
+const STORE_ITEMS: usize = 16;
+/// More periods than any case here takes.
+const MOST_PERIODS: usize = 1_000;
+
+/// A step's, or a difference between what is expected and what came.
+pub type Outcome = Result<(), Difference>;
+
+#[derive(Clone, Copy, Debug, PartialEq, Eq)]
+pub enum Office {
+    GoingOn,
+    Finished,
+    GaveUp,
+}
+
+/// What happens to a period.
+#[derive(Clone, Copy, PartialEq, Eq)]
+pub enum Period {
+    Undisturbed,
+    /// The block's last bit is inverted.
+    Damaged,
+    /// The reading is 0 whatever the return bit is.
+    Reads0,
+}
+
+pub struct Ends<'a, S, R> {
+    calls: &'a Lockstep<'a, S, R>,
+    pub k: usize,
+    order: Vec<u8>,
+    sender: BufferPair,
+    receiver: BufferPair,
+    store: BufferPair,
+    /// All but *none*; an alarm that stands once.
+    events: Vec<&'static str>,
+}
+
+impl<'a, S: SendingEnd, R: ReceivingEnd> Ends<'a, S, R> {
+    /// The machine is opened, the office is not yet.
+    pub fn new(calls: &'a Lockstep<'a, S, R>, k: usize) -> Result<Ends<'a, S, R>, Difference> {
+        let bytes = |length| BufferPair::new(GuardedBuffer::filled(EMPTY, length));
+        let mut ends = Ends {
+            calls,
+            k,
+            order: Vec::new(),
+            sender: bytes(SENDER_BYTES),
+            receiver: bytes(RECEIVER_BYTES),
+            store: bytes(STORE_ITEMS * k / 8),
+            events: Vec::new(),
+        };
+        ends.open_machine()?;
+        Ok(ends)
+    }
+
+    /// The office is opened with an order of these items.
+    pub fn open_office(&mut self, items: &[u8]) -> Outcome {
+        let item_bytes = self.k / 8;
+        let order = items.iter().flat_map(|&byte| vec![byte; item_bytes]);
+        self.open_office_with(order.collect())
+    }
+
+    /// The office is opened with these bytes as its order.
+    pub fn open_office_with(&mut self, order: Vec<u8>) -> Outcome {
+        self.order = order;
+        let opening = Opening {
+            k: self.k,
+            speed: 200,
+            loop_ms: 0,
+            length: 8 * self.order.len(),
+        };
+        let refused = self
+            .calls
+            .open_sender(opening, &self.order, &mut self.sender)?;
+        same(&|| String::from("opening the office"), &0, &refused)
+    }
+
+    /// The machine is opened, the store stays as it is.
+    pub fn open_machine(&mut self) -> Outcome {
+        let refused = self.calls.open_receiver(self.k, &mut self.receiver)?;
+        same(&|| String::from("opening the machine"), &0, &refused)
+    }
+
+    pub fn sender(&self) -> Sender {
+        load_sender(self.sender.slice()).expect("a state that a call handed back")
+    }
+
+    pub fn receiver(&self) -> Receiver {
+        load_receiver(self.receiver.slice()).expect("a state that a call handed back")
+    }
+
+    /// A sending call, and receiving calls until all bits of its block are used.
+    pub fn period(&mut self, period: Period) -> Outcome {
+        let reading = self.receiver().return_bit && period != Period::Reads0;
+        let mut place = BufferPair::new(GuardedBuffer::filled(EMPTY, block_bytes(self.k)));
+        let sent = self
+            .calls
+            .send(&mut self.sender, &self.order, reading, &mut place)?;
+        assert!(!matches!(sent, Sent::Refused(_)), "{sent:?}");
+        let mut bits = unpack(place.slice(), 0, block_bits(self.k));
+        if let Some(last) = bits.last_mut() {
+            *last ^= period == Period::Damaged;
+        }
+        self.receive_all(bits)
+    }
+
+    /// Receiving calls until all these bits are used.
+    pub fn receive_all(&mut self, mut bits: Bits) -> Outcome {
+        while !bits.is_empty() {
+            let used = self.receive(&bits)?;
+            bits.drain(..used);
+        }
+        Ok(())
+    }
+
+    /// One receiving call; the number of bits used.
+    pub fn receive(&mut self, bits: &[bool]) -> Result<usize, Difference> {
+        let lent = self.store.slice().len();
+        let stood = self.receiver().alarm.is_some();
+        let received = self.calls.receive(
+            &mut self.receiver,
+            &pack(bits),
+            bits.len(),
+            &mut self.store,
+            lent,
+        )?;
+        let Received::Reported { event, used } = received else {
+            panic!("{received:?}");
+        };
+        if !stood && event.name() != "none" {
+            self.events.push(event.name());
+        }
+        Ok(used)
+    }
+
+    /// Undisturbed periods until this event has come.
+    pub fn until(&mut self, event: &str) -> Outcome {
+        let before = self.events.len();
+        for _ in 0..MOST_PERIODS {
+            if self.events[before..].contains(&event) {
+                return Ok(());
+            }
+            self.period(Period::Undisturbed)?;
+        }
+        Err(format!("no {event} in {MOST_PERIODS} periods"))
+    }
+
+    /// Undisturbed periods until the office rests.
+    pub fn until_rest(&mut self) -> Outcome {
+        for _ in 0..MOST_PERIODS {
+            if self.sender().rests() {
+                return Ok(());
+            }
+            self.period(Period::Undisturbed)?;
+        }
+        Err(format!("no rest in {MOST_PERIODS} periods"))
+    }
+
+    /// What came since the last time: the events, how the office stands, the items stored.
+    pub fn expect(&mut self, events: &[&str], office: Office, items: &[u8]) -> Outcome {
+        let case = || String::from("what came of it");
+        same(&case, &events, &&self.events[..])?;
+        let sender = self.sender();
+        let now = match (sender.finished, sender.gave_up()) {
+            (true, _) => Office::Finished,
+            (_, true) => Office::GaveUp,
+            _ => Office::GoingOn,
+        };
+        same(&case, &office, &now)?;
+        let mut bytes: Vec<u8> = items.iter().flat_map(|&b| vec![b; self.k / 8]).collect();
+        bytes.resize(self.store.slice().len(), EMPTY);
+        same(&case, &&bytes[..], &self.store.slice())?;
+        self.events.clear();
+        Ok(())
+    }
+}

@@ -1,0 +1,210 @@
+//! Two orders in a row over one line, by when the machine is opened anew. The theorem on delivery
+//! speaks of two ends that were opened together; most cases here are outside it, and each shows
+//! what then becomes of the orders.
+
+use super::ends::{Ends, Office, Outcome, Period};
+use super::lockstep::Lockstep;
+use super::{Difference, Tally};
+use crate::calls::{ReceivingEnd, SendingEnd};
+use crate::reference::block::LENGTHS;
+use Office::{Finished, GaveUp, GoingOn};
+use Period::{Damaged, Reads0, Undisturbed};
+
+/// The items of two orders of the same length.
+const OLD: [u8; 2] = [0xA0, 0xA1];
+const NEW: [u8; 2] = [0xB0, 0xB1];
+/// A longer order.
+const LONG: [u8; 9] = [0xB0, 0xB1, 0xB2, 0xB3, 0xB4, 0xB5, 0xB6, 0xB7, 0xB8];
+
+const DELIVERED: [&str; 5] = ["sync", "accepted", "accepted", "ended", "previous"];
+const SEQUENCE: &str = "sequence alarm";
+const LENGTH: &str = "length alarm";
+
+type Case<'a, S, R> = fn(&mut Ends<'a, S, R>) -> Outcome;
+
+/// The list of cases, each with its name.
+macro_rules! cases {
+    ($($case:ident),* $(,)?) => { [$((stringify!($case), Ends::$case as Case<S, R>)),*] };
+}
+
+/// Runs each case at each k.
+pub fn compare<S: SendingEnd, R: ReceivingEnd>(
+    sending: &S,
+    receiving: &R,
+) -> Result<Tally, Difference> {
+    let calls = Lockstep { sending, receiving };
+    let mut tally = Tally::default();
+    let cases = cases![
+        both_opened_anew_both_orders_arrive,
+        never_opened_anew_the_second_order_is_not_taken,
+        opened_at_ended_the_office_gives_up_on_a_delivered_order,
+        opened_at_an_alarm_after_ended_both_orders_arrive,
+        opened_after_one_lost_request_the_alarm_comes_again,
+        opened_after_two_lost_requests_each_item_is_bad,
+        opened_after_three_lost_requests_item_3_is_taken_as_item_0,
+        opened_at_an_alarm_in_mid_order_item_6_is_taken_as_item_0,
+        not_opened_after_item_0_the_end_is_reported_of_two_mixed_orders,
+        not_opened_after_item_0_the_end_is_reported_of_an_order_never_taken,
+        not_opened_after_item_2_the_length_alarm_comes_behind_mixed_items,
+    ];
+    for k in LENGTHS {
+        for (name, case) in cases {
+            let run = Ends::new(&calls, k).and_then(|mut ends| case(&mut ends));
+            run.map_err(|difference| format!("{name}, k {k}: {difference}"))?;
+            tally.count(name);
+        }
+    }
+    Ok(tally)
+}
+
+impl<S: SendingEnd, R: ReceivingEnd> Ends<'_, S, R> {
+    /// The first order arrives, and the office is finished.
+    fn deliver_old(&mut self) -> Outcome {
+        self.open_office(&OLD)?;
+        self.until_rest()?;
+        self.expect(&DELIVERED, Finished, &OLD)
+    }
+
+    fn both_opened_anew_both_orders_arrive(&mut self) -> Outcome {
+        self.deliver_old()?;
+        self.open_machine()?;
+        self.open_office(&NEW)?;
+        self.until_rest()?;
+        self.expect(&DELIVERED, Finished, &NEW)
+    }
+
+    fn never_opened_anew_the_second_order_is_not_taken(&mut self) -> Outcome {
+        self.deliver_old()?;
+        self.open_office(&NEW)?;
+        self.until_rest()?;
+        self.expect(&["sync", SEQUENCE], GaveUp, &OLD)
+    }
+
+    /// The second end block is not confirmed any more: the machine is in search, and takes the end
+    /// block that follows a synchronising block for the end of an order of no items.
+    fn opened_at_ended_the_office_gives_up_on_a_delivered_order(&mut self) -> Outcome {
+        self.open_office(&OLD)?;
+        self.until("ended")?;
+        self.expect(&DELIVERED[..4], GoingOn, &OLD)?;
+        self.open_machine()?;
+        self.until_rest()?;
+        self.expect(&["sync", LENGTH], GaveUp, &OLD)
+    }
+
+    /// The office's opening still lasts, so that item 0 comes again behind a synchronising block.
+    fn opened_at_an_alarm_after_ended_both_orders_arrive(&mut self) -> Outcome {
+        self.deliver_old()?;
+        self.open_office(&NEW)?;
+        self.until(SEQUENCE)?;
+        self.open_machine()?;
+        self.until_rest()?;
+        let events = [&["sync", SEQUENCE], &DELIVERED[..]].concat();
+        self.expect(&events, Finished, &NEW)
+    }
+
+    /// The alarm after *ended*, and the office reads so many requests as 0 before the machine is
+    /// opened: its opening is over, and it repeats from item `lost` on.
+    fn open_after_lost_requests(&mut self, lost: usize) -> Outcome {
+        self.deliver_old()?;
+        self.open_office(&LONG)?;
+        self.until(SEQUENCE)?;
+        for _ in 0..lost {
+            self.period(Reads0)?;
+        }
+        self.expect(&["sync", SEQUENCE], GoingOn, &OLD)?;
+        self.open_machine()?;
+        self.until_rest()
+    }
+
+    /// Item 1 carries B, as the item behind the one that is awaited.
+    fn opened_after_one_lost_request_the_alarm_comes_again(&mut self) -> Outcome {
+        self.open_after_lost_requests(1)?;
+        self.expect(&["sync", SEQUENCE], GaveUp, &OLD)
+    }
+
+    /// Item 2 carries C, which at r 0 starts a search, after each of the 60 synchronising blocks.
+    fn opened_after_two_lost_requests_each_item_is_bad(&mut self) -> Outcome {
+        self.open_after_lost_requests(2)?;
+        self.expect(&["sync", "bad"].repeat(60), GaveUp, &OLD)
+    }
+
+    /// Item 3 carries A, as item 0 does. The length alarm at the end tells that items are missing.
+    fn opened_after_three_lost_requests_item_3_is_taken_as_item_0(&mut self) -> Outcome {
+        self.open_after_lost_requests(3)?;
+        let events = [vec!["sync"], vec!["accepted"; 6], vec![LENGTH]].concat();
+        self.expect(&events, GaveUp, &LONG[3..])
+    }
+
+    /// Item 5 is damaged and its request lost, item 6 brings the alarm, and the machine is opened
+    /// while the office goes on. What was stored before is overwritten.
+    fn opened_at_an_alarm_in_mid_order_item_6_is_taken_as_item_0(&mut self) -> Outcome {
+        self.open_office(&LONG)?;
+        for _ in 0..6 {
+            self.period(Undisturbed)?;
+        }
+        self.period(Damaged)?;
+        self.period(Reads0)?;
+        let events = [vec!["sync"], vec!["accepted"; 5], vec!["bad", SEQUENCE]].concat();
+        self.expect(&events, GoingOn, &LONG[..5])?;
+        self.open_machine()?;
+        self.until_rest()?;
+        let events = [vec!["sync"], vec!["accepted"; 3], vec![LENGTH]].concat();
+        let items = [&LONG[6..], &LONG[3..5]].concat();
+        self.expect(&events, GaveUp, &items)
+    }
+
+    /// The first order breaks off behind so many of its items.
+    fn break_off(&mut self, order: &[u8], taken: usize) -> Outcome {
+        self.open_office(order)?;
+        for _ in 0..=taken {
+            self.period(Undisturbed)?;
+        }
+        let events = [vec!["sync"], vec!["accepted"; taken]].concat();
+        self.expect(&events, GoingOn, &order[..taken])
+    }
+
+    fn not_opened_after_item_0_the_end_is_reported_of_two_mixed_orders(&mut self) -> Outcome {
+        self.break_off(&OLD, 1)?;
+        self.open_office(&NEW)?;
+        self.until("ended")?;
+        let events = ["sync", "previous", "accepted", "ended"];
+        self.expect(&events, GoingOn, &[OLD[0], NEW[1]])?;
+        self.until_rest()?;
+        self.expect(&["previous"], Finished, &[OLD[0], NEW[1]])
+    }
+
+    /// The new order has one item, and the store holds none of it.
+    fn not_opened_after_item_0_the_end_is_reported_of_an_order_never_taken(&mut self) -> Outcome {
+        self.break_off(&OLD, 1)?;
+        self.open_office(&NEW[..1])?;
+        self.until_rest()?;
+        let events = ["sync", "previous", "ended", "previous"];
+        self.expect(&events, Finished, &OLD[..1])
+    }
+
+    /// Three items are taken: item 0 of the new order is taken as item 3.
+    fn not_opened_after_item_2_the_length_alarm_comes_behind_mixed_items(&mut self) -> Outcome {
+        self.break_off(&LONG, 3)?;
+        self.open_office(&OLD)?;
+        self.until_rest()?;
+        let items = [&LONG[..3], &OLD[..]].concat();
+        self.expect(&["sync", "accepted", "accepted", LENGTH], GaveUp, &items)
+    }
+}
+
+#[cfg(test)]
+mod tests {
+    use super::super::agreed;
+    use super::*;
+    use crate::calls::{Reference, TableDriven};
+
+    #[test]
+    fn each_case_ends_as_its_name_says() {
+        agreed(compare(&Reference, &Reference));
+    }
+
+    #[test]
+    fn the_table_driven_ends_agree() {
+        agreed(compare(&TableDriven, &TableDriven));
+    }
+}
