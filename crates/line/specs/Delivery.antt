@@ -186,6 +186,9 @@ pub record Guarantees (k L : ℕ) (content : Bits) (initialStore : List ℕ) (es
   -- an alarm only if a repeat request was lost before it
   pub alarm : (before behind : List Entry) (e : Entry) → es ≡ before ++ (e ∷ behind) → isAlarm e ≡ true
       → some isLost before ≡ true
+  -- and none after the end, lost requests or not
+  pub no-alarm-after-end : (before behind : List Entry) (e : Entry) → es ≡ before ++ (e ∷ behind) → isAlarm e ≡ true
+      → some isEnd before ≡ false
   -- if none was lost, a finished sender means that the end was reported
   pub finished : some isLost es ≡ false → w .sender .finished ≡ true → some isEnd es ≡ true
   -- and unless the sender gave up, six undisturbed periods in a row that begin before the end bring a new block or the end

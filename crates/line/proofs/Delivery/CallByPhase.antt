@@ -19,8 +19,9 @@ use Rattle.line.specs.declared.receiving.Event.{Event}
 use Rattle.line.specs.declared.receiving.Event.the-variants as E
 use Rattle.line.proofs.Delivery.Ends.{LineBlock, Busy}
 use Rattle.line.proofs.Delivery.Ends as D
+use Rattle.line.proofs.Delivery.Invariant.{alarmed-busy}
 use Rattle.line.proofs.Delivery.BlockStep.{same-sender}
-use Rattle.line.proofs.Delivery.CallOnBlock.{ReceptionKept, none-of-length, Quiet, quiet-idle, still-same, alarm-lost, pass}
+use Rattle.line.proofs.Delivery.CallOnBlock.{ReceptionKept, none-of-length, Quiet, quiet-idle, still-same, pass}
 use Rattle.line.proofs.Delivery.State.{Session, N, Fit, alarmStands, Held, Base, BusyLine}
 use Rattle.line.proofs.Delivery.State as S
 use Rattle.line.proofs.Delivery.CallInStep.{in-step}
@@ -82,6 +83,7 @@ module _ (o : Session) (fit : Fit o) (w : World) (l d : ℕ) (copy : Bits) (f : 
       busy : Busy (N o) (S.ends (w .sender) (underAlarm r) l d) (w .sender .next) f
       busy =
           let b = line .busy .basic in
+          let c = alarmed-busy (line .busy) (ap bit a) in
           record {
             basic = record {
               low = b .low;
@@ -93,10 +95,7 @@ module _ (o : Session) (fit : Fit o) (w : World) (l d : ℕ) (copy : Bits) (f : 
               finished = b .finished;
             };
             all = line .busy .all;
-            state = inl (record {
-              alarm = ap bit a;
-              lost = alarm-lost o fit w l d copy f line base lent (w .store) refl a;
-            });
+            state = inl (record { alarm = c .alarm; lost = c .lost; open-end = c .open-end });
           }
 
   -- ---- any call

@@ -6,12 +6,24 @@ use mathlib.Core.List.{List, [], _∷_, _++_}
 use native.Mathlib.Omega.{arith}
 use Prim.Native.Nat.{ℕ, _+_}
 use Rattle.crc.specs.Bits.{bit}
-use Rattle.block.proofs.Truth.{or-true, or-false, or-no}
-use Rattle.line.specs.Course.{World, Call, Entry, entry, next, course, final}
+use Rattle.block.proofs.Truth.{or-true, or-false, or-no, or-yes, bit-false}
+use Rattle.line.specs.Course.{World, Call, Heard, Entry, send-refused, receive-refused, sent, heard, onHeard, entry, next, course, final}
 use Rattle.line.specs.Delivery.{All, some, accepted, isNew, isEnd, isAlarm, isLost, isGood, reportsEnd, OnLine, SameOrder, SameStore, Admitted, NotWhole, SyncAtLast, SyncNotData, OnlyRefused, Assumptions}
-use Rattle.line.proofs.Delivery.State.{Session, Fit, alarmStands, lost′, danger′, Inv, Assumed, Keeps}
+use Rattle.line.proofs.Delivery.Ends.{Alarmed}
+use Rattle.line.proofs.Delivery.Invariant.{alarmed-idle, alarmed-busy}
+use Rattle.line.proofs.Delivery.State.{Session, Fit, alarmStands, endsOf, lost′, danger′, Inv, Assumed, Keeps}
 use Rattle.line.proofs.Delivery.OneCall.{call-keeps}
 use Rattle.line.proofs.Delivery.BetweenLosses.{pends, spaced, spaced-head, spaced-tail, between-spaced}
+
+-- ---- an entry
+
+-- a test of what was heard holds of no entry but a receiving call that is not refused
+pub by-heard : (P : Entry → Type 0) (f : Heard → Bool) → ((y : Heard) → f y ≡ true → P (heard y))
+    → (e : Entry) → onHeard false f e ≡ true → P e
+by-heard P f h (send-refused n) q = absurd (false≢true q)
+by-heard P f h (receive-refused n) q = absurd (false≢true q)
+by-heard P f h (sent x) q = absurd (false≢true q)
+by-heard P f h (heard y) q = h y q
 
 -- ---- what is supposed, entry by entry
 
@@ -84,12 +96,20 @@ losts-zero (e ∷ es) = go (isLost e) (losts-zero es)
 
 -- ---- the list
 
+-- what holds of the entries before an alarm, and before each of a list
+abbrev BeforeAlarm : World → ℕ → List Entry → Type 0
+BeforeAlarm w l before = (losts l before ≡ 1) × (w .receiver .ended || some isEnd before ≡ false)
+
+abbrev BeforeEachAlarm : World → ℕ → List Entry → Type 0
+BeforeEachAlarm w l es =
+    (before behind : List Entry) (e : Entry) → es ≡ before ++ (e ∷ behind) → isAlarm e ≡ true → BeforeAlarm w l before
+
 pub record Safe (o : Session) (w : World) (l d : ℕ) (es : List Entry) (w′ : World) : Type 0 where
   pub inv : Inv o w′ (losts l es) (dangers d es)
   pub taken : w′ .receiver .taken ≡ accepted es + w .receiver .taken
   pub ended : w′ .receiver .ended ≡ (w .receiver .ended || some isEnd es)
   pub length : (M : ℕ) → some (reportsEnd M) es ≡ true → M ≡ o .L
-  pub alarm : (before behind : List Entry) (e : Entry) → es ≡ before ++ (e ∷ behind) → isAlarm e ≡ true → losts l before ≡ 1
+  pub alarm : BeforeEachAlarm w l es
   pub refusals : All OnlyRefused es
 
 bit-cond : (b : Bool) → bit b ≡ cond b 1 0
@@ -107,9 +127,27 @@ safe-none o w l d h =
       refusals = tt;
     }
   where
-    no-alarm : (before behind : List Entry) (e : Entry) → [] ≡ before ++ (e ∷ behind) → isAlarm e ≡ true → losts l before ≡ 1
+    no-alarm : BeforeEachAlarm w l []
     no-alarm [] behind e z a = absurd (let v : _≡_ {A = ℕ} 0 1 = cc in omega arith)
     no-alarm (x ∷ before) behind e z a = absurd (let v : _≡_ {A = ℕ} 0 1 = cc in omega arith)
+
+-- the end taken before a call or reported by it, and the list behind it
+ended-behind : (w w′ : World) (e : Entry) (es : List Entry) → w′ .receiver .ended ≡ (w .receiver .ended || isEnd e)
+    → w′ .receiver .ended || some isEnd es ≡ w .receiver .ended || some isEnd (e ∷ es)
+ended-behind w w′ e es h = ap (λ (b : Bool). b || some isEnd es) h ∙ or-assoc (w .receiver .ended) (isEnd e) (some isEnd es)
+
+alarmed-of : (o : Session) (w : World) (l d : ℕ) → Inv o w l d → alarmStands (w .receiver .phase) ≡ true → Alarmed (endsOf w l d)
+alarmed-of o w l d h a =
+    ⊎-elim (λ g. alarmed-idle (g .idle) (ap bit a)) (λ g. alarmed-busy (g .line .busy) (ap bit a)) (h .phase)
+
+-- a call that reports an alarm: a request was lost before it, and the end is not taken
+alarm-call : (o : Session) (w w′ : World) (l d : ℕ) (e : Entry) → Keeps o w l d e w′ → isAlarm e ≡ true → BeforeAlarm w l []
+alarm-call o w w′ l d e y a =
+    let stands = y .guaranteed .alarm ∙ ap (λ (b : Bool). alarmStands (w .receiver .phase) || b) a ∙ or-yes (alarmStands (w .receiver .phase)) in
+    let h = alarmed-of o w′ (lost′ l e) (danger′ d e) (y .inv) stands in
+    let kept : isLost e ≡ false = by-heard (λ x. isLost x ≡ false) _ (λ v q. refl) e a in
+    let still = or-false (w .receiver .ended) (isEnd e) (sym (y .guaranteed .ended) ∙ bit-false (w′ .receiver .ended) (h .open-end)) in
+    (sym (ap (λ (b : Bool). cond b 1 l) kept) ∙ h .lost, ap (λ (b : Bool). b || false) (still .0))
 
 -- one call, and the list behind it
 safe-call : (o : Session) (w w′ w″ : World) (l d : ℕ) (e : Entry) (es : List Entry) → Keeps o w l d e w′
@@ -118,19 +156,20 @@ safe-call o w w′ w″ l d e es y z =
     record {
       inv = z .inv;
       taken = omega (arith, z .taken, y .guaranteed .taken, bit-cond (isNew e));
-      ended =
-          z .ended ∙ ap (λ (b : Bool). b || some isEnd es) (y .guaranteed .ended) ∙ or-assoc (w .receiver .ended) (isEnd e) (some isEnd es);
+      ended = z .ended ∙ ended-behind w w′ e es (y .guaranteed .ended);
       length = λ M h. ⊎-elim (y .guaranteed .length M) (z .length M) (or-true (reportsEnd M e) _ h);
-      alarm = lost-before;
+      alarm = before-alarm;
       refusals = (y .guaranteed .refusal, z .refusals);
     }
   where
-    lost-before : (before behind : List Entry) (x : Entry) → e ∷ es ≡ before ++ (x ∷ behind) → isAlarm x ≡ true → losts l before ≡ 1
-    lost-before [] behind x q a = y .guaranteed .alarm-lost (let v : e ≡ x = cc in ap isAlarm v ∙ a)
-    lost-before (v ∷ before) behind x q a =
+    before-alarm : BeforeEachAlarm w l (e ∷ es)
+    before-alarm [] behind x q a = alarm-call o w w′ l d e y (let v : e ≡ x = cc in ap isAlarm v ∙ a)
+    before-alarm (v ∷ before) behind x q a =
         let same : e ≡ v = cc in
         let more : es ≡ before ++ (x ∷ behind) = cc in
-        ap (λ (t : Entry). losts (lost′ l t) before) (sym same) ∙ z .alarm before behind x more a
+        let h = z .alarm before behind x more a in
+        subst (λ (t : Entry). BeforeAlarm w l (t ∷ before)) same
+        (h .0, sym (ended-behind w w′ e before (y .guaranteed .ended)) ∙ h .1)
 
 module _ (o : Session) (fit : Fit o) where
   pub safe : (cs : List Call) (w : World) (l d : ℕ) → Inv o w l d

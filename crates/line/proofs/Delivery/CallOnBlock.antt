@@ -24,8 +24,6 @@ use Rattle.line.specs.declared.receiving.Phase.the-variants as P
 use Rattle.line.specs.declared.receiving.Event.the-variants as E
 use Rattle.line.proofs.Items.{payload-itemBits}
 use Rattle.line.proofs.Delivery.Ends.{Ends, LineBlock, Reads, Busy}
-use Rattle.line.proofs.Delivery.Ends as D
-use Rattle.line.proofs.Delivery.Invariant.{read-keeps}
 use Rattle.line.proofs.Delivery.Progress.{ending, endingWith}
 use Rattle.line.proofs.Delivery.BlockStep.{After, after-is, none-held, held-none}
 use Rattle.line.proofs.Delivery.RuleOnLine.{Ruling}
@@ -70,13 +68,12 @@ still-same o w b = record
     { k = b .k; array = b .array; bad-row = b .bad-row; held = b .held; taken = refl; ended = refl; phase = refl }
 
 -- what such a call tells
-pub still-told : (o : Session) (w : World) (l : ℕ) → Base o w → (lent : Bits) (store : List ℕ) → store ≡ w .store
+pub still-told : (o : Session) (w : World) → Base o w → (lent : Bits) (store : List ℕ) → store ≡ w .store
     → (x : Rule) (n : ℕ) (t : Receiver)
     → Quiet (alarmStands (w .receiver .phase)) x → Still o (w .receiver) t
-    → (alarmStands (w .receiver .phase) ≡ true → l ≡ 1)
     → let y : Reception = record { rule = x; row = []; used = n; state = t } in
-    Guaranteed o w l (receiveEntry w lent store (done y)) (receiveAfter w store (done y))
-still-told o w l base lent store same x n t q s lost =
+    Guaranteed o w (receiveEntry w lent store (done y)) (receiveAfter w store (done y))
+still-told o w base lent store same x n t q s =
     record {
       base = record {
         sender-k = base .sender-k;
@@ -95,7 +92,6 @@ still-told o w l base lent store same x n t q s lost =
       alarm =
           ap alarmStands (s .phase)
           ∙ sym (ap (λ (v : EventKind). alarmStands (w .receiver .phase) || v .alarm) (q .kind) ∙ or-self (alarmStands (w .receiver .phase)));
-      alarm-lost = λ e. lost (sym (ap (λ (v : EventKind). v .alarm) (q .kind)) ∙ e);
       refusal = tt;
     }
   where
@@ -117,9 +113,6 @@ module _ (o : Session) (fit : Fit o) (w : World) (l d : ℕ) (copy : Bits) (f : 
     (lent : Bits) (store : List ℕ) (same : store ≡ w .store) where
   abbrev pub After-call : Reception → Type 0
   After-call y = Result o w l d copy f (receiveEntry w lent store (done y)) (receiveAfter w store (done y))
-
-  pub alarm-lost : alarmStands (w .receiver .phase) ≡ true → l ≡ 1
-  alarm-lost a = ⊎-elim (λ b. b .lost) (λ b. absurd (omega (arith, ap bit a, b .0 .alarm))) (line .busy .state)
 
   -- no event, or a standing alarm's: the bits go by
   module _ (remaining : Bits) (split : w .left ≡ lent ++ remaining) (x : Rule) (n : ℕ) (t : Receiver) (all : n ≡ length lent)
@@ -175,7 +168,7 @@ module _ (o : Session) (fit : Fit o) (w : World) (l d : ℕ) (copy : Bits) (f : 
                 (λ a. ap (λ (m : ℕ). S.ends (w .sender) t l m) danger-kept ∙ ends-same a),
               ))
               (empty-or-not remaining);
-          guaranteed = still-told o w l base lent store same x n t q s alarm-lost;
+          guaranteed = still-told o w base lent store same x n t q s;
         }
 
   -- the rule that ends the block
@@ -200,11 +193,6 @@ module _ (o : Session) (fit : Fit o) (w : World) (l d : ℕ) (copy : Bits) (f : 
         subst (Stored o (w .receiver .taken + 1))
         (sym (ap₂ (λ (m : ℕ) (p : Bits). storeAt (w .receiver .taken * m) p store) (base .k) y
         ∙ ap (storeAt (w .receiver .taken * o .k) (itemPayload (o .k) (o .L) (o .content) (w .receiver .taken))) same)) h
-
-    alarms-lost : eventKind (meaning x .event) .alarm ≡ true → l ≡ 1
-    alarms-lost e =
-        ⊎-elim (λ b. b .lost) (λ b. absurd (omega (arith, ap bit (left-state .alarms ∙ e), b .alarm)))
-        (read-keeps (line .busy) (g .reads) .state)
 
     pub finish : After-call (stops (w .receiver) x row n)
     finish =
@@ -236,7 +224,6 @@ module _ (o : Session) (fit : Fit o) (w : World) (l d : ℕ) (copy : Bits) (f : 
             ended = a .ended;
             length = g .length;
             alarm = a .alarms ∙ sym (ap (λ (b : Bool). b || eventKind (meaning x .event) .alarm) quiet);
-            alarm-lost = alarms-lost;
             refusal = tt;
           };
         }

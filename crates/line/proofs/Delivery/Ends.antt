@@ -189,6 +189,7 @@ pub record During (s : Ends) (n : Next) : Type 0 where
 pub record Alarmed (s : Ends) : Type 0 where
   pub alarm : s .alarm ≡ 1
   pub lost : s .lost ≡ 1
+  pub open-end : s .ended ≡ 0
 
 -- no block is on the line
 pub record Idle (N : ℕ) (s : Ends) (n : Next) : Type 0 where

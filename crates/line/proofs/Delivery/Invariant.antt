@@ -14,6 +14,14 @@ pub opened-idle : (N : ℕ) (s : Ends) → s .item ≡ 1 → s .run ≡ 0 → s 
 opened-idle N s a b c d f g h i j k l m =
     record { basic = omega arith; all = λ y. absurd (omega arith); state = inr (omega arith) }
 
+-- ---- where an alarm stands
+
+pub alarmed-idle : {N : ℕ} {s : Ends} {n : Next} → Idle N s n → s .alarm ≡ 1 → Alarmed s
+alarmed-idle h a = ⊎-elim (λ b. b) (λ b. absurd (omega arith)) (h .state)
+
+pub alarmed-busy : {N : ℕ} {s : Ends} {n : Next} {f : LineBlock} → Busy N s n f → s .alarm ≡ 1 → Alarmed s
+alarmed-busy h a = ⊎-elim (λ b. b) (λ b. absurd (omega arith)) (h .state)
+
 -- ---- sending keeps it
 
 all-kept : {N r e r′ e′ : ℕ} → r′ ≡ r → e′ ≡ e → (e ≡ 1 → r ≡ N) → e′ ≡ 1 → r′ ≡ N
@@ -98,9 +106,9 @@ module _ {N : ℕ} {s t : Ends} {n : Next} where
   kept-whole : {i : ℕ} → Busy N s n (item i 1) → s .alarm ≡ 0 → (During s n → Whole N s n i → Idle N t n) → Idle N t n
   kept-whole h a x = ⊎-elim (λ b. absurd (omega arith)) (λ b. x (b .0) (whole-of (h .basic) (b .1) refl)) (h .state)
 
-  -- an alarm comes only where a request was lost and no good block was read since
-  alarmed : {f : LineBlock} → Busy N s n f → SameSender s t → D.Alarms s t 0 → s .danger ≡ 1 → Idle N t n
-  alarmed h q r d = record { basic = omega arith; all = all-kept (r .taken) (r .ended) (h .all); state = inl (omega arith) }
+  -- an alarm comes only where a request was lost and no good block was read since, and the end is not taken
+  alarmed : {f : LineBlock} → Busy N s n f → SameSender s t → D.Alarms s t 0 → s .danger ≡ 1 → s .ended ≡ 0 → Idle N t n
+  alarmed h q r d e0 = record { basic = omega arith; all = all-kept (r .taken) (r .ended) (h .all); state = inl (omega arith) }
 
   pub read-keeps : {f : LineBlock} {e : Event} → Busy N s n f → Reads N s t f e → Idle N t n
   read-keeps h (D.under-alarm q r a) =
@@ -127,7 +135,7 @@ module _ {N : ℕ} {s t : Ends} {n : Next} where
       (λ b c. let v = c .as-data i in
       record { basic = omega arith; all = λ y. absurd (omega arith); state = inr (omega arith) })
   read-keeps h (D.out-of-sequence q a i e0 m r) =
-      kept-whole h (a .alarm) (λ b c. let v = c .as-data i in alarmed h q r (omega arith))
+      kept-whole h (a .alarm) (λ b c. let v = c .as-data i in alarmed h q r (omega arith) e0)
   read-keeps h (D.ends q a i e0 m r) =
       kept-whole h (a .alarm)
       (λ b c. let v = c .as-end i in record { basic = omega arith; all = λ y. omega arith; state = inr (omega arith) })
@@ -136,4 +144,4 @@ module _ {N : ℕ} {s t : Ends} {n : Next} where
       kept-whole h (a .alarm)
       (λ b c. let v = c .as-end i in record { basic = omega arith; all = λ y. omega arith; state = inr (omega arith) })
   read-keeps h (D.wrong-length q a i e0 m r) =
-      kept-whole h (a .alarm) (λ b c. let v = c .as-end i in alarmed h q r (omega arith))
+      kept-whole h (a .alarm) (λ b c. let v = c .as-end i in alarmed h q r (omega arith) e0)

@@ -74,10 +74,10 @@ receive-answered r line count store h =
 
 -- ---- a call that hears nothing: refused, or a sending call
 
-unheard-told : (o : Session) (w : World) (l : ℕ) (e : Entry) (w′ : World)
+unheard-told : (o : Session) (w : World) (e : Entry) (w′ : World)
     → ((f : Heard → Bool) → onHeard false f e ≡ false) → Base o w′
-    → w′ .receiver ≡ w .receiver → OnlyRefused e → Guaranteed o w l e w′
-unheard-told o w l e w′ none base same refusal =
+    → w′ .receiver ≡ w .receiver → OnlyRefused e → Guaranteed o w e w′
+unheard-told o w e w′ none base same refusal =
     record {
       base = base;
       taken = ap (λ (r : Receiver). r .taken) same ∙ (let new : isNew e ≡ false = none _ in omega (arith, ap bit new));
@@ -88,12 +88,11 @@ unheard-told o w l e w′ none base same refusal =
       alarm =
           ap (λ (r : Receiver). alarmStands (r .phase)) same
           ∙ sym (ap (λ (b : Bool). alarmStands (w .receiver .phase) || b) (none _) ∙ or-no (alarmStands (w .receiver .phase)));
-      alarm-lost = λ h. absurd (false≢true (sym (none _) ∙ h));
       refusal = refusal;
     }
 
-short-told : (o : Session) (w : World) (l : ℕ) → Base o w → Guaranteed o w l (receive-refused A.short) w
-short-told o w l b = unheard-told o w l (receive-refused A.short) w (λ f. refl) b refl refl
+short-told : (o : Session) (w : World) → Base o w → Guaranteed o w (receive-refused A.short) w
+short-told o w b = unheard-told o w (receive-refused A.short) w (λ f. refl) b refl refl
 
 module _ (o : Session) (fit : Fit o) where
   -- ---- the states are in range
@@ -140,16 +139,13 @@ module _ (o : Session) (fit : Fit o) where
         };
         same = ap (endsOf w l) danger;
         next = refl;
-        guaranteed = still-told o w l b lent store same (idleRule (w .receiver .phase)) 0 (w .receiver)
-            (quiet-idle (w .receiver .phase)) (still-same o w b) lost;
+        guaranteed = still-told o w b lent store same (idleRule (w .receiver .phase)) 0 (w .receiver)
+            (quiet-idle (w .receiver .phase)) (still-same o w b);
       }
     where
       danger : cond (isItem (w .block) && meaning (idleRule (w .receiver .phase)) .checked) 0 d ≡ d
       danger = not-danger (alarmStands (w .receiver .phase)) (idleRule (w .receiver .phase))
           (quiet-idle (w .receiver .phase)) (isItem (w .block)) d
-
-      lost : alarmStands (w .receiver .phase) ≡ true → l ≡ 1
-      lost a = ⊎-elim (λ c. c .lost) (λ c. absurd (omega (arith, ap bit a, c .alarm))) (g .idle .state)
 
   nothing-lent : (lent remaining : Bits) → [] ≡ lent ++ remaining → lent ≡ []
   nothing-lent [] remaining e = refl
@@ -165,7 +161,7 @@ module _ (o : Session) (fit : Fit o) where
       → Assumed o (alarmStands (w .receiver .phase)) d (receiveEntry w lent store a)
       → Stays o w l d (receiveEntry w lent store a) (receiveAfter w store a)
   idle-hears w l d g b lent count store a ReceiveAnswered.refuses ok =
-      record { line = g; same = refl; next = refl; guaranteed = short-told o w l b }
+      record { line = g; same = refl; next = refl; guaranteed = short-told o w b }
   idle-hears w l d g b lent count store a (hears size) ok =
       let n : lent ≡ [] = nothing-lent lent (ok .line .0) (sym (g .left) ∙ ok .line .1) in
       let e : reception (w .receiver) lent count ≡ idle (w .receiver) =
@@ -197,7 +193,7 @@ module _ (o : Session) (fit : Fit o) where
           busy = send-keeps (g .idle) (y .sends);
           copy-of = y .copy-of;
         };
-        guaranteed = unheard-told o w l _ _ (λ f. refl) (record {
+        guaranteed = unheard-told o w _ _ (λ f. refl) (record {
           sender-k = ap (λ (s : Setup). s .k) setup ∙ base .sender-k;
           sender-L = ap (λ (s : Setup). s .length) setup ∙ base .sender-L;
           run = run-kept (w .sender) (w .sender .next) reading (base .run) run;
@@ -228,7 +224,7 @@ module _ (o : Session) (fit : Fit o) where
       → Assumed o (alarmStands (w .receiver .phase)) d (receiveEntry w lent store a)
       → Result o w l d copy f (receiveEntry w lent store a) (receiveAfter w store a)
   busy-hears w l d copy f line b lent count store a ReceiveAnswered.refuses ok =
-      record { next = inl (line, refl, (λ q. refl)); guaranteed = short-told o w l b }
+      record { next = inl (line, refl, (λ q. refl)); guaranteed = short-told o w b }
   busy-hears w l d copy f line b lent count store a (hears size) ok =
       reception-guaranteed o fit w l d copy f line b lent store count size ok
 
@@ -250,7 +246,7 @@ module _ (o : Session) (fit : Fit o) where
       → Assumed o (alarmStands (w .receiver .phase)) d (sendEntry w order reading copy a)
       → Keeps o w l d (sendEntry w order reading copy a) (sendAfter w reading copy a)
   send-call w l d h order reading copy a (refuses q) ok =
-      record { inv = h; guaranteed = unheard-told o w l (sendEntry w order reading copy a) w (λ f. refl) (h .base) refl q }
+      record { inv = h; guaranteed = unheard-told o w (sendEntry w order reading copy a) w (λ f. refl) (h .base) refl q }
   send-call w l d h order reading copy a (begins fin run) ok =
       ⊎-elim
       (λ g.

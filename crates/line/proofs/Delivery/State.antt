@@ -22,7 +22,6 @@ use Rattle.line.specs.declared.receiving.Phase.the-variants as P
 use Rattle.line.specs.declared.receiving.Event.{Event}
 use Rattle.line.specs.declared.receiving.Event.the-variants as E
 use Rattle.line.proofs.Delivery.Ends.{Ends, LineBlock, Sends, Reads, Idle, Busy}
-use Rattle.line.proofs.Delivery.Ends as D
 use Rattle.line.proofs.Delivery.Progress.{isNewOrEnd}
 
 -- what a session is about: k, L, the order's bits, and the store as first lent
@@ -155,13 +154,12 @@ pub record Assumed (o : Session) (alarm : Bool) (d : ℕ) (e : Entry) : Type 0 w
   pub loss : isLost e ≡ true → alarm ≡ false → d ≡ 0
 
 -- what its entry and the state after it say
-pub record Guaranteed (o : Session) (w : World) (l : ℕ) (e : Entry) (w′ : World) : Type 0 where
+pub record Guaranteed (o : Session) (w : World) (e : Entry) (w′ : World) : Type 0 where
   pub base : Base o w′
   pub taken : w′ .receiver .taken ≡ bit (isNew e) + w .receiver .taken
   pub ended : w′ .receiver .ended ≡ (w .receiver .ended || isEnd e)
   pub length : (M : ℕ) → reportsEnd M e ≡ true → M ≡ o .L
   pub alarm : alarmStands (w′ .receiver .phase) ≡ (alarmStands (w .receiver .phase) || isAlarm e)
-  pub alarm-lost : isAlarm e ≡ true → l ≡ 1
   pub refusal : OnlyRefused e
 
 -- the block on the line is read to its last bit, with this event
@@ -180,14 +178,14 @@ pub record Result (o : Session) (w : World) (l d : ℕ) (copy : Bits) (f : LineB
   pub next : (BusyLine o w′ (lost′ l e) (danger′ d e) copy f × (w′ .sender ≡ w .sender)
       × (alarmStands (w .receiver .phase) ≡ false → endsOf w′ (lost′ l e) (danger′ d e) ≡ endsOf w l d))
       ⊎ Done o w l d copy f e w′
-  pub guaranteed : Guaranteed o w l e w′
+  pub guaranteed : Guaranteed o w e w′
 
 -- a receiving call with no block on the line
 pub record Stays (o : Session) (w : World) (l d : ℕ) (e : Entry) (w′ : World) : Type 0 where
   pub line : IdleLine o w′ (lost′ l e) (danger′ d e)
   pub same : endsOf w′ (lost′ l e) (danger′ d e) ≡ endsOf w l d
   pub next : w′ .sender .next ≡ w .sender .next
-  pub guaranteed : Guaranteed o w l e w′
+  pub guaranteed : Guaranteed o w e w′
 
 -- a sending call that is not refused: its block is on the line
 pub record Begins (o : Session) (w : World) (l d : ℕ) (copy : Bits) (reading : Bool) (e : Entry)
@@ -196,9 +194,9 @@ pub record Begins (o : Session) (w : World) (l d : ℕ) (copy : Bits) (reading :
   pub sends : Sends (N o) (endsOf w l d) (bit reading) (endsOf w′ (lost′ l e) (danger′ d e)) (w .sender .next)
       (w′ .sender .next) line-block
   pub line : BusyLine o w′ (lost′ l e) (danger′ d e) copy line-block
-  pub guaranteed : Guaranteed o w l e w′
+  pub guaranteed : Guaranteed o w e w′
 
 -- any call
 pub record Keeps (o : Session) (w : World) (l d : ℕ) (e : Entry) (w′ : World) : Type 0 where
   pub inv : Inv o w′ (lost′ l e) (danger′ d e)
-  pub guaranteed : Guaranteed o w l e w′
+  pub guaranteed : Guaranteed o w e w′

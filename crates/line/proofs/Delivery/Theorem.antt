@@ -1,7 +1,7 @@
 -- Demand 3 holds. Assumes nothing.
 use mathlib.Core.Path.{_≡_, refl, ap, sym, _∙_, subst, subst₂}
 use mathlib.Core.Logic.{inl, ⊎-elim}
-use mathlib.Core.Bool.{Bool, true, false, _||_, false≢true}
+use mathlib.Core.Bool.{Bool, true, false, _||_}
 use mathlib.Core.List.{List, [], _∷_, _++_}
 use mathlib.Core.Option.{Option}
 use native.Mathlib.Omega.{arith}
@@ -13,10 +13,9 @@ use Rattle.block.proofs.Truth.{or-true, or-yes, bit-true}
 use Rattle.line.specs.Order.{filled, orderBits}
 use Rattle.line.specs.Sending.{freshSender}
 use Rattle.line.specs.Receiving.{withLength, freshReceiver, openedReceiver, openingAnswer, OpenReceiver}
-use Rattle.line.specs.Course.{Call, World, opened, Heard, Entry, send-refused, receive-refused, sent, heard, onHeard, course, final}
+use Rattle.line.specs.Course.{Call, World, opened, Entry, course, final}
 use Rattle.line.specs.Delivery.{All, some, kindOf, isEnd, isLost, reportsEnd, accepted, Period, group, Undisturbed, brings, Assumptions, Guarantees, Openings, Delivery}
 use Rattle.line.specs.declared.sender.Sender.{Sender}
-use Rattle.line.specs.declared.sender.Opened.the-variants as SenderOpened
 use Rattle.line.specs.declared.receiver.Receiver.{Receiver}
 use Rattle.line.specs.declared.receiver.Opened as ReceiverOpened
 use Rattle.line.specs.declared.receiver.Opening.the-variants as Opening
@@ -27,7 +26,7 @@ use Rattle.line.proofs.Delivery.Invariant.{opened-idle}
 use Rattle.line.proofs.Delivery.WrittenBits.{length-zeroArray}
 use Rattle.line.proofs.Delivery.BlockStep.{held-none}
 use Rattle.line.proofs.Delivery.State.{Session, N, Fit, alarmStands, endsOf, Base, IdleLine, Inv}
-use Rattle.line.proofs.Delivery.CallList.{Okays, okays, losts, dangers, losts-zero, Safe, safe}
+use Rattle.line.proofs.Delivery.CallList.{by-heard, Okays, okays, losts, dangers, losts-zero, Safe, safe}
 use Rattle.line.proofs.Delivery.UndisturbedPeriods.{brought}
 use Rattle.line.proofs.Delivery.FivePeriods.{within-five}
 use Rattle.line.proofs.Delivery.Answers.{answers}
@@ -79,14 +78,6 @@ module _ (o : Session) where
 
 -- ---- the end reported
 
--- a test of what was heard holds of no entry but a receiving call that is not refused
-pub by-heard : (P : Entry → Type 0) (f : Heard → Bool) → ((y : Heard) → f y ≡ true → P (heard y))
-    → (e : Entry) → onHeard false f e ≡ true → P e
-by-heard P f h (send-refused n) q = absurd (false≢true q)
-by-heard P f h (receive-refused n) q = absurd (false≢true q)
-by-heard P f h (sent x) q = absurd (false≢true q)
-by-heard P f h (heard y) q = h y q
-
 length-ends : (f : ℕ → Bool) (l : Option ℕ) → withLength false f l ≡ true → withLength false (λ M. true) l ≡ true
 length-ends f Option.none h = h
 length-ends f (Option.some M) h = refl
@@ -135,7 +126,8 @@ module _ (o : Session) (fit : Fit o) (calls : List Call) (w : World) (base : Bas
         untouched =
             subst (λ (n : ℕ). drop (n * o .k) (bitsOf (w′ .store)) ≡ drop (n * o .k) (bitsOf (o .initialStore))) taken (s .inv .base .stored .rest);
         ended = λ M e. (sym taken ∙ facts .1 (ap bit (ended ∙ some-implies _ isEnd (entry-ends M) es e)), s .length M e);
-        alarm = λ before behind e q a. bit-true (some isLost before) (omega (arith, s .alarm before behind e q a, losts-zero before));
+        alarm = λ before behind e q a. bit-true (some isLost before) (omega (arith, s .alarm before behind e q a .0, losts-zero before));
+        no-alarm-after-end = λ before behind e q a. sym (ap (λ (b : Bool). b || some isEnd before) still) ∙ s .alarm before behind e q a .1;
         finished = λ n f. sym ended ∙ bit-true (w′ .receiver .ended) (omega (arith, basic .finished, ap bit f, losts-zero es, ap bit n));
         progress = λ n g before these behind e six un be. five-from h n before these behind e (omega (arith, six)) un be;
         refusals = s .refusals;

@@ -63,14 +63,14 @@ quiet-busy {w = w} a =
     bit-false (alarmStands (w .receiver .phase)) (⊎-elim (λ x. absurd (omega (arith, x .lost))) (λ x. x .0 .alarm) (a .busy .state))
 
 -- what is supposed behind a call
-pub okays-next : {o : Session} {w w′ : World} {l : ℕ} {e : Entry} → Guaranteed o w l e w′ → (n : ℕ) (es : List Entry)
+pub okays-next : {o : Session} {w w′ : World} {e : Entry} → Guaranteed o w e w′ → (n : ℕ) (es : List Entry)
     → Okays o (alarmStands (w .receiver .phase) || isAlarm e) n es → Okays o (alarmStands (w′ .receiver .phase)) n es
 okays-next {o} t n es h = subst (λ (b : Bool). Okays o b n es) (sym (t .alarm)) h
 
 pub okays-same : (o : Session) (alarm : Bool) (n : ℕ) (es : List Entry) → Okays o (alarm || false) n es → Okays o alarm n es
 okays-same o alarm n es h = subst (λ (b : Bool). Okays o b n es) (or-no alarm) h
 
-pub still-open : {o : Session} {w w′ : World} {l : ℕ} (e : Entry) → Guaranteed o w l e w′ → w .receiver .ended ≡ false
+pub still-open : {o : Session} {w w′ : World} (e : Entry) → Guaranteed o w e w′ → w .receiver .ended ≡ false
     → isEnd e ≡ false → w′ .receiver .ended ≡ false
 still-open e t a n = t .ended ∙ ap₂ _||_ a n
 
@@ -147,7 +147,7 @@ module _ (o : Session) (fit : Fit o) where
           (okays-next (z .guaranteed) (danger′ d x) (course w′ cs) (ok .1)) nl ps behind e un (n .1) b
 
       -- the block is read to its last bit: without news the rank is lower
-      lands : (g : During o w d limit (x ∷ course w′ cs)) → Guaranteed o w 0 x w′ → Done o w 0 d (g .copy) (g .line-block) x w′
+      lands : (g : During o w d limit (x ∷ course w′ cs)) → Guaranteed o w x w′ → Done o w 0 d (g .copy) (g .line-block) x w′
           → brought x ≡ false → Between o w′ (danger′ d x) limit
       lands g t v n =
           record {

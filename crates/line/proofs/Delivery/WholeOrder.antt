@@ -21,7 +21,8 @@ use Rattle.line.specs.declared.receiver.Opened as ReceiverOpened
 use Rattle.block.proofs.Lengths.{length-facts}
 use Rattle.block.proofs.Truth.{or-true, or-yes}
 use Rattle.line.proofs.Items.{itemCount-holds, length-orderBits}
-use Rattle.line.proofs.Delivery.Theorem.{by-heard, opened-well, guaranteed}
+use Rattle.line.proofs.Delivery.CallList.{by-heard}
+use Rattle.line.proofs.Delivery.Theorem.{opened-well, guaranteed}
 
 -- the end reported is reported with some length
 length-reported : (l : Option ℕ) → withLength false (λ M. true) l ≡ true → (L : ℕ) × (withLength false (λ M. eqb M L) l ≡ true)
