@@ -88,7 +88,7 @@ impl Buffers {
         let opened = sender::open(self.k, 200, 0, length, &self.order);
         let mut state = tested.state(Sender {
             next: Next::Newer,
-            ..opened.expect("an opening that document 01 accepts")
+            ..opened.expect("an opening that the rules accept")
         });
         for _ in 0..BUFFERS {
             let sent = tested.send(&mut state, &self.order, &mut self.place);

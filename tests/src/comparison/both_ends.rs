@@ -117,7 +117,7 @@ impl<'a, S: SendingEnd, R: ReceivingEnd> Session<'a, S, R> {
             length: order.length,
         };
         let refused = ends.open_sender(opening, &order.bytes, &mut sender)?;
-        assert_eq!(refused, 0, "an opening that document 01 accepts");
+        assert_eq!(refused, 0, "an opening that the rules accept");
         let refused = ends.open_receiver(order.k, &mut receiver)?;
         assert_eq!(refused, 0, "the same k");
         let further = rng.pick(&[0, 0, 1, 40]);

@@ -59,7 +59,7 @@ impl<'a, S: SendingEnd> Session<'a, S> {
         let mut state = BufferPair::random(&mut rng, SENDER_BYTES + further);
         let opening = good_opening(&mut rng, &order);
         let refused = ends.open_sender(opening, &order.bytes, &mut state)?;
-        assert_eq!(refused, 0, "an opening that document 01 accepts");
+        assert_eq!(refused, 0, "an opening that the rules accept");
         let request_percent = rng.pick(&[0, 5, 20, 50, 90, 100]);
         let mut session = Session {
             ends,
@@ -193,7 +193,7 @@ fn count_order(order: &Order, tally: &mut Tally) {
     }
 }
 
-/// An opening that document 01 accepts, its loop often the longest.
+/// An opening that the rules accept, its loop often the longest.
 fn good_opening(rng: &mut Rng, order: &Order) -> Opening {
     let entry = |speed| longest_loop(order.k, speed).map(|longest| (speed, longest));
     let entries: Vec<_> = SPEEDS.into_iter().filter_map(entry).collect();

@@ -1,4 +1,4 @@
-//! Corners of the rules that document 01 fixes without an example.
+//! Corners that the rules fix without an example.
 
 use super::bits::pack;
 use super::block::{assemble, synchronising_block, A, B, C, END};

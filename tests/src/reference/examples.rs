@@ -1,4 +1,4 @@
-//! Every example of document 01, run on the second implementation.
+//! Every example of docs/PROTOCOL.md, run on the second implementation.
 
 use super::bits::{bits_of, number, pack, unpack};
 use super::block::{block_bytes, build_block, check_bits, passes, read_block, Read};

@@ -1,7 +1,8 @@
-//! The second implementation of the order line: document 01 alone, in its order, bit by bit.
+//! The second implementation of the order line: the rules of docs/PROTOCOL.md alone, in their
+//! order, bit by bit.
 //!
-//! Nothing here is fast and nothing is shared with the library under test. Where document 01
-//! leaves a state's layout free, the layout is the one that docs/DECISIONS.md writes down.
+//! Nothing here is fast and nothing is shared with the library under test. Where the rules leave a
+//! state's layout free, the layout is the one that docs/DECISIONS.md writes down.
 
 pub mod bits;
 pub mod block;

@@ -57,7 +57,7 @@ impl From<Receiver> for receiver::Receiver {
 
 impl Receiver {
     /// Takes in line bits up to the next event or to the last; the state is taken by value and
-    /// handed back, as document 01 has each step.
+    /// handed back, as the rules have each step.
     #[inline(never)]
     pub fn receive(mut self, line: &[u8], bits: usize, store: &mut [u8]) -> (Receiver, Received) {
         let received = self.receive_in_place(line, bits, store);
