@@ -18,27 +18,20 @@ use Rattle.line.specs.declared.sender.Next.the-variants.{Newer}
 use Rattle.line.specs.declared.receiving.Event.the-variants as E
 use Rattle.line.specs.declared.receiving.Phase.the-variants as P
 use Rattle.witness.proofs.Meets.{meets}
-use Rattle.witness.proofs.PeriodRows.{Row, allCalls, trace, sender, receiver, bad, period, damaged}
-use Rattle.witness.proofs.TwoItems.{order, content, block, initialStore, one, w₀, synchronised, accepted}
+use Rattle.witness.proofs.PeriodRows.{Row, allCalls, trace, sender, receiver, bad, period}
+use Rattle.witness.proofs.TwoItems.{order, content, block, initialStore, one, w₀, synchronised, accepted, asks}
 
 -- ---- rule 6
 
--- item 1 is damaged
-abbrev asks : List Row
-asks =
-    synchronised
-    ∷ accepted
-    ∷ period order one one false (damaged (block 1)) (item 1 false true false) false false E.Bad
-    (sender 480 2 0 false Newer false) (bad 1 1)
-    ∷ []
-
--- and its request lost: the end block brings the length alarm
+-- Item 1 is damaged and its request lost: the end block brings the length alarm.
 abbrev pub alarms : List Row
 alarms =
-    asks
-    ++ (period order one one false (block 2) (item 2 true true false) true true E.LengthAlarm
+    synchronised
+    ∷ accepted
+    ∷ asks
+    ∷ period order one one false (block 2) (item 2 true true false) true true E.LengthAlarm
     (sender 480 3 0 false Newer false) (receiver 0 true 1 false P.LengthAlarm)
-    ∷ [])
+    ∷ []
 
 pub alarms-computed : trace w₀ alarms ≡ alarms
 unfolding trace
@@ -57,7 +50,7 @@ anyLengthRule ended payload =
 
 -- the same calls but the last; none of them reads an end block
 abbrev calls : List Call
-calls = allCalls asks ++ (sending order false (replicate 33 0) (block 2) ∷ [])
+calls = allCalls (synchronised ∷ accepted ∷ asks ∷ []) ++ (sending order false (replicate 33 0) (block 2) ∷ [])
 
 abbrev w : World
 w = final w₀ calls
@@ -90,7 +83,7 @@ pub any-length-stored : anyLengthFinal .store ≡ one
 unfolding trace
 any-length-stored = refl
 
--- so demand 3 fails: one item is accepted, and the order makes two
+-- so a guarantee fails: with the end reported, one item is accepted, and the order makes two
 pub any-length-fails : Guarantees 240 480 content initialStore anyLength anyLengthFinal → ⊥
 unfolding trace
 any-length-fails g = let items = g .ended 480 refl .0 in omega arith

@@ -13,7 +13,7 @@ use Rattle.line.specs.LoopTime.{isSpeed, blockTime, hasEntry, longestLoop, loop
 use Rattle.line.specs.Sending.{synchronising, item, freshSender, openSender, OpenSender}
 use Rattle.line.specs.Receiving.{openReceiver, OpenReceiver}
 use Rattle.line.specs.Course.{World, opened, course, final}
-use Rattle.line.specs.Delivery.{some, isLost, reportsEnd, Assumptions}
+use Rattle.line.specs.Delivery.{some, isLost, reportsEnd, Assumptions, Guarantees}
 use Rattle.line.specs.declared.sender.Opened.the-variants as SenderOpened
 use Rattle.line.specs.declared.sender.Next.the-variants.{Older, Newer}
 use Rattle.line.specs.declared.receiver.Receiver.{Receiver}
@@ -71,7 +71,7 @@ pub joins-meets : Assumptions 240 content (course w₁ (allCalls joins)) × (som
 unfolding trace
 joins-meets = (meets 240 content (course w₁ (allCalls joins)) refl, refl)
 
--- of the openings too, but the receiver's
+-- of the openings too, at 200 bit/s with loop 0; but the receiver is not one just opened
 pub joins-opened : OpenSender 240 200 0 480 order (SenderOpened.Opened (w₁ .sender)) × (itemCount 240 480 * 240 ≤ 8 * length (w₁ .store))
 unfolding trace openSender loopTime isSpeed hasEntry longestLoop blockTime
 joins-opened = (record { answers = refl }, omega arith)
@@ -96,3 +96,8 @@ joins-neither = (
   λ e. let byte : _≡_ {A = ℕ} 4 2 = ap (λ (s : List ℕ). getD s 30 0) e in omega arith,
   λ e. let byte : _≡_ {A = ℕ} 1 3 = ap (λ (s : List ℕ). getD s 0 0) e in omega arith,
 )
+
+-- so a guarantee fails: with the end reported, one item is accepted, and the order makes two
+pub joins-fails : Guarantees 240 480 content (w₁ .store) (course w₁ (allCalls joins)) (final w₁ (allCalls joins)) → ⊥
+unfolding trace
+joins-fails g = let items = g .ended 480 refl .0 in omega arith
