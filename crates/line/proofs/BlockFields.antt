@@ -16,8 +16,8 @@ use Rattle.block.specs.Lengths.{isLength, blockLength}
 use Rattle.block.specs.Block.{serviceOf, serviceSync, syncSequence}
 use Rattle.block.proofs.Lengths.{length-facts}
 use Rattle.block.proofs.Packing.{service-number, block-parts}
-use Rattle.line.specs.Order.{longestOrder, validLength, itemCount, version}
-use Rattle.line.specs.Receiving.{Rule, ends, wrong-length, lengthRule, endRule, looksSync}
+use Rattle.line.specs.Order.{longestOrder, validLength, version}
+use Rattle.line.specs.Receiving.{Rule, ends, wrong-length, makesItems, lengthRule, endRule, looksSync}
 
 -- one byte more of a number
 byte-more : (c x : ℕ) (s : List ℕ) → x < 256 → numberFrom c (bitsOf (x ∷ s)) ≡ numberFrom (c * 256 + x) (bitsOf s)
@@ -68,12 +68,12 @@ module _ (k r L : ℕ) where
   unfolding validLength
   length-long h = rw (lt-leb L longestOrder h, and-false (leb 1 L))
 
-  pub length-other : (itemCount k L ≡ r → ⊥) → lengthRule k r true L ≡ wrong-length
-  length-other h = rw (ne-eqb (itemCount k L) r h, and-false (validLength L))
+  pub length-other : makesItems k L r ≡ false → lengthRule k r true L ≡ wrong-length
+  length-other e = rw (e, and-false (validLength L))
 
-  pub length-valid : 1 ≤ L → L ≤ longestOrder → itemCount k L ≡ r → lengthRule k r true L ≡ ends L
+  pub length-valid : 1 ≤ L → L ≤ longestOrder → makesItems k L r ≡ true → lengthRule k r true L ≡ ends L
   unfolding validLength
-  length-valid h g e = rw (eq-eqb (itemCount k L) r e, le-leb 1 L h, le-leb L longestOrder g)
+  length-valid h g e = rw (e, le-leb 1 L h, le-leb L longestOrder g)
 
   module _ (ended : Bool) (s : List ℕ) (h : 5 ≤ length s) (b : getD s 0 0 < 256) (open-end : ended ≡ false) (v : getD s 0 0 ≡ version)
       (l : L ≡ number (take 32 (drop 8 (bitsOf s)))) where

@@ -147,9 +147,13 @@ letterRule r last = previous
 letterRule r next = out-of-sequence
 letterRule r other = anything-else
 
+-- L makes r items
+abbrev pub makesItems : ℕ → ℕ → ℕ → Bool
+makesItems k L r = eqb (itemCount k L) r
+
 -- rule 6: the version, L in 1 to the longest order, and L makes r items
 abbrev pub lengthRule : ℕ → ℕ → Bool → ℕ → Rule
-lengthRule k r known L = cond (known && validLength L && eqb (itemCount k L) r) (ends L) wrong-length
+lengthRule k r known L = cond (known && validLength L && makesItems k L r) (ends L) wrong-length
 
 unfoldable pub endRule : ℕ → ℕ → Bool → Bits → Rule
 endRule k r ended payload =

@@ -7,8 +7,8 @@ ghost use lib.ListN.{length, take, drop};
 ghost use Rattle.crc.specs.Bits.{number, bitsOf};
 ghost use Rattle.block.specs.Lengths.{isLength, blockLength};
 ghost use Rattle.block.specs.Block.{payloadOf};
-ghost use Rattle.line.specs.Order.{mostItems, letter, isLetter};
-ghost use Rattle.line.specs.Receiving.{looksSync, place, letterRule, endRule, serviceRule};
+ghost use Rattle.line.specs.Order.{longestOrder, mostItems, letter, isLetter};
+ghost use Rattle.line.specs.Receiving.{looksSync, place, letterRule, makesItems, endRule, serviceRule};
 ghost use Rattle.line.specs.Code.ReceiveSteps.{ruleOf};
 use crate::order::END;
 use crate::order::LETTER_A;
@@ -94,6 +94,13 @@ fn end_length(payload: &[u8]) -> usize
     high * 65536 + low
 }
 
+fn makes_items(k: usize, bits: usize, taken: usize) -> bool
+    requires { ⌜ (isLength k ≡ true) × (bits ≤ longestOrder) ⌝ }
+    ensures { λ r. ⌜ r ≡ makesItems k bits taken ⌝ }
+{
+    item_count(k, bits) == taken
+}
+
 fn end_rule(k: usize, taken: usize, ended: bool, payload: &[u8]) -> Rule
     requires { ⌜ (isLength k ≡ true) × (5 ≤ length (now payload)) ⌝ }
     ensures { λ r. ⌜ ruleOf r ≡ endRule k taken ended (bitsOf (now (payload .entry))) ⌝ }
@@ -111,10 +118,10 @@ fn end_rule(k: usize, taken: usize, ended: bool, payload: &[u8]) -> Rule
     if LONGEST_ORDER < bits {
         return Rule::WrongLength;
     }
-    if item_count(k, bits) != taken {
-        return Rule::WrongLength;
+    if makes_items(k, bits, taken) {
+        return Rule::Ends(bits);
     }
-    Rule::Ends(bits)
+    Rule::WrongLength
 }
 
 // By the service bits; of an end block's data the version and the length are moved out.

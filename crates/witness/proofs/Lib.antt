@@ -1,5 +1,7 @@
 -- Computed witnesses. The receiving end's corner cases: Corners; a call in pieces: Pieces; the sending end: Sends. How a list
--- of calls is written and judged: Meets, PeriodRows, TwoItems. Lists: Example, Repeats, Losses, Moved, FourPeriods.
+-- of calls is written and judged: Meets, PeriodRows, TwoItems. Lists that meet all that demand 3 supposes: Example, Repeats,
+-- Losses. Why a good block between two losses is needed: Moved; why the machine is opened anew: NotOpened; why an end block
+-- is not taken without its length: EndLength; why four undisturbed periods do not suffice: FourPeriods.
 pub mod Corners
 pub mod Pieces
 pub mod Sends
@@ -10,4 +12,6 @@ pub mod Example
 pub mod Repeats
 pub mod Losses
 pub mod Moved
+pub mod NotOpened
+pub mod EndLength
 pub mod FourPeriods

@@ -13,23 +13,17 @@ use Rattle.line.specs.declared.sender.Next.the-variants.{Sync, Older, Newer}
 use Rattle.line.specs.declared.receiving.Event.the-variants as E
 use Rattle.line.specs.declared.receiving.Phase.the-variants as P
 use Rattle.witness.proofs.Meets.{meets}
-use Rattle.witness.proofs.PeriodRows.{Row, allCalls, trace, sender, receiver, good, bad, period, damaged}
-use Rattle.witness.proofs.TwoItems.{order, content, block, one, two, w₀, synchronised, accepted, cancels, fails, resynchronises, ends}
+use Rattle.witness.proofs.PeriodRows.{Row, allCalls, trace, sender, receiver, good, bad, period}
+use Rattle.witness.proofs.TwoItems.{order, content, block, one, two, w₀, synchronised, accepted, asks, cancels, fails, resynchronises, ends}
 
 -- Item 1 is damaged, and the next block is cancelled.
-abbrev asks : List Row
-asks =
-    synchronised
-    ∷ accepted
-    ∷ period order one one false (damaged (block 1)) (item 1 false true false) false false E.Bad
-    (sender 480 2 0 false Newer false) (bad 1 1)
-    ∷ cancels one true 1 Older (bad 2 1)
-    ∷ []
+abbrev asked : List Row
+asked = synchronised ∷ accepted ∷ asks ∷ cancels one true 1 Older (bad 2 1) ∷ []
 
 -- Item 1 is repeated.
 abbrev pub repeats : List Row
 repeats =
-    asks
+    asked
     ++ (period order one two true (block 1) (item 1 false false false) true true E.Accepted
     (sender 480 2 1 false Newer false) (good 2 false)
     ∷ ends false
@@ -49,7 +43,7 @@ repeats-meets = meets 240 content (course w₀ (allCalls repeats)) refl
 -- finds the next synchronising block.
 abbrev pub searches : List Row
 searches =
-    asks
+    asked
     ++ (fails one 1 (bad 3 1)
     ∷ cancels one true 2 Older (bad 4 1)
     ∷ fails one 2 (bad 5 1)

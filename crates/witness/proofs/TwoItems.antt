@@ -15,7 +15,7 @@ use Rattle.line.specs.declared.sender.Next.the-variants.{Sync, Older, Newer}
 use Rattle.line.specs.declared.receiver.Receiver.{Receiver}
 use Rattle.line.specs.declared.receiving.Event.the-variants as E
 use Rattle.line.specs.declared.receiving.Phase.the-variants as P
-use Rattle.witness.proofs.PeriodRows.{Row, sender, receiver, good, period, damaged}
+use Rattle.witness.proofs.PeriodRows.{Row, sender, receiver, good, bad, period, damaged}
 
 abbrev pub order : List ℕ
 order = replicate 30 1 ++ replicate 30 2
@@ -49,6 +49,12 @@ abbrev pub accepted : Row
 accepted =
     period order initialStore one false (block 0) (item 0 false false false) false true E.Accepted
     (sender 480 1 0 true Newer false) (good 1 false)
+
+-- item 1 is damaged, and asked for again
+abbrev pub asks : Row
+asks =
+    period order one one false (damaged (block 1)) (item 1 false true false) false false E.Bad
+    (sender 480 2 0 false Newer false) (bad 1 1)
 
 -- item 2 is cancelled: the store, the return bit then standing, the run, what is next, and the receiver afterwards
 abbrev pub cancels : List ℕ → Bool → ℕ → Next → Receiver → Row

@@ -18,7 +18,7 @@ use Rattle.block.specs.Block.{serviceOf, payloadOf, Verdict, passed, failed, ve
 use Rattle.block.proofs.Block.{length-syncBlock}
 use Rattle.block.proofs.Truth.{cond-case, either, bit-false}
 use Rattle.line.specs.Order.{longestOrder, mostItems, validLength, itemCount, letter, isLetter, endService, version, endPayload, itemService, itemPayload, itemBits}
-use Rattle.line.specs.Receiving.{Rule, sync-block, check-fails, accepts, previous, out-of-sequence, ends, wrong-length, ends-again, anything-else, meaning, Place, expected, last, next, other, place, letterRule, endRule, serviceRule, verdictRule, looksSync, judge}
+use Rattle.line.specs.Receiving.{Rule, sync-block, check-fails, accepts, previous, out-of-sequence, ends, wrong-length, ends-again, anything-else, meaning, Place, expected, last, next, other, place, letterRule, makesItems, endRule, serviceRule, verdictRule, looksSync, judge}
 use Rattle.line.proofs.ServiceBits.{letter-isLetter, letter-not-sync, place-expected, place-last, place-next}
 use Rattle.line.proofs.Items.{itemService-data, itemService-end, itemPayload-end, service-itemBits, payload-itemBits, passes-itemBits}
 use Rattle.line.proofs.Delivery.Ends.{Neighbour}
@@ -74,7 +74,7 @@ module _ (k L : ℕ) where
   end-read r ended i low high h =
       cond-case (Unharmed k L r ended i) ended (end-again h)
       (λ e. rw (end-version, end-length high, le-leb 1 L low, le-leb L longestOrder high)
-      (cond-case (Unharmed k L r ended i) (eqb (itemCount k L) r) (λ c. end-all h e (sym (eqb-true (itemCount k L) r c)))
+      (cond-case (Unharmed k L r ended i) (makesItems k L r) (λ c. end-all h e (sym (eqb-true (itemCount k L) r c)))
       (λ c. end-short h e (λ m. eqb-false (itemCount k L) r c (sym m)))))
 
 module _ (k L : ℕ) (content : Bits) (known : isLength k ≡ true) (low : 1 ≤ L) (high : L ≤ longestOrder)
@@ -160,8 +160,8 @@ module _ (P : Rule → Type 0) (some : (x : Rule) → meaning x .data-or-end ≡
   end-case payload =
       cond-case P ended (λ e. some _ refl)
       (λ e. cond-case P
-      (eqb (number (take 8 payload)) version && validLength (number (take 32 (drop 8 payload))) && eqb
-      (itemCount k (number (take 32 (drop 8 payload)))) r)
+      (eqb (number (take 8 payload)) version && validLength (number (take 32 (drop 8 payload))) && makesItems k
+      (number (take 32 (drop 8 payload))) r)
       (λ e. some _ refl) (λ e. some _ refl))
 
   pub service-case : (service : ℕ) (payload : Bits) → P (serviceRule k r ended service payload)

@@ -41,16 +41,16 @@ returns-3 c = read-length (c .before) _ (length-zero _ _ _ (c .if3 .taken))
 returns-4 : tie.Need-returns-4
 returns-4 c = read-length (c .before .before) _ (length-long _ _ _ (c .if4 .taken))
 
-item-count-requires : tie.Need-item-count-requires
-item-count-requires c κs = search needs
+makes-items-requires : tie.Need-makes-items-requires
+makes-items-requires c κs = search needs
 
 returns-5 : tie.Need-returns-5
-returns-5 c = read-length (c .before .before .before .before) _ (length-other _ _ _ (λ e. c .if5 .taken (c .before .item-count .ensures ∙ e)))
+returns-5 c =
+    read-length (c .before .before .before .before) _
+    (length-valid _ _ _ (omega arith) (c .before .before .if4 .left) (sym (c .before .makes-items .ensures) ∙ c .if5 .taken))
 
 returns-6 : tie.Need-returns-6
-returns-6 c =
-    read-length (c .before .before .before .before) _
-    (length-valid _ _ _ (omega arith) (c .before .before .if4 .left) (sym (c .before .item-count .ensures) ∙ c .if5 .left))
+returns-6 c = read-length (c .before .before .before .before) _ (length-other _ _ _ (sym (c .before .makes-items .ensures) ∙ c .if5 .left))
 
 pub end-rule-spec : {M : Type 1} → statement M
 end-rule-spec =
@@ -62,6 +62,6 @@ end-rule-spec =
     end-length-requires
     returns-3
     returns-4
-    item-count-requires
+    makes-items-requires
     returns-5
     returns-6)
