@@ -1,5 +1,5 @@
--- Why a good block between two losses is needed: document 01's list, which meets all else, and stores item 4 as item 1.
--- Assumes nothing.
+-- Why a good block between two losses is needed: the list of docs/PROTOCOL.md, which meets all else and stores item 4 as
+-- item 1. Assumes nothing.
 use mathlib.Core.Path.{_≡_, refl}
 use mathlib.Core.Bool.{true, false}
 use mathlib.Core.List.{List, [], _∷_, _++_}
