@@ -11,10 +11,17 @@ const HEAD_BYTES: usize = 16;
 pub const SENDER_BYTES: usize = HEAD_BYTES;
 pub const RECEIVER_BYTES: usize = HEAD_BYTES + HELD_BYTES;
 
+/// 1.0.0.
+pub const VERSION: u32 = 0x01_00_00;
+
 /// What `sender_rest` answers besides 7.
-pub const GOING_ON: u8 = 0;
-pub const FINISHED: u8 = 1;
-pub const GAVE_UP: u8 = 2;
+pub const GOING_ON: u8 = 80;
+pub const FINISHED: u8 = 81;
+pub const GAVE_UP: u8 = 82;
+
+/// What `return_bit` answers besides 7.
+pub const RETURN_0: u8 = 96;
+pub const RETURN_1: u8 = 97;
 
 /// The events' numbers; those of the refusals stay below them.
 pub const EVENT_NONE: u8 = 64;

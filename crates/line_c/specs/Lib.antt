@@ -2,3 +2,4 @@ pub mod State
 pub mod BlockCalls
 pub mod SenderCalls
 pub mod ReceiverCalls
+pub mod Version

@@ -5,8 +5,9 @@
 //! library built, for `crc_hqx.py`.
 
 use order_line_tests::comparison::{block, both_ends, loop_time, receiver, sender, session};
-use order_line_tests::comparison::{Difference, Tally};
-use order_line_tests::link::Library;
+use order_line_tests::comparison::{same, Difference, Tally};
+use order_line_tests::interface::VERSION;
+use order_line_tests::link::{self, Library};
 use order_line_tests::program::Program;
 use std::process::ExitCode;
 use std::{env, fs};
@@ -58,7 +59,8 @@ fn main() -> ExitCode {
 }
 
 fn run_groups(wanted: impl Fn(&str) -> bool) -> Result<(), String> {
-    println!("seed {SEED}");
+    same(&|| String::from("version"), &VERSION, &link::version())?;
+    println!("version {VERSION:#08x}, seed {SEED}");
     for (name, run) in GROUPS.into_iter().filter(|group| wanted(group.0)) {
         report(name, run())?;
     }

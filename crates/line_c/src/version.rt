@@ -1,0 +1,16 @@
+// The version of this library: its layouts, numbers, signatures and promises. docs/VERSION.md says what may change with which
+// of its three numbers.
+ghost use Rattle.line_c.specs.Version.{VersionCall};
+
+pub const MAJOR: u32 = 1;
+
+pub const MINOR: u32 = 0;
+
+pub const PATCH: u32 = 0;
+
+#[no_mangle]
+pub extern "C" fn order_line_version() -> u32
+    ensures { λ r. ⌜ VersionCall r ⌝ }
+{
+    MAJOR * 65536 + MINOR * 256 + PATCH
+}
