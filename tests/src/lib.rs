@@ -7,6 +7,8 @@ pub mod damage;
 pub mod delivery;
 #[cfg(feature = "fuzz")]
 mod fuzz;
+#[cfg(test)]
+mod header;
 pub mod interface;
 #[cfg(feature = "linked")]
 pub mod link;

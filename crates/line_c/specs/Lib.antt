@@ -3,3 +3,4 @@ pub mod BlockCalls
 pub mod SenderCalls
 pub mod ReceiverCalls
 pub mod Version
+pub mod Refused
