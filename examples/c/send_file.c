@@ -299,12 +299,13 @@ int main(int argc, char **argv)
     static struct machine machine;
     const char *path = argc > 1 ? argv[1] : "README.md";
     size_t k = argc > 2 ? (size_t)strtoul(argv[2], NULL, 10) : 240;
-    FILE *file = fopen(path, "rb");
+    FILE *file;
 
     if (order_line_version() != ORDER_LINE_VERSION) {
         fputs("the library is of another version than the header\n", stderr);
         return 2;
     }
+    file = fopen(path, "rb");
     if (file == NULL) {
         perror(path);
         return 2;

@@ -1,5 +1,4 @@
-// The version of this library: its layouts, numbers, signatures and promises. docs/VERSION.md says what may change with which
-// of its three numbers.
+// The version of the library; docs/VERSION.md says what it promises.
 ghost use Rattle.line_c.specs.Version.{VersionCall};
 
 pub const MAJOR: u32 = 1;

@@ -48,8 +48,8 @@ pub fn read_block(k: usize, block: &[u8], payload: &mut [u8]) -> Result<Read, Re
     };
     match answer {
         FAILED => Ok(Read::Failed),
-        passed if passed & PASSED != 0 => Ok(Read::Passed {
-            service: (passed - PASSED) as u8,
+        passed if passed & !15 == PASSED => Ok(Read::Passed {
+            service: (passed & 15) as u8,
         }),
         refusal => Err(Refusal::of(refusal.into())),
     }

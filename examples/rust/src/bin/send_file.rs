@@ -281,6 +281,10 @@ fn run_session(k: usize, order: Vec<u8>) -> Result<bool, Refusal> {
 }
 
 fn main() -> ExitCode {
+    if order_line::version() != order_line::VERSION {
+        eprintln!("the library is of another version than the wrapper");
+        return ExitCode::from(2);
+    }
     let mut arguments = env::args().skip(1);
     let path = arguments.next().unwrap_or("README.md".to_string());
     // What is no number is refused as block length 0.
