@@ -40,7 +40,8 @@ pub struct Sender {
 }
 
 impl Sender {
-    /// For an order of `length` bits. **A new order needs both ends opened anew**: see [`Receiver::open`](crate::Receiver::open).
+    /// For an order of `length` bits. **A new order needs both ends opened anew**: see
+    /// [`Receiver::open`](crate::Receiver::open).
     pub fn open(
         k: usize,
         speed: u32,
