@@ -6,8 +6,6 @@
 
 #include <assert.h>
 
-static_assert(ORDER_LINE_VERSION == 1u * 65536 + 0u * 256 + 0u, "1.0.0");
-
 static_assert(ORDER_LINE_STORE_BYTES(240) == 32790, "1,093 items of 30 bytes");
 static_assert(ORDER_LINE_STORE_BYTES(480) == 32820, "547 items of 60 bytes");
 static_assert(ORDER_LINE_STORE_BYTES(960) == 32880, "274 items of 120 bytes");

@@ -109,6 +109,16 @@ fn the_header_and_the_wrapper_have_the_same_numbers() {
     assert_eq!(header, constants("examples/rust/src/numbers.rs"));
 }
 
+#[test]
+fn the_page_and_the_package_have_the_version_of_the_header() {
+    let version = header_numbers()["VERSION"];
+    let (major, minor, patch) = (version >> 16, version >> 8 & 255, version & 255);
+    let row = format!("| Version | {major}.{minor}.{patch} |\n");
+    assert!(text("docs/VERSION.md").contains(&row), "{row}");
+    let line = format!("version = \"{major}.{minor}.{patch}\"\n");
+    assert!(text("examples/rust/Cargo.toml").contains(&line), "{line}");
+}
+
 /// With `interface.rs` the library itself is compared, so its numbers are the header's.
 #[test]
 fn the_header_has_the_numbers_that_are_compared_with_the_library() {
