@@ -9,11 +9,17 @@
  *   - no other thread touches what is lent while the call runs.
  * Nothing else is asked: any bytes, any numbers. The library keeps nothing between calls and allocates nothing.
  *
+ * A number of bytes is the size of what the pointer points to. Of an array that was passed on as a pointer, sizeof gives
+ * the pointer's own size: write ORDER_LINE_RECEIVER_BYTES, ORDER_LINE_STORE_BYTES(k) and so on instead, or hand the size
+ * on beside the pointer.
+ *
+ * libline_c.a is for x86-64 and the System V calling convention; the toolchain compiles for no other processor today.
+ * Its calls use vector registers, and may use the 128 bytes below the stack pointer (the red zone). So an interrupt
+ * handler that makes a call must save the vector registers before it and restore them after it, and no call may run on a
+ * stack on which an interrupt, or anything else, may overwrite those 128 bytes.
+ *
  * Bits are packed into bytes, the earliest in the top bit. k is the number of data bits of a block: 240, 480, 960 or
  * 3840; a block has n = k + 20 bits.
- *
- * A refused call returns one of the numbers ORDER_LINE_REFUSED_*, writes no byte and no number, and leaves the state's
- * bytes as they were.
  */
 #ifndef ORDER_LINE_H
 #define ORDER_LINE_H
@@ -26,8 +32,29 @@
 extern "C" {
 #endif
 
-/* ---- refusals: the numbers of the paper, "What the ends turn away" ---- */
+/* ---- the version ---- */
 
+/*
+ * Version 1.0.0: major * 65536 + minor * 256 + patch. A later version with the same major number keeps the layouts, the
+ * numbers, the signatures and the promises of this one (docs/VERSION.md). order_line_version returns the version of the
+ * library; the two differ where a header and a library of different versions were brought together.
+ */
+#define ORDER_LINE_VERSION 0x010000u
+
+uint32_t order_line_version(void);
+
+/* ---- what a call returns ---- */
+
+/*
+ * In every version: 0, done; 1 to 63, refused; 64 to 79, an event; 80 to 95, whether a sender sends on; 96 and 97, a
+ * return bit; from 0x100 on, what was sent or read.
+ *
+ * A refused call writes no byte and no number, and leaves the state's bytes as they were. ORDER_LINE_IS_REFUSED says
+ * whether a call was refused, whichever call it was.
+ */
+#define ORDER_LINE_IS_REFUSED(answer) ((answer) - 1u < 63u)
+
+/* The refusals: the numbers of the paper, "What the ends turn away". */
 #define ORDER_LINE_REFUSED_BLOCK 1   /* k is not one of the four */
 #define ORDER_LINE_REFUSED_SPEED 2   /* not one of 200, 600, 1200, 2400, 3600, 4800 bit/s */
 #define ORDER_LINE_REFUSED_LOOP 3    /* a loop above the table's entry, or no entry */
@@ -45,9 +72,14 @@ extern "C" {
 #define ORDER_LINE_PAYLOAD_BYTES(k) ((k) / 8)   /* the data of one block: 30, 60, 120 or 480 */
 #define ORDER_LINE_BLOCK_BYTES(k) ((k) / 8 + 3) /* a packed block: 33, 63, 123 or 483 */
 
+/* A store with room for any order at this k: 32790, 32820, 32880 or 33120. */
+#define ORDER_LINE_STORE_BYTES(k) ((ORDER_LINE_LONGEST_ORDER + (k) - 1) / (k) * ORDER_LINE_PAYLOAD_BYTES(k))
+
 /*
  * The states stand in bytes of the caller's, at any alignment. More bytes than these may be lent; the further ones stay
- * as they are. A later version puts new fields at the end, and these sizes then grow.
+ * as they are. Fewer are refused SHORT (6) by an opening, since they are what it writes, and SPOILED (7) by the other
+ * calls, since they hold no state. A version with another major number may put new fields at the end, and these sizes
+ * then grow.
  *
  * A sender, numbers little-endian: k, 4 bytes; the order's length in bits, 4; the newer item, 4; the run of cancels, 1;
  * opening, 1 (0 or 1); what goes out next, 1 (0 a synchronising block, 1 the older item, 2 the newer); finished, 1.
@@ -91,6 +123,11 @@ uint16_t order_line_read_block(size_t k, const uint8_t *block, size_t block_byte
 /*
  * Opens a sender for an order of length bits, 1 to ORDER_LINE_LONGEST_ORDER, on a line with this speed and loop time,
  * and writes it over the first ORDER_LINE_SENDER_BYTES bytes of state. Returns 0.
+ *
+ * A NEW ORDER NEEDS BOTH ENDS OPENED ANEW, the machine's receiver too. Nothing in the blocks tells one order from the
+ * next: A MACHINE THAT IS NOT OPENED ANEW MAY JOIN THE NEW ORDER'S ITEMS TO THE OLD ONES AND REPORT THE END (see
+ * order_line_open_receiver).
+ *
  * Refused: BLOCK, SPEED, LOOP, EMPTY, LONG, SHORT (order has fewer than length bits; state is too short), in this order.
  */
 uint8_t order_line_open_sender(size_t k, uint32_t speed, uint32_t loop_ms, size_t length, const uint8_t *order,
@@ -100,7 +137,7 @@ uint8_t order_line_open_sender(size_t k, uint32_t speed, uint32_t loop_ms, size_
  * Sends one block: writes it over the first ORDER_LINE_BLOCK_BYTES(k) bytes of block, and the sender's next state over
  * state. The order is lent whole at each call. reading is the return channel's reading for this block period: true asks
  * for a repeat. Returns ORDER_LINE_SENT with the marks below.
- * Refused: SPOILED, REST, SHORT (order or block), in this order.
+ * Refused: SPOILED (also a state that is too short), REST, SHORT (order or block), in this order.
  */
 uint32_t order_line_send(uint8_t *state, size_t state_bytes, const uint8_t *order, size_t order_bytes, bool reading,
                          uint8_t *block, size_t block_bytes);
@@ -115,18 +152,24 @@ uint32_t order_line_send(uint8_t *state, size_t state_bytes, const uint8_t *orde
 
 /*
  * Whether a sender sends on: ORDER_LINE_GOING_ON, ORDER_LINE_FINISHED (all items are confirmed) or ORDER_LINE_GAVE_UP
- * (64 cancels in a row). Refused: SPOILED.
+ * (64 cancels in a row). Refused: SPOILED (also a state that is too short).
  */
 uint8_t order_line_sender_rest(const uint8_t *state, size_t state_bytes);
 
-#define ORDER_LINE_GOING_ON 0
-#define ORDER_LINE_FINISHED 1
-#define ORDER_LINE_GAVE_UP 2
+#define ORDER_LINE_GOING_ON 80
+#define ORDER_LINE_FINISHED 81
+#define ORDER_LINE_GAVE_UP 82
 
 /* ---- the receiving end ---- */
 
 /*
  * Opens a receiver, in search with return bit 1, over the first ORDER_LINE_RECEIVER_BYTES bytes of state. Returns 0.
+ *
+ * A NEW ORDER NEEDS BOTH ENDS OPENED ANEW, the office's sender too, also after a session that broke off. Nothing in the
+ * blocks tells one order from the next. A MACHINE THAT IS NOT OPENED ANEW MAY JOIN THE NEW ORDER'S ITEMS TO THE OLD ONES
+ * AND REPORT THE END: after item 0 of two, a new order of the same length is answered sync, previous, accepted, ended,
+ * and the store holds the old item 0 and the new item 1.
+ *
  * Refused: BLOCK, SHORT (state is too short).
  */
 uint8_t order_line_open_receiver(size_t k, uint8_t *state, size_t state_bytes);
@@ -136,15 +179,15 @@ uint8_t order_line_open_receiver(size_t k, uint8_t *state, size_t state_bytes);
  * *used becomes the number of bits taken; the rest is to be lent again. An accepted block's k bits go to the store at
  * bit k times the items taken before; *length becomes the order's length in bits with ORDER_LINE_EVENT_ENDED, and stays
  * as it is otherwise. The store is the same at each call; for an order of L bits it wants L bits rounded up to a
- * multiple of k. bits may be 0: nothing changes, and a standing alarm is reported.
- * Refused: SPOILED, SHORT (line has fewer than `bits` bits; or a block would be accepted and the store cannot hold it: then
- * no bit is used, and the call may be made again with a longer store).
- * ORDER_LINE_IS_EVENT(answer) says whether what was returned is an event; if not, it is a refusal.
+ * multiple of k, at most ORDER_LINE_STORE_BYTES(k) bytes. bits may be 0: nothing changes, and a standing alarm is
+ * reported.
+ * Refused: SPOILED (also a state that is too short), SHORT (line has fewer than `bits` bits; or a block would be
+ * accepted and the store cannot hold it: then no bit is used, and the call may be made again with a longer store).
  */
 uint8_t order_line_receive(uint8_t *state, size_t state_bytes, const uint8_t *line, size_t line_bytes, size_t bits,
                            uint8_t *store, size_t store_bytes, size_t *used, size_t *length);
 
-/* The events; their numbers are this library's own. Refusals stay below 64, in every later version too. */
+/* The events; their numbers are this library's own. */
 #define ORDER_LINE_EVENT_NONE 64           /* all bits were used without an event */
 #define ORDER_LINE_EVENT_SYNC 65           /* a synchronising block, or its last 16 bits in search */
 #define ORDER_LINE_EVENT_BAD 66            /* the check failed, or the block fits nowhere */
@@ -154,12 +197,18 @@ uint8_t order_line_receive(uint8_t *state, size_t state_bytes, const uint8_t *li
 #define ORDER_LINE_EVENT_LENGTH_ALARM 70   /* an end block with another length; stands likewise */
 #define ORDER_LINE_EVENT_ENDED 71          /* the end: the whole order is in the store, and its length is reported */
 
-#define ORDER_LINE_IS_EVENT(answer) ((answer) >= ORDER_LINE_EVENT_NONE)
+#define ORDER_LINE_IS_EVENT(answer) ((answer) - 64u < 16u) /* what order_line_receive returned is an event, no refusal */
 
 /*
- * The return bit that the machine now sends back: 0, or 1 to ask for a repeat. Refused: SPOILED.
+ * The return bit that the machine now sends back: ORDER_LINE_RETURN_0, or ORDER_LINE_RETURN_1 to ask for a repeat.
+ * Refused: SPOILED (also a state that is too short).
  */
 uint8_t order_line_return_bit(const uint8_t *state, size_t state_bytes);
+
+#define ORDER_LINE_RETURN_0 96
+#define ORDER_LINE_RETURN_1 97
+
+#define ORDER_LINE_RETURN_BIT(answer) ((answer) & 1) /* 0 or 1; of the refusal SPOILED, which is 7, it is 1 too */
 
 #ifdef __cplusplus
 }

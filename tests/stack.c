@@ -35,6 +35,7 @@ static void receive(void)
     answer = order_line_receive(receiver, sizeof receiver, line, sizeof line, bits, store, sizeof store, &used, &length);
 }
 static void return_bit(void) { answer = order_line_return_bit(receiver, sizeof receiver); }
+static void version(void) { answer = order_line_version(); }
 
 static uint8_t stack[1 << 16];
 
@@ -81,7 +82,7 @@ static bool session(size_t most, size_t *sending, size_t *receiving)
     open_sender();
     open_receiver();
     length = 0;
-    for (int period = 0; period < ITEMS + 4 && order_line_sender_rest(sender, sizeof sender) == 0; period++) {
+    for (int period = 0; period < ITEMS + 4 && order_line_sender_rest(sender, sizeof sender) == ORDER_LINE_GOING_ON; period++) {
         deepen(sending, send);
         size_t n = k + 20;
         for (size_t at = 0; at < n; at += bits) {
@@ -100,10 +101,10 @@ static bool session(size_t most, size_t *sending, size_t *receiving)
 int main(void)
 {
     static const size_t lengths[] = {240, 480, 960, 3840}, pieces[] = {3860, 64, 1};
-    size_t sending = 0, receiving = 0, others[7] = {0};
-    static void (*const calls[7])(void) = {loop_time, build, read, open_sender, rest, open_receiver, return_bit};
-    static const char *const names[7] = {"loop_time",   "build_block",   "read_block", "open_sender",
-                                         "sender_rest", "open_receiver", "return_bit"};
+    size_t sending = 0, receiving = 0, others[8] = {0};
+    static void (*const calls[8])(void) = {loop_time, build, read, open_sender, rest, open_receiver, return_bit, version};
+    static const char *const names[8] = {"loop_time",   "build_block",   "read_block", "open_sender",
+                                         "sender_rest", "open_receiver", "return_bit", "version"};
     for (size_t i = 0; i < sizeof order; i++)
         order[i] = (uint8_t)(i * 89 + 7);
     for (size_t i = 0; i < 4; i++) {
@@ -113,10 +114,10 @@ int main(void)
                 printf("the order did not arrive: k %zu, %zu bits a call\n", k, pieces[j]);
                 return 1;
             }
-        for (size_t j = 0; j < 7; j++)
+        for (size_t j = 0; j < 8; j++)
             deepen(&others[j], calls[j]);
     }
-    for (size_t j = 0; j < 7; j++)
+    for (size_t j = 0; j < 8; j++)
         printf("%-14s %5zu\n", names[j], others[j]);
     printf("%-14s %5zu\n%-14s %5zu\n", "send", sending, "receive", receiving);
     return 0;

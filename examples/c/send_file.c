@@ -23,7 +23,7 @@
 
 #define ORDER_BYTES (ORDER_LINE_LONGEST_ORDER / 8)
 #define BLOCK_BYTES ORDER_LINE_BLOCK_BYTES(3840) /* room for a block of any k */
-#define STORE_BYTES 33120                        /* the longest order filled up to whole items of any k */
+#define STORE_BYTES ORDER_LINE_STORE_BYTES(3840) /* room for any order at any k */
 
 #define EVENTS (ORDER_LINE_EVENT_ENDED - ORDER_LINE_EVENT_NONE + 1)
 
@@ -47,10 +47,10 @@ static uint8_t office_begin_block(struct office *office)
     uint8_t copy[ORDER_LINE_SENDER_BYTES];
     uint32_t word;
 
-    memcpy(copy, office->state, sizeof copy);
-    word = order_line_send(copy, sizeof copy, office->order, office->order_bytes, false, office->block,
-                           sizeof office->block);
-    return (word & ORDER_LINE_SENT) != 0 ? 0 : (uint8_t)word;
+    memcpy(copy, office->state, ORDER_LINE_SENDER_BYTES);
+    word = order_line_send(copy, ORDER_LINE_SENDER_BYTES, office->order, office->order_bytes, false, office->block,
+                           BLOCK_BYTES);
+    return ORDER_LINE_IS_REFUSED(word) ? (uint8_t)word : 0;
 }
 
 /*
@@ -59,10 +59,10 @@ static uint8_t office_begin_block(struct office *office)
  */
 static uint8_t office_end_block(struct office *office, bool reading)
 {
-    uint32_t word = order_line_send(office->state, sizeof office->state, office->order, office->order_bytes, reading,
-                                    office->block, sizeof office->block);
+    uint32_t word = order_line_send(office->state, ORDER_LINE_SENDER_BYTES, office->order, office->order_bytes, reading,
+                                    office->block, BLOCK_BYTES);
 
-    if ((word & ORDER_LINE_SENT) == 0)
+    if (ORDER_LINE_IS_REFUSED(word))
         return (uint8_t)word;
     if ((word & ORDER_LINE_SENT_ITEM) == 0) {
         office->synchronising++;
@@ -90,15 +90,20 @@ struct machine {
     unsigned long events[EVENTS]; /* how often each came, from ORDER_LINE_EVENT_NONE on */
 };
 
+static void machine_set_return_bit(struct machine *machine)
+{
+    machine->return_bit = ORDER_LINE_RETURN_BIT(order_line_return_bit(machine->state, ORDER_LINE_RECEIVER_BYTES));
+}
+
+/* For each order anew. */
 static uint8_t machine_open(struct machine *machine, size_t k)
 {
-    uint8_t refusal;
+    uint8_t answer;
 
     memset(machine, 0, sizeof *machine);
-    refusal = order_line_open_receiver(k, machine->state, sizeof machine->state);
-    if (refusal == 0)
-        machine->return_bit = order_line_return_bit(machine->state, sizeof machine->state);
-    return refusal;
+    answer = order_line_open_receiver(k, machine->state, ORDER_LINE_RECEIVER_BYTES);
+    machine_set_return_bit(machine);
+    return answer;
 }
 
 /* What the machine does on each event. */
@@ -125,7 +130,7 @@ static void machine_on_event(struct machine *machine, uint8_t event)
         return;
     }
     machine->events[event - ORDER_LINE_EVENT_NONE]++;
-    machine->return_bit = order_line_return_bit(machine->state, sizeof machine->state);
+    machine_set_return_bit(machine);
 }
 
 /*
@@ -136,14 +141,14 @@ static void machine_on_bits(struct machine *machine, uint8_t byte, size_t bits)
 {
     while (bits > 0 && machine->refusal == 0) {
         size_t used = 0;
-        uint8_t answer = order_line_receive(machine->state, sizeof machine->state, &byte, 1, bits, machine->store,
-                                            sizeof machine->store, &used, &machine->length);
+        uint8_t answer = order_line_receive(machine->state, ORDER_LINE_RECEIVER_BYTES, &byte, 1, bits, machine->store,
+                                            STORE_BYTES, &used, &machine->length);
 
-        if (ORDER_LINE_IS_EVENT(answer)) {
-            machine_on_event(machine, answer);
-        } else { /* with these buffers a refusal means that the state's bytes were spoiled */
+        if (ORDER_LINE_IS_REFUSED(answer)) { /* with these buffers it means that the state's bytes were spoiled */
             machine->refusal = answer;
             machine->return_bit = 1;
+        } else {
+            machine_on_event(machine, answer);
         }
         byte = (uint8_t)(byte << used);
         bits -= used;
@@ -266,13 +271,13 @@ static int run_session(struct office *office, struct machine *machine, size_t k)
     struct noise noise = {1968, 0, 0, 0};
     uint8_t rest = ORDER_LINE_GOING_ON;
     uint8_t refusal = order_line_open_sender(k, SPEED, LOOP_MS, 8 * office->order_bytes, office->order,
-                                             office->order_bytes, office->state, sizeof office->state);
+                                             office->order_bytes, office->state, ORDER_LINE_SENDER_BYTES);
 
     if (refusal == 0)
         refusal = machine_open(machine, k);
     while (refusal == 0 && rest == ORDER_LINE_GOING_ON) {
         refusal = run_period(office, machine, &noise, k);
-        rest = order_line_sender_rest(office->state, sizeof office->state);
+        rest = order_line_sender_rest(office->state, ORDER_LINE_SENDER_BYTES);
     }
     if (refusal != 0) {
         fprintf(stderr, "refused %u\n", (unsigned)refusal);
@@ -294,14 +299,19 @@ int main(int argc, char **argv)
     static struct machine machine;
     const char *path = argc > 1 ? argv[1] : "README.md";
     size_t k = argc > 2 ? (size_t)strtoul(argv[2], NULL, 10) : 240;
-    FILE *file = fopen(path, "rb");
+    FILE *file;
 
+    if (order_line_version() != ORDER_LINE_VERSION) {
+        fputs("the library is of another version than the header\n", stderr);
+        return 2;
+    }
+    file = fopen(path, "rb");
     if (file == NULL) {
         perror(path);
         return 2;
     }
     office.order = order;
-    office.order_bytes = fread(order, 1, sizeof order, file);
+    office.order_bytes = fread(order, 1, ORDER_BYTES + 1, file);
     if (ferror(file)) {
         perror(path);
         return 2;

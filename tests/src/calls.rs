@@ -5,6 +5,7 @@
 
 use crate::interface::{self, load_receiver, load_sender, store_receiver, store_sender, Counts};
 use crate::interface::{FINISHED, GAVE_UP, GOING_ON, RECEIVER_BYTES, SENDER_BYTES};
+use crate::interface::{RETURN_0, RETURN_1};
 use crate::reference::block::{self, Read};
 use crate::reference::loop_time;
 use crate::reference::receiver;
@@ -62,7 +63,7 @@ pub trait ReceivingEnd {
     /// The event's number or the refusal's.
     fn receive(&self, state: &mut [u8], line: Line, store: &mut [u8], counts: &mut Counts) -> u8;
 
-    /// The return bit, or the refusal's number.
+    /// The return bit's number, or the refusal's.
     fn return_bit(&self, state: &[u8]) -> u8;
 }
 
@@ -140,8 +141,10 @@ impl ReceivingEnd for Reference {
 
     fn return_bit(&self, state: &[u8]) -> u8 {
         match load_receiver(state) {
-            Some(receiver) if !receiver.is_spoiled() => u8::from(receiver.return_bit),
-            _ => SPOILED,
+            Some(receiver) if receiver.is_spoiled() => SPOILED,
+            Some(receiver) if receiver.return_bit => RETURN_1,
+            Some(_) => RETURN_0,
+            None => SPOILED,
         }
     }
 }

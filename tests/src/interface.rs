@@ -11,10 +11,17 @@ const HEAD_BYTES: usize = 16;
 pub const SENDER_BYTES: usize = HEAD_BYTES;
 pub const RECEIVER_BYTES: usize = HEAD_BYTES + HELD_BYTES;
 
+/// 1.0.0.
+pub const VERSION: u32 = 0x01_00_00;
+
 /// What `sender_rest` answers besides 7.
-pub const GOING_ON: u8 = 0;
-pub const FINISHED: u8 = 1;
-pub const GAVE_UP: u8 = 2;
+pub const GOING_ON: u8 = 80;
+pub const FINISHED: u8 = 81;
+pub const GAVE_UP: u8 = 82;
+
+/// What `return_bit` answers besides 7.
+pub const RETURN_0: u8 = 96;
+pub const RETURN_1: u8 = 97;
 
 /// The events' numbers; those of the refusals stay below them.
 pub const EVENT_NONE: u8 = 64;
@@ -32,10 +39,10 @@ const FAILED: u16 = 0x200;
 
 /// The marks of a sending call's answer; an item's number stands above them.
 const SENT: u32 = 0x100;
-const ITEM: u32 = 0x200;
-const END: u32 = 0x400;
-const USED: u32 = 0x800;
-const CANCELLED: u32 = 0x1000;
+const SENT_ITEM: u32 = 0x200;
+const SENT_END: u32 = 0x400;
+const SENT_USED: u32 = 0x800;
+const SENT_CANCELLED: u32 = 0x1000;
 const NUMBER_SHIFT: u32 = 16;
 
 const NEXT: [Next; 3] = [Next::Synchronising, Next::Older, Next::Newer];
@@ -159,8 +166,9 @@ pub fn encode_sent(sent: Sent) -> u32 {
             used,
             cancelled,
         } => {
-            let marks = mark(end, END) | mark(used, USED) | mark(cancelled, CANCELLED);
-            SENT | ITEM | marks | (item as u32) << NUMBER_SHIFT
+            let marks =
+                mark(end, SENT_END) | mark(used, SENT_USED) | mark(cancelled, SENT_CANCELLED);
+            SENT | SENT_ITEM | marks | (item as u32) << NUMBER_SHIFT
         }
     }
 }
@@ -170,14 +178,14 @@ pub fn decode_sent(word: u32) -> Sent {
     if word & SENT == 0 {
         return Sent::Refused(word as Refusal);
     }
-    if word & ITEM == 0 {
+    if word & SENT_ITEM == 0 {
         return Sent::Synchronising;
     }
     Sent::Item {
         item: (word >> NUMBER_SHIFT) as usize,
-        end: word & END != 0,
-        used: word & USED != 0,
-        cancelled: word & CANCELLED != 0,
+        end: word & SENT_END != 0,
+        used: word & SENT_USED != 0,
+        cancelled: word & SENT_CANCELLED != 0,
     }
 }
 

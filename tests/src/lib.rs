@@ -8,6 +8,8 @@ pub mod delivery;
 #[cfg(feature = "fuzz")]
 mod fuzz;
 pub mod give_up;
+#[cfg(test)]
+mod header;
 pub mod interface;
 #[cfg(feature = "linked")]
 pub mod link;

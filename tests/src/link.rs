@@ -1,9 +1,9 @@
 //! The library under test, as other languages link it: `target/staticlib/libline_c.a`.
 //!
-//! The declarations are those of the example in Rust, so that they stand once; the safe functions
-//! that wrap them stand here.
+//! The declarations are those of the wrapper in Rust, so that they stand once; its safe functions
+//! are not used here, since what is compared are the numbers.
 
-#[path = "../../examples/rust/order_line/c.rs"]
+#[path = "../../examples/rust/src/c.rs"]
 mod c;
 
 use crate::calls::{Blocks, Line, LoopTimes, Opening, ReceivingEnd, SendingEnd};
@@ -15,6 +15,10 @@ pub struct Library;
 
 // SAFETY, of every call below: each pointer comes with the length of the slice it was taken from,
 // and no slice that is written overlaps another.
+
+pub fn version() -> u32 {
+    unsafe { c::order_line_version() }
+}
 
 impl LoopTimes for Library {
     fn loop_time(&self, k: usize, speed: u32, loop_ms: u32) -> u8 {

@@ -2,3 +2,5 @@ pub mod State
 pub mod BlockCalls
 pub mod SenderCalls
 pub mod ReceiverCalls
+pub mod Version
+pub mod Refused

@@ -1,7 +1,7 @@
 -- The receiving end's calls for C and Rust, the receiver in lent bytes: what each returns and writes, and its promise.
 -- Assumes nothing.
 use mathlib.Core.Path.{_≡_}
-use mathlib.Core.Bool.{cond}
+use mathlib.Core.Bool.{Bool, true, false, cond}
 use mathlib.Core.List.{List, _++_}
 use Prim.Native.Nat.{ℕ}
 use lib.ListN.{drop}
@@ -11,7 +11,7 @@ use Rattle.line.specs.Receiving.{eventKind, withLength, openReceiver, freshRece
 use Rattle.line.specs.declared.receiver.Receiver.{Receiver}
 use Rattle.line.specs.declared.receiving.Event.{Event}
 use Rattle.line.specs.declared.receiving.Event.the-variants as E
-use Rattle.line_c.specs.State.{flagByte, receiverSize, receiverOf, receiverBytes}
+use Rattle.line_c.specs.State.{receiverSize, receiverOf, receiverBytes}
 use Rattle.line_c.specs.BlockCalls.{refusal}
 use Rattle.line_c.specs.SenderCalls.{judgeState}
 
@@ -34,7 +34,7 @@ pub record OpenReceiverCall (k : ℕ) (state : List ℕ) (result : ℕ) (state�
 
 -- ---- a receiving call
 
--- the events' numbers are our own, since document 01 gives them none; refusals stay below 64
+-- the events' numbers are our own, since document 01 gives them none
 abbrev pub eventNumber : Event → ℕ
 eventNumber E.None = 64
 eventNumber E.Sync = 65
@@ -83,11 +83,15 @@ pub record ReceiveCall
   pub uses : used′ ≡ reportUsed used (reported (receiveIn line count store (receiverOf state)))
   pub ends : len′ ≡ reportLength len (reported (receiveIn line count store (receiverOf state)))
 
--- ---- the return bit: 0 or 1
+-- ---- the return bit
+
+abbrev pub returnNumber : Bool → ℕ
+returnNumber false = 96
+returnNumber true = 97
 
 abbrev pub backIn : Answer Receiver → ℕ
 backIn (refused n) = n
-backIn (done s) = cond (receiverInRange s) (flagByte (s .back)) A.spoiled
+backIn (done s) = cond (receiverInRange s) (returnNumber (s .back)) A.spoiled
 
 pub record ReturnBitCall (state : List ℕ) (result : ℕ) : Type 0 where
   pub answers : result ≡ backIn (receiverOf state)

@@ -68,11 +68,20 @@ pub record SendCall (state order : List ℕ) (reading : Bool) (slice : List ℕ)
   pub keeps : state′ ≡ sentState state reading (senderOf state) (sendIn order reading slice (senderOf state))
   pub writes : slice′ ≡ sentBytes order slice (senderOf state) (sendIn order reading slice (senderOf state))
 
--- ---- whether the sender is at rest: 0 if it goes on, 1 if it is finished, 2 if it gave up
+-- ---- whether the sender is at rest
+
+abbrev pub goingOnNumber : ℕ
+goingOnNumber = 80
+
+abbrev pub finishedNumber : ℕ
+finishedNumber = 81
+
+abbrev pub gaveUpNumber : ℕ
+gaveUpNumber = 82
 
 abbrev pub restIn : Answer Sender → ℕ
 restIn (refused n) = n
-restIn (done s) = cond (senderInRange s) (cond (s .finished) 1 (cond (gaveUp s) 2 0)) A.spoiled
+restIn (done s) = cond (senderInRange s) (cond (s .finished) finishedNumber (cond (gaveUp s) gaveUpNumber goingOnNumber)) A.spoiled
 
 pub record SenderRestCall (state : List ℕ) (result : ℕ) : Type 0 where
   pub answers : result ≡ restIn (senderOf state)

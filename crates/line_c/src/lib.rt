@@ -5,3 +5,4 @@ mod receiver_bytes;
 pub mod receiver_calls;
 mod sender_bytes;
 pub mod sender_calls;
+pub mod version;

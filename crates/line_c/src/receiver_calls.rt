@@ -12,7 +12,7 @@ use line::receiver::Receiver;
 use line::receiving::Event;
 use line::receiving::Received;
 
-// The events' numbers; refusals stay below 64.
+// The events' numbers.
 pub const NONE: u8 = 64;
 
 pub const SYNC: u8 = 65;
@@ -28,6 +28,11 @@ pub const SEQUENCE_ALARM: u8 = 69;
 pub const LENGTH_ALARM: u8 = 70;
 
 pub const ENDED: u8 = 71;
+
+// What order_line_return_bit returns where it is not refused.
+pub const RETURN_0: u8 = 96;
+
+pub const RETURN_1: u8 = 97;
 
 #[no_mangle]
 pub extern "C" fn order_line_open_receiver(k: usize, state: &mut [u8]) -> u8
@@ -113,5 +118,8 @@ pub extern "C" fn order_line_return_bit(state: &[u8]) -> u8
     if !head.in_range() {
         return block::SPOILED;
     }
-    head.back as u8
+    if head.back {
+        return RETURN_1;
+    }
+    RETURN_0
 }

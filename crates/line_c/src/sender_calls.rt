@@ -47,12 +47,12 @@ pub const CANCELLED: u32 = 0x1000;
 
 pub const NUMBER: u32 = 0x10000;
 
-// What order_line_sender_rest returns.
-pub const GOING_ON: u8 = 0;
+// What order_line_sender_rest returns where it is not refused.
+pub const GOING_ON: u8 = 80;
 
-pub const FINISHED: u8 = 1;
+pub const FINISHED: u8 = 81;
 
-pub const GAVE_UP: u8 = 2;
+pub const GAVE_UP: u8 = 82;
 
 // A mark where a truth value holds.
 fn mark(set: bool, value: u32) -> u32

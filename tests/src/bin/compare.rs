@@ -6,8 +6,9 @@
 //! that says what is wrong, and the case where there is one.
 
 use order_line_tests::comparison::{block, both_ends, idle, loop_time, receiver, sender};
-use order_line_tests::comparison::{session, two_orders, Difference, Tally};
-use order_line_tests::link::Library;
+use order_line_tests::comparison::{same, session, two_orders, Difference, Tally};
+use order_line_tests::interface::VERSION;
+use order_line_tests::link::{self, Library};
 use order_line_tests::program::Program;
 use std::process::ExitCode;
 use std::{env, fs};
@@ -77,7 +78,8 @@ fn run_group(name: &str) -> Verdict {
 }
 
 fn run_groups(groups: &[Group]) -> Verdict {
-    println!("seed {SEED}");
+    same(&|| String::from("version"), &VERSION, &link::version())?;
+    println!("version {VERSION:#08x}, seed {SEED}");
     for (name, run) in groups {
         report(name, run())?;
     }

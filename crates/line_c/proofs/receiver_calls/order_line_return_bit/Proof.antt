@@ -9,9 +9,8 @@ use Rattle.block.specs.Answer as A
 use Rattle.line.specs.Receiving.{arrayBytes, receiverInRange}
 use Rattle.line.specs.ReceivingInPlace.{withArray}
 use Rattle.line.specs.declared.head.Head.{Head}
-use Rattle.line_c.specs.State.{flagByte, headSize, receiverSize, holdsReceiver, receiverIn, receiverOf}
-use Rattle.line_c.specs.ReceiverCalls.{ReturnBitCall}
-use Rattle.line_c.proofs.Flags.{boolByte-flag}
+use Rattle.line_c.specs.State.{headSize, receiverSize, holdsReceiver, receiverIn, receiverOf}
+use Rattle.line_c.specs.ReceiverCalls.{returnNumber, ReturnBitCall}
 use Rattle.line_c.proofs.RoundTrip.{held}
 use borrow.Author.Needs.{needs}
 use Rattle.line_c.proofs.receiver_calls.order_line_return_bit.Statement.{statement}
@@ -30,7 +29,7 @@ module _ (state : List ℕ) where
     unfolding receiverOf
     out-of-range r = record { answers = rw (h, ← e, r) }
 
-    in-its-range : receiverInRange (withArray head array) ≡ true → (n : ℕ) → n ≡ flagByte (head .back) → ReturnBitCall state n
+    in-its-range : receiverInRange (withArray head array) ≡ true → (n : ℕ) → n ≡ returnNumber (head .back) → ReturnBitCall state n
     unfolding receiverOf
     in-its-range r n b = record { answers = rw (h, ← e, r) b }
 
@@ -55,14 +54,19 @@ returns-2 c =
     out-of-range _ (bytes-held (loaded .before)) _ (loaded .load-head .ensures)
     (sym (c .before .in-range .ensures _) ∙ not-true _ (c .if2 .taken))
 
-cast-result : tie.Need-cast-result
-cast-result c = search needs
+-- a receiver in range answers by its return bit
+answered : (c : tie.Else2) (n : ℕ) → n ≡ returnNumber (c .before .before .load-head .result .back)
+    → ReturnBitCall (c .before .before .before .before .before .before .args .state .now) n
+answered c n e =
+    let loaded = c .before .before in
+    in-its-range _ (bytes-held (loaded .before)) _ (loaded .load-head .ensures)
+    (sym (c .before .in-range .ensures _) ∙ not-false _ (c .if2 .left)) n e
 
 returns-3 : tie.Need-returns-3
-returns-3 c =
-    let loaded = c .before .before .before in
-    in-its-range _ (bytes-held (loaded .before)) _ (loaded .load-head .ensures)
-    (sym (c .before .before .in-range .ensures _) ∙ not-false _ (c .before .if2 .left)) _ (boolByte-flag (loaded .load-head .result .back))
+returns-3 c = answered (c .before) _ (rw (c .if3 .taken))
+
+returns-4 : tie.Need-returns-4
+returns-4 c = answered (c .before) _ (rw (c .if3 .left))
 
 pub order-line-return-bit-spec : {M : Type 1} → statement M
 order-line-return-bit-spec =
@@ -73,5 +77,5 @@ order-line-return-bit-spec =
     load-head-requires
     in-range-requires
     returns-2
-    cast-result
-    returns-3)
+    returns-3
+    returns-4)

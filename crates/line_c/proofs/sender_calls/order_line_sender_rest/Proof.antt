@@ -21,7 +21,7 @@ use Rattle.line.specs.declared.sender.Sent.{Sent}
 use Rattle.line.proofs.sender.Sent.{the-type}
 use Rattle.line.specs.declared.sender.Sent.the-variants as W
 use Rattle.line_c.specs.State.{senderSize, holdsSender, senderIn, senderOf}
-use Rattle.line_c.specs.SenderCalls.{restIn, SenderRestCall}
+use Rattle.line_c.specs.SenderCalls.{goingOnNumber, finishedNumber, gaveUpNumber, restIn, SenderRestCall}
 use Rattle.line_c.proofs.RoundTrip.{held}
 use borrow.Author.Needs.{needs}
 use Rattle.line_c.proofs.sender_calls.order_line_sender_rest.Statement.{statement}
@@ -29,12 +29,12 @@ use Rattle.line_c.proofs.sender_calls.order_line_sender_rest.Tie as tie
 
 -- the number that an answer comes to
 abbrev restAfter : Bool → Answer Block → ℕ
-restAfter finished (refused n) = cond (eqb n A.spoiled) A.spoiled (cond (eqb n Refusals.rest) (cond finished 1 2) 0)
-restAfter finished (done b) = 0
+restAfter finished (refused n) = cond (eqb n A.spoiled) A.spoiled (cond (eqb n Refusals.rest) (cond finished finishedNumber gaveUpNumber) goingOnNumber)
+restAfter finished (done b) = goingOnNumber
 
 rest-tests : (range finished gave-up short : Bool) (b : Block)
     → restAfter finished (refuseIf (not range) A.spoiled (refuseIf (finished || gave-up) Refusals.rest (refuseIf short A.short (done b))))
-    ≡ cond range (cond finished 1 (cond gave-up 2 0)) A.spoiled
+    ≡ cond range (cond finished finishedNumber (cond gave-up gaveUpNumber goingOnNumber)) A.spoiled
 rest-tests false finished gave-up short b = refl
 rest-tests true true gave-up short b = refl
 rest-tests true false true short b = refl
@@ -112,7 +112,7 @@ enum-known-answer c = search needs
 returns-2 : tie.Need-returns-2
 returns-2 c =
     let b = goes-on (c .before .before .send .result .answer) (c .match .keys2) in
-    sent-answer (c .before) _ 0 (b .1) refl
+    sent-answer (c .before) _ goingOnNumber (b .1) refl
 
 returns-3 : tie.Need-returns-3
 returns-3 c = refused-answer (c .before) _ (rw (eq-eqb _ _ (c .if2 .taken)))

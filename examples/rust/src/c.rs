@@ -1,9 +1,11 @@
 //! The functions of `include/order_line.h`, in its order: a slice passes as a pointer and then its number of bytes.
 //!
-//! No compiler holds these declarations against the library, so they stand once: `order_line.rs` beside this folder and
-//! `tests/src/link.rs`, which compares every function with the second implementation, both call through them.
+//! They stand once: the safe calls beside this file and the order line's tests, which compare every function with a
+//! second implementation, both call through them.
 
-extern "C" {
+unsafe extern "C" {
+    pub fn order_line_version() -> u32;
+
     pub fn order_line_loop_time(k: usize, speed: u32, loop_ms: u32) -> u8;
 
     pub fn order_line_build_block(

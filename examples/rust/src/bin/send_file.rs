@@ -9,9 +9,7 @@
 //! The office and the machine meet only in the bits of the line and in the return bit; the noise and the session stand
 //! for the modems and the clock.
 
-mod order_line;
-
-use order_line::{block_bytes, Event, Receiver, Refusal, Rest, Sender, Sent};
+use order_line::{Event, Receiver, Refusal, Rest, Sender, Sent, block_bytes, store_bytes};
 use std::env;
 use std::fs;
 use std::process::ExitCode;
@@ -58,7 +56,9 @@ impl Office {
     fn end_block(&mut self, reading: bool) -> Result<(), Refusal> {
         match self.sender.send(&self.order, reading, &mut self.block)? {
             Sent::Synchronising => self.synchronising += 1,
-            Sent::Item { number, cancelled } => {
+            Sent::Item {
+                number, cancelled, ..
+            } => {
                 self.cancelled += usize::from(cancelled);
                 self.repeats += usize::from(number < self.items_begun);
                 self.items_begun = self.items_begun.max(number + 1);
@@ -98,7 +98,7 @@ impl Machine {
         let return_bit = receiver.return_bit()?;
         Ok(Machine {
             receiver,
-            store: vec![0; 262_144_usize.div_ceil(k) * k / 8],
+            store: vec![0; store_bytes(k)],
             length: None,
             alarm: None,
             return_bit,
@@ -281,6 +281,10 @@ fn run_session(k: usize, order: Vec<u8>) -> Result<bool, Refusal> {
 }
 
 fn main() -> ExitCode {
+    if order_line::version() != order_line::VERSION {
+        eprintln!("the library is of another version than the wrapper");
+        return ExitCode::from(2);
+    }
     let mut arguments = env::args().skip(1);
     let path = arguments.next().unwrap_or("README.md".to_string());
     // What is no number is refused as block length 0.
@@ -302,7 +306,7 @@ fn main() -> ExitCode {
             ExitCode::FAILURE
         }
         Err(refusal) => {
-            eprintln!("refused {} ({refusal:?})", refusal as u8);
+            eprintln!("{refusal}");
             ExitCode::from(2)
         }
     }

@@ -1,0 +1,15 @@
+// The version of the library; docs/VERSION.md says what it promises.
+ghost use Rattle.line_c.specs.Version.{VersionCall};
+
+pub const MAJOR: u32 = 1;
+
+pub const MINOR: u32 = 0;
+
+pub const PATCH: u32 = 0;
+
+#[no_mangle]
+pub extern "C" fn order_line_version() -> u32
+    ensures { λ r. ⌜ VersionCall r ⌝ }
+{
+    MAJOR * 65536 + MINOR * 256 + PATCH
+}

@@ -1,0 +1,43 @@
+//! The order line's library (`include/order_line.h`) as Rust calls it, without `std` and without allocation: every call
+//! of the header. It wants `libline_c.a`, which is for x86-64 and the System V calling convention; `build.rs` links it.
+//!
+//! **A new order needs both ends opened anew**, also after a session that broke off: see [`Receiver::open`].
+
+#![no_std]
+
+mod block;
+mod c;
+mod numbers;
+mod receiver;
+mod refusal;
+mod sender;
+
+pub use block::{Read, build_block, loop_time, read_block};
+pub use numbers::{LONGEST_ORDER, MOST_ITEMS, RECEIVER_BYTES, SENDER_BYTES, VERSION};
+pub use receiver::{Event, Receiver};
+pub use refusal::Refusal;
+pub use sender::{Rest, Sender, Sent};
+
+// SAFETY, of every call of a function of `c`: each pointer comes with the length of the slice that it was taken from, and
+// the borrows keep what is written apart from everything else that is lent.
+
+/// The version of the linked library; [`VERSION`] is the one that this wrapper was written for. A later one with the same
+/// major number, the upper half, does as well.
+pub fn version() -> u32 {
+    unsafe { c::order_line_version() }
+}
+
+/// Bytes of the data of a block with k data bits.
+pub const fn payload_bytes(k: usize) -> usize {
+    k / 8
+}
+
+/// Bytes of a packed block with k data bits.
+pub const fn block_bytes(k: usize) -> usize {
+    k / 8 + 3
+}
+
+/// Bytes of a store with room for any order in blocks of k data bits, k being one of the four.
+pub const fn store_bytes(k: usize) -> usize {
+    LONGEST_ORDER.div_ceil(k) * payload_bytes(k)
+}

@@ -1,0 +1,89 @@
+//! The receiving end.
+
+use crate::c;
+use crate::numbers::*;
+use crate::refusal::{Refusal, done};
+
+/// What a receiving call found.
+#[derive(Clone, Copy, Debug, PartialEq, Eq)]
+pub enum Event {
+    /// All bits were used without an event.
+    None,
+    /// A synchronising block, or its last 16 bits in search.
+    Sync,
+    /// The check failed, or the block fits nowhere.
+    Bad,
+    /// The next data item: its data are in the store.
+    Accepted,
+    /// The item before, or the end again: nothing stored.
+    Previous,
+    /// An item was missed; stands until a receiver is opened anew.
+    SequenceAlarm,
+    /// An end block with another length; stands likewise.
+    LengthAlarm,
+    /// The whole order is in the store; its length in bits.
+    Ended(usize),
+}
+
+/// The receiving end.
+#[derive(Clone, Debug, PartialEq, Eq)]
+pub struct Receiver {
+    state: [u8; RECEIVER_BYTES],
+}
+
+impl Receiver {
+    /// In search, with return bit 1.
+    ///
+    /// **A new order needs both ends opened anew.** Nothing in the blocks tells one order from the next. A machine that is
+    /// not opened anew after a session that broke off may join the new order's items to the old ones and report the end.
+    pub fn open(k: usize) -> Result<Receiver, Refusal> {
+        let mut state = [0; RECEIVER_BYTES];
+        done(unsafe { c::order_line_open_receiver(k, state.as_mut_ptr(), state.len()) })?;
+        Ok(Receiver { state })
+    }
+
+    /// Takes the first `bits` bits of `line`, up to the next event; the event, and the number of bits taken. The store is
+    /// the same at each call; [`store_bytes`](crate::store_bytes) of them hold any order.
+    pub fn receive(
+        &mut self,
+        line: &[u8],
+        bits: usize,
+        store: &mut [u8],
+    ) -> Result<(Event, usize), Refusal> {
+        let (mut used, mut length) = (0, 0);
+        let answer = unsafe {
+            c::order_line_receive(
+                self.state.as_mut_ptr(),
+                self.state.len(),
+                line.as_ptr(),
+                line.len(),
+                bits,
+                store.as_mut_ptr(),
+                store.len(),
+                &mut used,
+                &mut length,
+            )
+        };
+        let event = match answer {
+            EVENT_NONE => Event::None,
+            EVENT_SYNC => Event::Sync,
+            EVENT_BAD => Event::Bad,
+            EVENT_ACCEPTED => Event::Accepted,
+            EVENT_PREVIOUS => Event::Previous,
+            EVENT_SEQUENCE_ALARM => Event::SequenceAlarm,
+            EVENT_LENGTH_ALARM => Event::LengthAlarm,
+            EVENT_ENDED => Event::Ended(length),
+            refusal => return Err(Refusal::of(refusal.into())),
+        };
+        Ok((event, used))
+    }
+
+    /// What the return channel is to be held at: true asks for a repeat.
+    pub fn return_bit(&self) -> Result<bool, Refusal> {
+        match unsafe { c::order_line_return_bit(self.state.as_ptr(), self.state.len()) } {
+            RETURN_0 => Ok(false),
+            RETURN_1 => Ok(true),
+            refusal => Err(Refusal::of(refusal.into())),
+        }
+    }
+}

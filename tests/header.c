@@ -1,0 +1,33 @@
+/*
+ * The sizes and tests of include/order_line.h, judged while this is compiled, as C11 and as C++: the store's room, and
+ * ORDER_LINE_IS_REFUSED and ORDER_LINE_IS_EVENT at the ends of each range and for each type that a call returns.
+ */
+#include "../include/order_line.h"
+
+#include <assert.h>
+
+static_assert(ORDER_LINE_STORE_BYTES(240) == 32790, "1,093 items of 30 bytes");
+static_assert(ORDER_LINE_STORE_BYTES(480) == 32820, "547 items of 60 bytes");
+static_assert(ORDER_LINE_STORE_BYTES(960) == 32880, "274 items of 120 bytes");
+static_assert(ORDER_LINE_STORE_BYTES(3840) == 33120, "69 items of 480 bytes");
+static_assert(ORDER_LINE_STORE_BYTES(240) == ORDER_LINE_MOST_ITEMS * ORDER_LINE_PAYLOAD_BYTES(240), "the most items");
+
+#define REFUSED(number)                                                                                                \
+    (ORDER_LINE_IS_REFUSED((uint8_t)(number)) && ORDER_LINE_IS_REFUSED((uint16_t)(number)) &&                          \
+     ORDER_LINE_IS_REFUSED((uint32_t)(number)) && !ORDER_LINE_IS_EVENT((uint8_t)(number)))
+#define EVENT(number) (ORDER_LINE_IS_EVENT((uint8_t)(number)) && !ORDER_LINE_IS_REFUSED((uint8_t)(number)))
+#define NEITHER(number)                                                                                                \
+    (!ORDER_LINE_IS_REFUSED((uint8_t)(number)) && !ORDER_LINE_IS_EVENT((uint8_t)(number)))
+#define WORD(number) (!ORDER_LINE_IS_REFUSED((uint16_t)(number)) && !ORDER_LINE_IS_REFUSED((uint32_t)(number)))
+
+static_assert(NEITHER(0) && WORD(0), "done");
+static_assert(REFUSED(ORDER_LINE_REFUSED_BLOCK) && REFUSED(ORDER_LINE_REFUSED_REST) && REFUSED(63), "refusals");
+static_assert(EVENT(ORDER_LINE_EVENT_NONE) && EVENT(ORDER_LINE_EVENT_ENDED) && EVENT(79), "events");
+static_assert(NEITHER(ORDER_LINE_GOING_ON) && NEITHER(ORDER_LINE_FINISHED) && NEITHER(ORDER_LINE_GAVE_UP), "rest");
+static_assert(NEITHER(ORDER_LINE_RETURN_0) && NEITHER(ORDER_LINE_RETURN_1), "return bit");
+static_assert(WORD(ORDER_LINE_PASSED) && WORD(ORDER_LINE_PASSED + 15) && WORD(ORDER_LINE_FAILED), "read");
+static_assert(WORD(ORDER_LINE_SENT) && WORD(ORDER_LINE_SENT | ORDER_LINE_SENT_ITEM | 1094u << 16), "sent");
+
+static_assert(ORDER_LINE_RETURN_BIT(ORDER_LINE_RETURN_0) == 0, "return bit 0");
+static_assert(ORDER_LINE_RETURN_BIT(ORDER_LINE_RETURN_1) == 1, "return bit 1");
+static_assert(ORDER_LINE_RETURN_BIT(ORDER_LINE_REFUSED_SPOILED) == 1, "a spoiled state asks for a repeat");
