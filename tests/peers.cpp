@@ -7,7 +7,7 @@
 // with the bits of each byte in the other order.
 //
 // peers                          prints the ratios peer / library of medians, above 1 where the library is faster
-// peers count CALL K NAME PASSES makes this many passes of one of them alone, for callgrind to count
+// peers count CALL K NAME PASSES makes one pass and this many more of one of them alone, for callgrind to count
 #include "../include/order_line.h"
 
 #include <algorithm>
@@ -275,6 +275,7 @@ int count(const std::vector<Tested> &tested, char **words) {
     for (auto &t : tested)
         if (std::string(t.name) == words[2]) {
             Buffers b = buffers((size_t)atoi(words[1]), t.lowest_first);
+            t.pass(words[0], b); // a peer may fill its tables here
             for (int i = atoi(words[3]); i > 0; i--)
                 t.pass(words[0], b);
             printf("%d\n", kBlocks);
