@@ -8,7 +8,7 @@ use Rattle.block.specs.Block.{Verdict, passed, failed}
 use Rattle.block.specs.Calls.{buildBlock, builtBytes, readBlock, readBytes}
 use Rattle.line.specs.LoopTime.{loopTime}
 
--- document 01's number of a refusal, 0 if nothing is refused
+-- a refusal's number, 0 if nothing is refused
 abbrev pub refusal : {A : Type 0} → Answer A → ℕ
 refusal (refused n) = n
 refusal (done a) = 0

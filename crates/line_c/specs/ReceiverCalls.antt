@@ -34,7 +34,7 @@ pub record OpenReceiverCall (k : ℕ) (state : List ℕ) (result : ℕ) (state�
 
 -- ---- a receiving call
 
--- the events' numbers are our own, since document 01 gives them none
+-- the events' numbers are our own, since the rules give them none
 abbrev pub eventNumber : Event → ℕ
 eventNumber E.None = 64
 eventNumber E.Sync = 65
