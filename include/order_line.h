@@ -54,7 +54,7 @@ uint32_t order_line_version(void);
  */
 #define ORDER_LINE_IS_REFUSED(answer) ((answer) - 1u < 63u)
 
-/* The refusals: the numbers of the paper, "What the ends turn away". */
+/* The refusals: the numbers of docs/PROTOCOL.md, "What the ends turn away". */
 #define ORDER_LINE_REFUSED_BLOCK 1   /* k is not one of the four */
 #define ORDER_LINE_REFUSED_SPEED 2   /* not one of 200, 600, 1200, 2400, 3600, 4800 bit/s */
 #define ORDER_LINE_REFUSED_LOOP 3    /* a loop above the table's entry, or no entry */
