@@ -1,31 +1,29 @@
--- What the session writes over an input's bytes is the text of the input. Assumes nothing.
+-- What the session writes over an input's bytes, one at a time, is the text of the input. Assumes nothing.
 use mathlib.Core.Path.{_≡_, refl, sym, ap, ap₂, _∙_}
-use mathlib.Core.Bool.{Bool, true, false, cond}
+use mathlib.Core.Bool.{Bool, true, false}
 use mathlib.Core.List.{List, [], _∷_, _++_, append-nil}
 use mathlib.Core.Logic.{⊎-elim}
 use mathlib.Core.Option.{Option, none, some}
-use Prim.Native.Nat.{ℕ, suc, _+_, _-_, _*_, _^_, _≤_, _<_, min}
+use Prim.Native.Nat.{ℕ, _+_, _-_, _*_, _^_, _≤_, _<_, min}
 use native.Mathlib.Omega.{arith}
 use lib.Dec.{eqb}
 use lib.ListN.{length, take, drop, replicate, length-replicate}
 use lib.Seq.{take-append-seam}
 use borrow.Author.Tests.{lt-ltb, eqb-true}
 use Rattle.block.specs.Answer.{Answer, refused, done}
-use Rattle.block.specs.Lengths.{isLength}
 use Rattle.block.proofs.Lengths.{length-facts}
 use Rattle.block.proofs.Truth.{either}
-use Rattle.line.specs.Order.{longestOrder}
 use Rattle.line.specs.Sending.{openSender, freshSender}
 use Rattle.line.specs.Receiving.{openReceiver, freshReceiver}
 use Rattle.line.proofs.Items.{valid-length}
-use Rattle.line.proofs.SenderRange.{Openable, opened}
+use Rattle.line.proofs.SenderRange.{opened}
 use Rattle.line.specs.declared.sender.Sender.{Sender}
 use Rattle.line.specs.declared.receiver.Receiver.{Receiver}
 use Rattle.session.specs.LineOne.{Opening, lineOne, keep, limit, readable, said, readAll, start, next, nextOrder}
 use Rattle.session.specs.Period.{Course, period}
-use Rattle.session.specs.Session.{newline, speed, loop-ms, placed, writes, quiet, opens, senderOpened, receiverOpened, afterPeriod, periodWritten, letterKind, fresh, takes, takesOrder, takesStore, ends}
-use Rattle.session.specs.Text.{heading, refusedText, outcomeText}
-use Rattle.session.specs.Run.{firstLine, afterLine, joined, lines, kindOf, unlessRefused, periodText, periods, orderRoom, storeRoom, receiverText, senderText, openingText, runText, written, output, Whole}
+use Rattle.session.specs.Session.{newline, speed, loop-ms, placed, writes, opens, senderOpened, receiverOpened, afterPeriod, letterKind, fresh, takes, takesOrder, takesStore, ends}
+use Rattle.session.specs.Text.{bytesOf, heading, refusedText, outcomeText}
+use Rattle.session.specs.Run.{firstLine, afterLine, joined, lines, kindOf, unlessRefused, periodText, periods, orderRoom, storeRoom, receiverText, senderText, openingText, runText}
 use Rattle.session.specs.declared.line_one.LineOne.{LineOne}
 use Rattle.session.specs.declared.period.Kind.{Kind}
 use Rattle.session.specs.declared.period.Outcome.{Outcome}
@@ -33,16 +31,28 @@ use Rattle.session.specs.declared.period.Outcome.the-variants as O
 use Rattle.session.specs.declared.script.Place.{Place}
 use Rattle.session.specs.declared.script.Place.the-variants as P
 use Rattle.session.specs.declared.script.Session.{Session}
+use Rattle.session.specs.declared.script.Written.{Written}
 use Rattle.session.proofs.LineOne.{line-one}
 use Rattle.session.proofs.Openings.{open-kept}
 use Rattle.session.proofs.Orders.{period-kept, period-setup}
+
+-- ---- what is written over the bytes of an input
+
+abbrev written : Written → List ℕ
+written w = bytesOf (w .text)
+
+unfoldable pub output : Session → List ℕ → List ℕ → List ℕ → List ℕ
+output s order store [] = written (ends s (s .place) order store)
+output s order store (c ∷ cs) =
+    let w : Written = takes s (s .place) c order store in
+    written w ++ output (w .session) (takesOrder s (s .place) c order) (takesStore s (s .place) c order store) cs
 
 written-text : (s : Session) (text : List ℕ) → written (writes s text) ≡ text
 written-text s text = take-append-seam text (drop (length text) (replicate 64 0))
 
 -- ---- after the run's end nothing is written
 
-over-silent : (s : Session) (order store cs : List ℕ) → output (placed s P.Over) order store cs ≡ []
+pub over-silent : (s : Session) (order store cs : List ℕ) → output (placed s P.Over) order store cs ≡ []
 unfolding output takes takesOrder takesStore ends
 over-silent s order store [] = refl
 over-silent s order store (c ∷ cs) = over-silent s order store cs
@@ -269,9 +279,11 @@ keep-text (some o) ls =
 
 -- ---- the whole
 
-pub whole : Whole
+-- the heading, and what the session writes over the input from its first state on, is the text of the input
+pub by-bytes : (input : List ℕ) → length input < 2 ^ 64
+    → heading ++ output fresh (replicate orderRoom 0) (replicate storeRoom 0) input ≡ runText input
 unfolding fresh runText
-whole input h =
+by-bytes input h =
     ap (λ (l : List ℕ). heading ++ l)
     (first-line start (freshSender 0 0) (freshReceiver 0) (replicate orderRoom 0) input h
     ∙ ap (λ (p : Option Opening). openingText p (lines (afterLine input)))
