@@ -17,7 +17,7 @@ use Rattle.session.specs.declared.script.Written.{Written}
 
 -- the most bytes of a part, which is what one read of the input brings; a byte brings a text at most
 abbrev pub partRoom : ℕ
-partRoom = 512
+partRoom = 2048
 
 abbrev pub outputRoom : ℕ
 outputRoom = room * partRoom

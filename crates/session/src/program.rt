@@ -20,7 +20,7 @@ const ORDER_BYTES: usize = 32_768;
 const STORE_BYTES: usize = 33_120;
 
 // The most bytes of a part: what one read of the input brings.
-pub const PART_BYTES: usize = 512;
+pub const PART_BYTES: usize = 2048;
 
 // A byte brings a text of 64 bytes at most.
 const OUTPUT_BYTES: usize = 64 * PART_BYTES;

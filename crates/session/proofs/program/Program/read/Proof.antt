@@ -25,13 +25,13 @@ least-requires c κs = search needs
 slice-aggregate-read-part : tie.Need-slice-aggregate-read-part
 slice-aggregate-read-part c =
     let a = c .before .before .before .before .args in
-    let h : length (a .part .now) ≡ 512 = search needs in
+    let h : length (a .part .now) ≡ 2048 = search needs in
     sym (length-take-le (c .before .least .result) (a .part .now) (omega arith))
 
 read-part-requires : tie.Need-read-part-requires
 read-part-requires c κs =
     let a = c .before .before .before .before .args in
-    let h : length (a .part .now) ≡ 512 = search needs in
+    let h : length (a .part .now) ≡ 2048 = search needs in
     let l = length-take-le (c .before .least .result) (a .part .now) (omega arith) in
     (omega arith, omega arith)
 
