@@ -1,8 +1,9 @@
 -- Lemmas of the run program's text; those of one function of the code stand in the folder of its file.
 -- Texts: Appending, Decimal, Outputs (texts in an output). Line one: LineOne, Ranges, Openings (opening by what is kept of it). A
--- period: Orders, Parts, Sent (the block in the line's array), Shifting, ReceivingCalls, Uses, PeriodCalls. The whole input: Whole
--- (a byte at a time), Turns (in parts).
+-- period: Orders, Parts, Sent (the block in the line's array), Shifting, ReceivingCalls, Uses, PeriodCalls. The whole input:
+-- ByBytes (a byte at a time), Whole (in parts).
 pub mod Appending
+pub mod ByBytes
 pub mod Decimal
 pub mod ReceivingCalls
 pub mod LineOne
@@ -14,6 +15,5 @@ pub mod PeriodCalls
 pub mod Ranges
 pub mod Sent
 pub mod Shifting
-pub mod Turns
 pub mod Uses
 pub mod Whole

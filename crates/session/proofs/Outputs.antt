@@ -32,7 +32,7 @@ module _ (text : Text) (h : length (text .bytes) ≡ room) where
       → (bytes ≡ laid (bytesOf text) s) × (len ≡ length (bytesOf text))
   put-first s bytes len e l = (e ∙ put-laid s, l ∙ zero-add (min (text .len) room) ∙ put-length)
 
--- the turn of these parts
+-- the turn of these fields
 abbrev pub made : Program → List ℕ → ℕ → Bool → Turn
 made p bytes len over = record { program = p; output = record { bytes = bytes; len = len }; over = over }
 

@@ -1,6 +1,4 @@
 -- `main` is safe and ends: the measure is the number of reads that are left. Assumes nothing.
-use borrow.Author.Needs.{needs}
-use mathlib.Core.Path.{_≡_}
 use native.Mathlib.Omega.{arith}
 use Rattle.session.proofs.Outputs.{start-fits, turn-fits}
 use Rattle.run.proofs.main.Statement.{statement}
