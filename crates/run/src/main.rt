@@ -1,91 +1,45 @@
-// The run program: a session on standard input, its course on standard output. All that it decides is in `session`.
+// The run program: a session on standard input, its course on standard output. It reads and writes; all else is in
+// `session`.
+ghost use mathlib.Core.Path.{_≡_};
+ghost use mathlib.Core.List.{List};
+ghost use Prim.Native.Nat.{ℕ, _≤_};
+ghost use lib.ListN.{length};
+ghost use Rattle.session.specs.Program.{turn};
 use libc::STDIN_FILENO;
 use libc::STDOUT_FILENO;
-use session::script::Session;
-use session::text::Text;
-use session::text::heading_text;
+use session::program::PART_BYTES;
+use session::program::Program;
+use session::program::Turn;
 
-// The bytes of the longest order.
-const ORDER_BYTES: usize = 32_768;
-
-// The bytes of the longest order with its last item filled, over the four block lengths.
-const STORE_BYTES: usize = 33_120;
-
-struct Turn {
-    pub session: Session,
-    pub goes_on: bool,
+fn write(turn: Turn)
+    requires { ⌜ turn .output .len ≤ length (turn .output .bytes) ⌝ }
+{
+    let output = turn.output;
+    let bytes = output.bytes;
+    let len = output.len;
+    io::write_all(STDOUT_FILENO, &bytes[..len]);
 }
 
-fn write_text(text: Text) -> bool {
-    let bytes = text.bytes;
-    let len = text.len;
-    if 64 < len {
-        return false;
-    }
-    io::write_all(STDOUT_FILENO, &bytes[..len])
+// The turn of some bytes: no contract can say that they are the input's.
+fn read(program: Program) -> Turn
+    ensures { λ r. ⌜ ((bytes : List ℕ) × (r ≡ turn program bytes)) ⌝ }
+{
+    let mut part = [0u8; PART_BYTES];
+    let got = libc::read(STDIN_FILENO, &mut part);
+    let count = io::count(got, &part);
+    program.read(&part, count)
 }
 
-// One byte of the input.
-fn read_byte(session: Session, c: u8, order: &mut [u8], store: &mut [u8]) -> Session {
-    let written = session.read(c, order, store);
-    let text = written.text;
-    write_text(text);
-    written.session
-}
-
-fn read_bytes(session: Session, bytes: &[u8], order: &mut [u8], store: &mut [u8]) -> Session {
-    let mut next = session;
-    let mut i = 0;
-    while i < bytes.len() {
-        next = read_byte(next, bytes[i], order, store);
-        i += 1;
-    }
-    next
-}
-
-// The end of the input.
-fn end(session: Session, order: &[u8], store: &mut [u8]) -> Session {
-    let written = session.end(order, store);
-    let text = written.text;
-    write_text(text);
-    written.session
-}
-
-// One part of the input, or its end.
-fn read_part(session: Session, order: &mut [u8], store: &mut [u8]) -> Turn {
-    let mut buffer = io::buffer();
-    let got = libc::read(STDIN_FILENO, &mut buffer);
-    if got <= 0 {
-        return Turn {
-            session: end(session, order, store),
-            goes_on: false,
-        };
-    }
-    let n = io::count(got, &buffer);
-    let next = read_bytes(session, &buffer[..n], order, store);
-    Turn {
-        session: next,
-        goes_on: !next.is_over(),
-    }
-}
-
-// A proved loop has to end, and nothing says that the input does: the turns are counted down from a number that no run
+// A proved loop has to end, and nothing says that the input does: the reads are counted down from a number that no run
 // uses up.
-fn run(order: &mut [u8], store: &mut [u8]) {
-    let mut session = Session::new();
-    let mut goes_on = true;
-    let mut turns = u64::MAX;
-    while turns > 0 && goes_on {
-        let turn = read_part(session, order, store);
-        session = turn.session;
-        goes_on = turn.goes_on;
-        turns -= 1;
-    }
-}
-
 fn main() {
-    write_text(heading_text());
-    let mut order = [0u8; ORDER_BYTES];
-    let mut store = [0u8; STORE_BYTES];
-    run(&mut order, &mut store);
+    let mut turn = Program::start();
+    write(turn);
+    let mut reads = u64::MAX;
+    while reads > 0 && !turn.over {
+        let program = turn.program;
+        turn = read(program);
+        write(turn);
+        reads -= 1;
+    }
 }

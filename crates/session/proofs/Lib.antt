@@ -1,12 +1,15 @@
 -- Lemmas of the run program's text; those of one function of the code stand in the folder of its file.
--- Texts: Appending, Decimal. Line one: LineOne, Ranges, Openings (opening by what is kept of it). A period: Orders, Parts, Sent
--- (the block in the line's array), Shifting, ReceivingCalls, Uses, PeriodCalls. The whole input: Whole.
+-- Texts: Appending, Decimal, Outputs (texts in an output). Line one: LineOne, Ranges, Openings (opening by what is kept of it). A
+-- period: Orders, Parts, Sent (the block in the line's array), Shifting, ReceivingCalls, Uses, PeriodCalls. The whole input:
+-- ByBytes (a byte at a time), Whole (in parts).
 pub mod Appending
+pub mod ByBytes
 pub mod Decimal
 pub mod ReceivingCalls
 pub mod LineOne
 pub mod Openings
 pub mod Orders
+pub mod Outputs
 pub mod Parts
 pub mod PeriodCalls
 pub mod Ranges

@@ -1,5 +1,6 @@
 pub mod LineOne
 pub mod Period
+pub mod Program
 pub mod Run
 pub mod Session
 pub mod Text

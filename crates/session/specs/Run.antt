@@ -1,11 +1,10 @@
--- What the run program writes for an input, whole; and what the session writes over the input's bytes. Assumes nothing.
-use mathlib.Core.Path.{_≡_}
+-- What the run program writes for an input: its text. Assumes nothing.
 use mathlib.Core.Bool.{cond}
 use mathlib.Core.List.{List, [], _∷_, _++_}
 use mathlib.Core.Option.{Option, none, some}
-use Prim.Native.Nat.{ℕ, _+_, _^_, _<_}
+use Prim.Native.Nat.{ℕ, _+_}
 use lib.Dec.{eqb}
-use lib.ListN.{length, take, replicate}
+use lib.ListN.{replicate}
 use Rattle.block.specs.Answer.{Answer, refused, done}
 use Rattle.line.specs.Sending.{openSender}
 use Rattle.line.specs.Receiving.{openReceiver, freshReceiver}
@@ -13,13 +12,11 @@ use Rattle.line.specs.declared.sender.Sender.{Sender}
 use Rattle.line.specs.declared.receiver.Receiver.{Receiver}
 use Rattle.session.specs.LineOne.{Opening, lineOne}
 use Rattle.session.specs.Period.{Course, period}
-use Rattle.session.specs.Session.{newline, speed, loop-ms, letterKind, fresh, takes, takesOrder, takesStore, ends}
+use Rattle.session.specs.Session.{newline, speed, loop-ms, letterKind}
 use Rattle.session.specs.Text.{heading, refusedText, outcomeText}
 use Rattle.session.specs.declared.period.Kind.{Kind}
 use Rattle.session.specs.declared.period.Outcome.{Outcome}
 use Rattle.session.specs.declared.period.Outcome.the-variants as O
-use Rattle.session.specs.declared.script.Session.{Session}
-use Rattle.session.specs.declared.script.Written.{Written}
 
 -- ---- the text of an input
 
@@ -89,20 +86,3 @@ openingText (some o) ls = senderText o ls (openSender (o .k) speed loop-ms (o .o
 
 unfoldable pub runText : List ℕ → List ℕ
 runText input = heading ++ openingText (lineOne (firstLine input)) (lines (afterLine input))
-
--- ---- what is written over the bytes of an input
-
-abbrev pub written : Written → List ℕ
-written w = take (w .text .len) (w .text .bytes)
-
-unfoldable pub output : Session → List ℕ → List ℕ → List ℕ → List ℕ
-output s order store [] = written (ends s (s .place) order store)
-output s order store (c ∷ cs) =
-    let w : Written = takes s (s .place) c order store in
-    written w ++ output (w .session) (takesOrder s (s .place) c order) (takesStore s (s .place) c order store) cs
-
--- the heading, and what the session writes over the input from its first state on, is the text of the input
-abbrev pub Whole : Type 0
-Whole =
-    (input : List ℕ) → length input < 2 ^ 64
-    → heading ++ output fresh (replicate orderRoom 0) (replicate storeRoom 0) input ≡ runText input

@@ -1,0 +1,108 @@
+-- The run program, a part of its input at a time: what it keeps and what is to be written; and that the outputs are the text
+-- of the input, however it is divided. Assumes nothing.
+use mathlib.Core.Path.{_≡_}
+use mathlib.Core.Bool.{cond}
+use mathlib.Core.List.{List, [], _∷_, _++_}
+use Prim.Native.Nat.{ℕ, _*_, _^_, _<_}
+use lib.ListN.{length, take, drop, replicate}
+use Rattle.session.specs.Run.{orderRoom, storeRoom, runText}
+use Rattle.session.specs.Session.{placed, fresh, takes, takesOrder, takesStore, ends, endsStore, over}
+use Rattle.session.specs.Text.{room, bytesOf, heading}
+use Rattle.session.specs.declared.program.Output.{Output}
+use Rattle.session.specs.declared.program.Program.{Program}
+use Rattle.session.specs.declared.program.Turn.{Turn}
+use Rattle.session.specs.declared.script.Place.the-variants as P
+use Rattle.session.specs.declared.script.Session.{Session}
+use Rattle.session.specs.declared.script.Written.{Written}
+
+-- the most bytes of a part, which is what one read of the input brings; a byte brings a text at most
+abbrev pub partRoom : ℕ
+partRoom = 2048
+
+abbrev pub outputRoom : ℕ
+outputRoom = room * partRoom
+
+-- what is kept from part to part
+abbrev pub keeping : Session → List ℕ → List ℕ → Program
+keeping s order store = record { session = s; order = order; store = store }
+
+-- before the first byte
+abbrev pub atStart : Program
+atStart = keeping fresh (replicate orderRoom 0) (replicate storeRoom 0)
+
+-- ---- the bytes of a part
+
+abbrev pub byteTaken : Program → ℕ → Written
+byteTaken p c = takes (p .session) (p .session .place) c (p .order) (p .store)
+
+abbrev pub afterByte : Program → ℕ → Program
+afterByte p c =
+    keeping (byteTaken p c .session) (takesOrder (p .session) (p .session .place) c (p .order))
+    (takesStore (p .session) (p .session .place) c (p .order) (p .store))
+
+unfoldable pub afterBytes : Program → List ℕ → Program
+afterBytes p [] = p
+afterBytes p (c ∷ cs) = afterBytes (afterByte p c) cs
+
+unfoldable pub bytesText : Program → List ℕ → List ℕ
+bytesText p [] = []
+bytesText p (c ∷ cs) = bytesOf (byteTaken p c .text) ++ bytesText (afterByte p c) cs
+
+-- bytes over the first of a list
+abbrev pub laid : List ℕ → List ℕ → List ℕ
+laid s bytes = s ++ drop (length s) bytes
+
+-- what reading the bytes into an output of any length does
+pub record ReadBytes (p : Program) (part output : List ℕ) (p′ : Program) (len : ℕ) (output′ : List ℕ) : Type 0 where
+  pub reaches : p′ ≡ afterBytes p part
+  pub counts : len ≡ length (bytesText p part)
+  pub writes : output′ ≡ laid (bytesText p part) output
+
+-- ---- the end of the input, after which nothing more is read
+
+abbrev pub endTaken : Program → Written
+endTaken p = ends (p .session) (p .session .place) (p .order) (p .store)
+
+abbrev pub afterEnd : Program → Program
+afterEnd p =
+    keeping (placed (endTaken p .session) P.Over) (p .order) (endsStore (p .session) (p .session .place) (p .order) (p .store))
+
+-- ---- a turn
+
+-- the output that holds these bytes alone
+abbrev pub outputOf : List ℕ → Output
+outputOf s = record { bytes = laid s (replicate outputRoom 0); len = length s }
+
+abbrev pub turnTo : Program → List ℕ → Turn
+turnTo p text = record { program = p; output = outputOf text; over = over (p .session .place) }
+
+-- the first turn
+abbrev pub start : Turn
+start = turnTo atStart heading
+
+-- after a part; one with no byte is the end of the input
+abbrev pub turn : Program → List ℕ → Turn
+turn p [] = turnTo (afterEnd p) (bytesOf (endTaken p .text))
+turn p (c ∷ cs) = turnTo (afterBytes p (c ∷ cs)) (bytesText p (c ∷ cs))
+
+-- ---- the whole
+
+abbrev pub shown : Output → List ℕ
+shown o = take (o .len) (o .bytes)
+
+-- what is written from a turn on: its output and, unless the run is over, the outputs over the parts that follow
+unfoldable pub outputs : Turn → List (List ℕ) → List ℕ
+outputs t [] = shown (t .output)
+outputs t (part ∷ parts) = shown (t .output) ++ cond (t .over) [] (outputs (turn (t .program) part) parts)
+
+-- the input in these parts: all up to the first with no byte
+abbrev pub inputOf : List (List ℕ) → List ℕ
+inputOf [] = []
+inputOf ([] ∷ parts) = []
+inputOf ((c ∷ cs) ∷ parts) = (c ∷ cs) ++ inputOf parts
+
+-- however the input is divided, what is written over its parts and its end is its text
+abbrev pub Whole : Type 0
+Whole =
+    (parts : List (List ℕ)) → length (inputOf parts) < 2 ^ 64
+    → outputs start (parts ++ ([] ∷ [])) ≡ runText (inputOf parts)
