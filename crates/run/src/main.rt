@@ -1,5 +1,5 @@
 // The run program: a session on standard input, its course on standard output. It reads and writes; all else is in
-// `session`.
+// `session`. It has no exit status of its own: whatever it wrote, it ends with 0.
 ghost use mathlib.Core.Path.{_≡_};
 ghost use mathlib.Core.List.{List};
 ghost use Prim.Native.Nat.{ℕ, _≤_};
