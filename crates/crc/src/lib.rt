@@ -1,7 +1,7 @@
 // The cyclic check of V.41: the register of x^16 + x^12 + x^5 + 1 over bits, bytes and words.
 ghost use mathlib.Core.Path.{_≡_};
 ghost use mathlib.Core.List.{[], _∷_, _++_};
-ghost use Prim.Native.Nat.{_+_, _-_, _%_, _≤_, _<_};
+ghost use Prim.Native.Nat.{_+_, _-_, _%_, _^_, _≤_, _<_};
 ghost use lib.ListN.{length, take, drop};
 ghost use Rattle.crc.specs.Bits.{binary, bitsOf};
 ghost use Rattle.crc.specs.Words.{bitsOfWords, wordsOf};
@@ -37,18 +37,26 @@ pub fn feed_word(c: u16, w: u64) -> u16
     ((q ^ (q << 5) ^ (q << 12)) & 0xffff) as u16
 }
 
-// Eight bytes from place i on as a word, the first at the top.
-fn load_word(s: &[u8], i: usize) -> u64
-    requires { ⌜ i + 8 ≤ length (now s) ⌝ }
-    ensures { λ r. ⌜ binary 64 r ≡ bitsOf (take 8 (drop i (now (s .entry)))) ⌝ }
+// Four bytes from place i on as half a word, the first at the top.
+fn load_half(s: &[u8], i: usize) -> u64
+    requires { ⌜ i + 4 ≤ length (now s) ⌝ }
+    ensures { λ r. ⌜ (r < 2 ^ 32) × (binary 32 r ≡ bitsOf (take 4 (drop i (now (s .entry))))) ⌝ }
 {
     let mut w: u64 = 0;
     let mut j: usize = 0;
-    while j < 8 {
+    while j < 4 {
         w = (w << 8) | (s[i + j] as u64);
         j += 1;
     }
     w
+}
+
+// Eight bytes from place i on as a word, the first at the top: in two halves, which the compiler reads as one word.
+fn load_word(s: &[u8], i: usize) -> u64
+    requires { ⌜ i + 8 ≤ length (now s) ⌝ }
+    ensures { λ r. ⌜ binary 64 r ≡ bitsOf (take 8 (drop i (now (s .entry)))) ⌝ }
+{
+    (load_half(s, i) << 32) | load_half(s, i + 4)
 }
 
 // Four words of a row, the earliest first.
