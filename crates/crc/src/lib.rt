@@ -172,8 +172,11 @@ pub fn feed_bytes(c: u16, s: &[u8]) -> u16
     if s.len() < 8 {
         return feed_singles(c, s);
     }
+    let mut r = c;
+    let mut i = 0;
     if s.len() % 8 == 1 {
-        return feed_words(feed_byte(c, s[0]), &s[1..]);
+        r = feed_byte(c, s[0]);
+        i = 1;
     }
-    feed_words(c, s)
+    feed_words(r, &s[i..])
 }
