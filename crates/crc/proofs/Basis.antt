@@ -22,11 +22,11 @@ infixl 70 _>>_
 -- ---- linear functions
 
 -- f takes sums to sums, below 2^k
-abbrev Additive : ℕ → (ℕ → ℕ) → Type 0
+abbrev pub Additive : ℕ → (ℕ → ℕ) → Type 0
 Additive k f = (a b : ℕ) → a < 2 ^ k → b < 2 ^ k → f (bitXor a b) ≡ bitXor (f a) (f b)
 
 -- f and h agree at 0 and at the k lowest powers of two
-abbrev sameOn : (ℕ → ℕ) → (ℕ → ℕ) → ℕ → Bool
+abbrev pub sameOn : (ℕ → ℕ) → (ℕ → ℕ) → ℕ → Bool
 sameOn f h zero = eqb (f 0) (h 0)
 sameOn f h (suc k) = eqb (f (2 ^ k)) (h (2 ^ k)) && sameOn f h k
 
@@ -52,7 +52,7 @@ module _ (f h : ℕ → ℕ) (k : ℕ) (p : Additive (suc k) f) (q : Additive (s
       (p (1 * 2 ^ k) r o (half-lt k v) ∙ ap₂ bitXor (ap f i ∙ e ∙ ap h (sym i)) g ∙ sym (q (1 * 2 ^ k) r o (half-lt k v)))
   with-top (suc (suc d)) r u v g = absurd (omega arith)
 
-by-basis : (f h : ℕ → ℕ) (k : ℕ) → Additive k f → Additive k h → T (sameOn f h k) → (n : ℕ) → n < 2 ^ k → f n ≡ h n
+pub by-basis : (f h : ℕ → ℕ) (k : ℕ) → Additive k f → Additive k h → T (sameOn f h k) → (n : ℕ) → n < 2 ^ k → f n ≡ h n
 by-basis f h zero p q t n l = ap f (lt-one l) ∙ eqb→eq (f 0) (h 0) t ∙ ap h (sym (lt-one l))
 by-basis f h (suc k) p q t n l =
     subst (λ (x : ℕ). f x ≡ h x) (split n k)
@@ -84,7 +84,7 @@ eval (low e k) c b = bitAnd (eval e c b) (2 ^ k - 1)
 eval (e ⊕ f) c b = bitXor (eval e c b) (eval f c b)
 eval (e into f) c b = eval f (eval e c b) b
 
-eval-xor : (e : Term) (c d a b : ℕ) → eval e (bitXor c d) (bitXor a b) ≡ bitXor (eval e c a) (eval e d b)
+pub eval-xor : (e : Term) (c d a b : ℕ) → eval e (bitXor c d) (bitXor a b) ≡ bitXor (eval e c a) (eval e d b)
 eval-xor reg c d a b = refl
 eval-xor new c d a b = refl
 eval-xor (e >> k) c d a b = ap (λ (x : ℕ). x / 2 ^ k) (eval-xor e c d a b) ∙ xor-shr (eval e c a) (eval e d b) k
@@ -99,7 +99,7 @@ eval-xor (e ⊕ f) c d a b =
 eval-xor (e into f) c d a b =
     ap (λ (x : ℕ). eval f x (bitXor a b)) (eval-xor e c d a b) ∙ eval-xor f (eval e c a) (eval e d b) a b
 
-register-binary-xor : (m c d a b : ℕ) → c < 2 ^ 16 → d < 2 ^ 16
+pub register-binary-xor : (m c d a b : ℕ) → c < 2 ^ 16 → d < 2 ^ 16
     → register (bitXor c d) (binary m (bitXor a b)) ≡ bitXor (register c (binary m a)) (register d (binary m b))
 register-binary-xor m c d a b h k =
     ap (register (bitXor c d)) (binary-xor m a b)

@@ -1,6 +1,7 @@
 -- Lemmas of the cyclic check; those of one function of the code stand in its folder.
 -- Rows of bits and numbers: Xor, Rows; bytes: Bytes. The remainder: Linear (of a sum), Division (divisible or not), Codeword
--- (with check bits). What the check finds: Detect. The register and its formulas: Register, Basis.
+-- (with check bits). What the check finds: Detect. The register and its formulas: Register, Basis; lists of
+-- words: Words; a word folded into those behind it: Folding; the bytes before the first whole word: Head.
 pub mod Xor
 pub mod Rows
 pub mod Bytes
@@ -10,3 +11,6 @@ pub mod Codeword
 pub mod Detect
 pub mod Register
 pub mod Basis
+pub mod Words
+pub mod Folding
+pub mod Head

@@ -8,7 +8,7 @@ use native.Mathlib.Numerals.{add-one}
 use native.Mathlib.Omega.{arith}
 use lib.Bits.{bitXor, xor-lt, xor-zero-r}
 use lib.Dec.{lit<}
-use lib.ListN.{length, take, drop, getD}
+use lib.ListN.{length, take, drop, getD, take-append-drop}
 use lib.Seq.{take-suc, take-add}
 use Rattle.crc.specs.Bits.{Bits, zeros, bit, binary, bitsOf, xor, xorBits}
 use Rattle.crc.specs.Check.{reduce, divideBit, divide, remainder, check, registerBit, register}
@@ -110,6 +110,12 @@ pub register-bytes : (c : ℕ) (s : List ℕ) (i n : ℕ)
 register-bytes c s i n =
     sym (register-append c (bitsOf (take i s)) (bitsOf (take n (drop i s)))) ∙ ap (register c) (sym (bitsOf-append (take i s) (take n (drop i s))))
     ∙ ap (λ (l : List ℕ). register c (bitsOf l)) (sym (take-add i n s))
+
+-- the bytes that are left
+pub register-rest : (c : ℕ) (s : List ℕ) (i : ℕ) → register (register c (bitsOf (take i s))) (bitsOf (drop i s)) ≡ register c (bitsOf s)
+register-rest c s i =
+    sym (register-append c (bitsOf (take i s)) (bitsOf (drop i s))) ∙ ap (register c) (sym (bitsOf-append (take i s) (drop i s)))
+    ∙ ap (λ (l : List ℕ). register c (bitsOf l)) (take-append-drop i s)
 
 -- one byte more
 pub register-byte : (c : ℕ) (s : List ℕ) (i : ℕ) → i < length s

@@ -1,4 +1,5 @@
 pub mod Bits
+pub mod Words
 pub mod Polynomial
 pub mod Check
 pub mod Damage

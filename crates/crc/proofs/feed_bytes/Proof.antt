@@ -1,105 +1,71 @@
--- `crc::feed_bytes` meets its contract: in both loops the register has taken the bytes passed. Assumes nothing.
-use mathlib.Core.Path.{_≡_, refl, ap, ap₂, _∙_}
+-- `crc::feed_bytes` meets its contract. Assumes nothing.
+use mathlib.Core.Path.{_≡_, sym, ap, ap₂, _∙_}
+use mathlib.Core.Logic.{⊎-elim}
 use mathlib.Core.List.{List}
-use Prim.Native.Nat.{ℕ, _≤_, _-_}
+use Prim.Native.Nat.{ℕ, _-_}
+use native.Mathlib.Omega.{arith}
 use borrow.Author.Needs.{needs}
-use lib.ListN.{length, take, getD}
+use lib.ListN.{length, take, drop, length-drop}
 use lib.Seq.{take-all}
-use Rattle.crc.specs.Bits.{binary, bitsOf}
+use Rattle.crc.specs.Bits.{bitsOf}
 use Rattle.crc.specs.Check.{register}
-use Rattle.crc.proofs.Register.{register-byte, register-bytes}
+use Rattle.crc.proofs.Register.{register-byte, register-rest}
 use Rattle.crc.proofs.feed_bytes.Statement.{statement}
 use Rattle.crc.proofs.feed_bytes.Tie as tie
 
-abbrev Inv-loop : tie.InvT-loop
-Inv-loop c s r₀ i₀ r i = (i ≤ length s) × (r ≡ register c (bitsOf (take i s)))
+feed-singles-requires : tie.Need-feed-singles-requires
+feed-singles-requires c κs = search needs
 
-abbrev μ-loop : tie.MeasureT-loop
-μ-loop c s r₀ i₀ r i = length s - i
+returns : tie.Need-returns
+returns c = search needs
 
-abbrev Inv-loop2 : tie.InvT-loop2
-Inv-loop2 = Inv-loop
-
-abbrev μ-loop2 : tie.MeasureT-loop2
-μ-loop2 = μ-loop
-
-loop-holds : tie.Need-loop-holds Inv-loop μ-loop Inv-loop2 μ-loop2
-unfolding register bitsOf
-loop-holds c = (search needs, refl)
-
-sub-loop : tie.Need-sub-loop Inv-loop μ-loop Inv-loop2 μ-loop2
-sub-loop c = search needs
-
-load-word-requires : tie.Need-load-word-requires Inv-loop μ-loop Inv-loop2 μ-loop2
-load-word-requires c κs = search needs
-
-feed-word-requires : tie.Need-feed-word-requires Inv-loop μ-loop Inv-loop2 μ-loop2
-feed-word-requires c κs = search needs
-
-add-i : tie.Need-add-i Inv-loop μ-loop Inv-loop2 μ-loop2
-add-i c = search needs
-
-loop-less : tie.Need-loop-less Inv-loop μ-loop Inv-loop2 μ-loop2
-loop-less c = search needs
-
-loop-again : tie.Need-loop-again Inv-loop μ-loop Inv-loop2 μ-loop2
-loop-again c =
-    let s : List ℕ = c .before .before .before .before .before .args .s .now in
-    let i : ℕ = c .before .before .before .loop .i in (
-      search needs,
-      c .feed-word .ensures ∙ ap₂ register (c .before .before .before .loop .inv .1) (c .before .load-word .ensures)
-          ∙ register-bytes (c .before .before .before .before .before .args .c) s i 8,
-    )
-
-loop2-holds : tie.Need-loop2-holds Inv-loop μ-loop Inv-loop2 μ-loop2
-loop2-holds c = search needs
-
-shared-slice-read-feed-byte : tie.Need-shared-slice-read-feed-byte Inv-loop μ-loop Inv-loop2 μ-loop2
+shared-slice-read-feed-byte : tie.Need-shared-slice-read-feed-byte
 shared-slice-read-feed-byte c = search needs
 
-feed-byte-requires : tie.Need-feed-byte-requires Inv-loop μ-loop Inv-loop2 μ-loop2
+feed-byte-requires : tie.Need-feed-byte-requires
 feed-byte-requires c κs = search needs
 
-add-i-2 : tie.Need-add-i-2 Inv-loop μ-loop Inv-loop2 μ-loop2
-add-i-2 c = search needs
+sub-feed-words : tie.Need-sub-feed-words
+sub-feed-words c = ⊎-elim (λ w. omega arith) (λ w. omega arith) (c .before .if2 .came)
 
-loop2-less : tie.Need-loop2-less Inv-loop μ-loop Inv-loop2 μ-loop2
-loop2-less c = search needs
+part-feed-words-start : tie.Need-part-feed-words-start
+part-feed-words-start c = ⊎-elim (λ w. search needs) (λ w. search needs) (c .before .if2 .came)
 
-loop2-again : tie.Need-loop2-again Inv-loop μ-loop Inv-loop2 μ-loop2
-loop2-again c =
-    let s : List ℕ = c .before .before .before .before .before .before .before .args .s .now in
-    let i : ℕ = c .before .before .before .loop2 .i in (
-      search needs,
-      c .feed-byte .ensures ∙ ap (λ (x : ℕ). register x (binary 8 (getD s i 0))) (c .before .before .before .loop2 .inv .1)
-          ∙ register-byte (c .before .before .before .before .before .before .before .args .c) s i (search needs),
-    )
+part-feed-words-end : tie.Need-part-feed-words-end
+part-feed-words-end c = search needs
 
-returns : tie.Need-returns Inv-loop μ-loop Inv-loop2 μ-loop2
-returns c =
-    let at : ℕ = c .before .before .before .before .before .args .c in
-    let s : List ℕ = c .before .before .before .before .before .args .s .now in
-    c .before .loop2 .inv .1 ∙ ap (λ (l : List ℕ). register at (bitsOf l)) (take-all (c .before .loop2 .i) s (search needs))
+feed-words-requires : tie.Need-feed-words-requires
+feed-words-requires c κs = ⊎-elim (λ w. search needs) (λ w. search needs) (c .before .before .if2 .came)
+
+-- the bytes from place i on behind those before
+fed : (at : ℕ) (s : List ℕ) (r i : ℕ) → r ≡ register at (bitsOf (take i s))
+    → register r (bitsOf (take (length s - i) (drop i s))) ≡ register at (bitsOf s)
+fed at s r i e =
+    ap₂ (λ (x : ℕ) (l : List ℕ). register x (bitsOf l)) e (take-all (length s - i) (drop i s) (omega (arith, length-drop i s)))
+    ∙ register-rest at s i
+
+returns-2 : tie.Need-returns-2
+unfolding register bitsOf
+returns-2 c =
+    let at : ℕ = c .before .before .before .before .before .before .args .c in
+    let s : List ℕ = c .before .before .before .before .before .before .args .s .now in
+    let i : ℕ = c .before .before .before .if2 .i in
+    let r : ℕ = c .before .before .before .if2 .r in
+    c .feed-words .ensures
+    ∙ fed at s r i
+    (⊎-elim (λ w. w .3 ∙ w .2 .ensures ∙ register-byte at s 0 (search needs) ∙ ap (λ (n : ℕ). register at (bitsOf (take n s))) (sym (w .4)))
+    (λ w. w .1 ∙ ap (λ (n : ℕ). register at (bitsOf (take n s))) (sym (w .2))) (c .before .before .before .if2 .came))
 
 pub feed-bytes-spec : {M : Type 1} → statement M
 feed-bytes-spec =
     tie.close
     (tie.spec
-    Inv-loop
-    μ-loop
-    Inv-loop2
-    μ-loop2
-    loop-holds
-    sub-loop
-    load-word-requires
-    feed-word-requires
-    add-i
-    loop-less
-    loop-again
-    loop2-holds
+    feed-singles-requires
+    returns
     shared-slice-read-feed-byte
     feed-byte-requires
-    add-i-2
-    loop2-less
-    loop2-again
-    returns)
+    sub-feed-words
+    part-feed-words-start
+    part-feed-words-end
+    feed-words-requires
+    returns-2)
