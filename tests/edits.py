@@ -1,13 +1,18 @@
 #!/usr/bin/env python3
-"""Tries crates/NAME/must-fail/further/*.edit: edits that the prover must refuse, some seconds each.
+"""Tries the edits in crates/NAME/must-fail/ and must-fail/further/: the prover must refuse each because a fact fails.
 
-For an edit in must-fail/ itself, rt ci checks the whole crate from nothing. Here a crate is checked as it is, over the
-record that rt dev keeps; then with each edit over that record, so that only what the edit reaches is checked again; and at
-the end as it is once more. It works on copies, in target/edits/NAME; the output is in LABEL.log there. Without
-arguments every crate is tried, else those named.
+    edits.py [NAME ...]                  the edits of these crates, these edits, or all; some seconds each
+    edits.py --from-nothing [CRATE ...]  the verdict on all of them, by rt must-fail; a check of a whole crate each
+
+The first form checks a crate as it is, over the record that rt dev keeps; then with each edit over that record, so that
+only what the edit reaches is checked again; and at the end as it is once more. That is no verdict, but it shows where and
+why an edit is refused, which rt does not judge. Before that, docs/CLAIMS.md must name every edit and no other. The work is
+done on copies, in target/edits/; the output of a check is in LABEL.log there.
 """
 
+import collections
 import concurrent.futures
+import os
 import pathlib
 import re
 import shutil
@@ -16,7 +21,43 @@ import sys
 import time
 
 ROOT = pathlib.Path(__file__).resolve().parent.parent
+WORK = ROOT / "target" / "edits"
 AS_IT_IS = "as it is"
+
+ERROR = re.compile(r"^(\S+): error[^:]*: (?:`([^`]*)`: )?(.*)", re.MULTILINE)
+OPEN_NEED = re.compile(r"^note: (\S+): it is not proved that ", re.MULTILINE)
+NO_PROOF = re.compile(r"^fn \S+: no proof: expected `[^`]*` in (\S+)/Proof\.antt", re.MULTILINE)
+
+CONTRACT = re.compile(r"^ *(?:requires|ensures) .*", re.MULTILINE)
+
+# The declaration names one that was refused: nothing new.
+CONSEQUENCE = "was not admitted"
+# The proof speaks of a place or a name that the edited code does not have.
+MISFIT = re.compile(r"has no field|that can be named from here|is not in scope")
+# Declarations of a function's proof that hold no fact: a loop's invariant and measure, and the list of the facts.
+NO_FACT = re.compile(r"Inv-|μ-|.*-spec$")
+
+
+def all_edits():
+    """The paths of the edits by crate, those that rt ci tries first."""
+    found = collections.defaultdict(list)
+    for pattern in ("*.edit", "further/*.edit"):
+        for edit in sorted(ROOT.glob(f"crates/*/must-fail/{pattern}")):
+            found[edit.relative_to(ROOT).parts[1]].append(edit)
+    return found
+
+
+def name_faults(edits):
+    """What is wrong with the edits' names. A word in backquotes with an underscore in docs/CLAIMS.md names an edit, unless
+    it is a word of the sources."""
+    claims = set(re.findall(r"`([a-z0-9]+(?:_[a-z0-9]+)+)`", (ROOT / "docs" / "CLAIMS.md").read_text()))
+    words = set(re.findall(r"\w+", " ".join(file.read_text() for file in ROOT.glob("crates/*/src/**/*.rt"))))
+    names = collections.Counter(edit.stem for edit in edits)
+    yield from (f"{name}: two edits have this name" for name in names if names[name] > 1)
+    yield from (f"{name}: an edit's name has an underscore" for name in names if "_" not in name)
+    yield from (f"{name}: an edit's name is no word of the sources" for name in names.keys() & words)
+    yield from (f"{name}: docs/CLAIMS.md does not name this edit" for name in sorted(names.keys() - claims))
+    yield from (f"{name}: docs/CLAIMS.md names no such edit" for name in sorted(claims - words - names.keys()))
 
 
 def replacements(edit):
@@ -32,36 +73,71 @@ def replacements(edit):
 
 
 def edited(crate, edit):
-    """The texts of the crate's files with the edit, by path, or none where an old text is not there once."""
+    """The texts of the crate's files with the edit, by path, or none where an old text is not there once or a contract
+    would be another."""
     texts = {}
     for file, old, new in replacements(edit):
         path = crate / file
-        text = texts.get(path) or path.read_text()
-        if text.count(old) != 1:
+        text = texts.get(path) or (path.read_text() if path.is_file() else "")
+        if text.count(old) != 1 or CONTRACT.findall(text) != CONTRACT.findall(text.replace(old, new)):
             return {}
         texts[path] = text.replace(old, new)
     return texts
 
 
-def verdict(status, output):
-    """What a check came to."""
-    if status == 0:
-        return "proved"
-    if status == 1 and re.search(r"^logic=not-proved", output, re.MULTILINE):
-        return "refused"
-    return f"no verdict (exit {status})"
-
-
-def check_gives(wanted, tree, name, label):
-    """Whether a check of the crate comes to the verdict that is wanted; prints a line about it."""
+def check(tree, name, label, *words):
+    """A check of the crate as it stands: its exit status, its output, which is also kept, and the seconds it took."""
     began = time.monotonic()
-    run = subprocess.run(["rt", "dev", name], cwd=tree, stdout=subprocess.PIPE, stderr=subprocess.STDOUT, text=True)
-    took = time.monotonic() - began
+    command = ["rt", "dev", name, *words]
+    run = subprocess.run(command, cwd=tree, stdout=subprocess.PIPE, stderr=subprocess.STDOUT, text=True)
     (tree / f"{label}.log").write_text(run.stdout)
-    found = verdict(run.returncode, run.stdout)
-    error = re.search(r"^(\S+): error", run.stdout, re.MULTILINE)
-    place = f", first at {error[1].removeprefix(f'{tree}/crates/{name}/')}" if error else ""
-    print(f"{name}/{label}: {found}{place} ({took:.1f} s)", flush=True)
+    return run.returncode, run.stdout, time.monotonic() - began
+
+
+def generated(tree):
+    """Where the text that is generated from the code of the crate as it is stands."""
+    return tree / "generated"
+
+
+def same_needs(tree, name, function, output):
+    """Whether what is to be proved of a function without a proof file, in order, is what it is in the crate as it is."""
+    tie = generated(tree) / f"Rattle.{name}.proofs" / "proofs" / function / "Tie.antt"
+    proposed = output.split(f"help: write {tree}/crates/{name}/proofs/{function}/Proof.antt ")[-1].split("-spec :")[0]
+    return re.findall(r"tie\.Need-(\S+)", proposed) == re.findall(r"pub Need-(\S+)", tie.read_text())
+
+
+def refusal(tree, name, output):
+    """What a check that ended in not-proved shows, and the place of its first error."""
+    crate = tree / "crates" / name
+    errors = [error for error in ERROR.findall(output) if CONSEQUENCE not in error[2]]
+    for place, declaration, message in errors:
+        if not declaration or MISFIT.search(message) or NO_FACT.match(declaration):
+            return "not refused on a fact: the proof does not fit", place
+    if errors:
+        place = errors[0][0]
+        return "refused" if place.startswith(f"{crate}/proofs/") else "not refused on a fact: a file is broken", place
+    places = OPEN_NEED.findall(output)
+    functions = [os.path.relpath(path, crate / "proofs") for path in NO_PROOF.findall(output)]
+    if places and functions and all(same_needs(tree, name, function, output) for function in functions):
+        return "refused", places[0]
+    return "not refused on a fact: other needs than before", "".join(places[:1])
+
+
+def verdict(tree, name, status, output):
+    """What a check came to, and the place of its first error, if it has one."""
+    if status == 0:
+        return "proved", ""
+    if status == 1 and re.search(r"^logic=not-proved", output, re.MULTILINE):
+        return refusal(tree, name, output)
+    return f"no verdict (exit {status})", ""
+
+
+def check_gives(wanted, tree, name, label, *words):
+    """Whether a check of the crate comes to what is wanted; prints a line about it."""
+    status, output, seconds = check(tree, name, label, *words)
+    found, place = verdict(tree, name, status, output)
+    place = place.removeprefix(f"{tree}/crates/{name}/")
+    print(f"{name}/{label}: {found}{', first at ' if place else ''}{place} ({seconds:.1f} s)", flush=True)
     return found == wanted
 
 
@@ -69,7 +145,7 @@ def try_edit(tree, name, edit):
     """Whether an edit is refused; the crate is as it was afterwards."""
     texts = edited(tree / "crates" / name, edit)
     if not texts:
-        print(f"{name}/{edit.stem}: an old text is not there, or not once", flush=True)
+        print(f"{name}/{edit.stem}: it has no old text, one that is not there once, or another contract", flush=True)
         return False
     before = {path: path.read_text() for path in texts}
     for path, text in texts.items():
@@ -80,30 +156,68 @@ def try_edit(tree, name, edit):
     return refused
 
 
-def try_edits(name, edits):
-    """How many of a crate's checks came to another verdict than they should."""
-    tree = ROOT / "target" / "edits" / name
+def copy_crates(tree):
+    """A new tree that holds the crates and no result of a check."""
     shutil.rmtree(tree, ignore_errors=True)
     shutil.copytree(ROOT / "crates", tree / "crates")
     shutil.copy(ROOT / "crates.txt", tree)
+
+
+def try_edits(name, edits):
+    """How many of a crate's checks came to something else than they should."""
+    tree = WORK / name
+    copy_crates(tree)
     shutil.copytree(ROOT / "target" / "stamp", tree / "target" / "stamp")
     (tree / "target" / "rlib").symlink_to(ROOT / "target" / "rlib")
-    results = [check_gives("proved", tree, name, AS_IT_IS)]
+    results = [check_gives("proved", tree, name, AS_IT_IS, "--generated", str(generated(tree)))]
     results += [try_edit(tree, name, edit) for edit in edits]
     results += [check_gives("proved", tree, name, AS_IT_IS)]
     return results.count(False)
 
 
-def main():
-    found = {}
-    for edit in sorted(ROOT.glob("crates/*/must-fail/further/*.edit")):
-        found.setdefault(edit.parts[-4], []).append(edit)
-    names = sys.argv[1:] or list(found)
-    subprocess.run(["rt", "check", *names], cwd=ROOT, stdout=subprocess.DEVNULL, check=True)
-    with concurrent.futures.ThreadPoolExecutor() as pool:
-        failed = sum(pool.map(lambda name: try_edits(name, found[name]), names))
-    print(f"{sum(len(found[name]) for name in names)} further edits, {failed} checks failed")
+def try_all(chosen):
+    """Tries the chosen edits, by crate: the exit status."""
+    began = time.monotonic()
+    if subprocess.run(["rt", "check", *chosen], cwd=ROOT, stdout=subprocess.DEVNULL).returncode:
+        sys.exit("edits.py: rt check: a crate is not proved as it is")
+    longest_first = sorted(chosen, key=lambda name: -len(chosen[name]))
+    with concurrent.futures.ThreadPoolExecutor(os.cpu_count()) as pool:
+        failed = sum(pool.map(lambda name: try_edits(name, chosen[name]), longest_first))
+    tried = sum(map(len, chosen.values()))
+    print(f"{tried} edits tried, {failed} checks failed ({time.monotonic() - began:.0f} s)")
     return 1 if failed else 0
+
+
+def try_from_nothing(names):
+    """Has rt must-fail try the edits of these crates, the further ones too: its exit status."""
+    tree = WORK / "from-nothing"
+    copy_crates(tree)
+    for edit in tree.glob("crates/*/must-fail/further/*.edit"):
+        edit.rename(edit.parent.parent / edit.name)
+    return subprocess.run(["rt", "must-fail", *names], cwd=tree).returncode
+
+
+def chosen_edits(edits, names):
+    """The edits of the crates and the edits that are named, by crate."""
+    unknown = [name for name in names if name not in edits and name not in {e.stem for es in edits.values() for e in es}]
+    if unknown:
+        sys.exit(f"edits.py: {' '.join(unknown)}: no crate that has edits, and no edit")
+    wanted = {crate: [e for e in found if not names or crate in names or e.stem in names] for crate, found in edits.items()}
+    return {crate: found for crate, found in wanted.items() if found}
+
+
+def main():
+    names = [name for name in sys.argv[1:] if name != "--from-nothing"]
+    edits = all_edits()
+    if not edits:
+        sys.exit("edits.py: there are no edits")
+    chosen = chosen_edits(edits, names)
+    faults = list(name_faults([edit for found in edits.values() for edit in found]))
+    if faults:
+        sys.exit("\n".join(f"edits.py: {fault}" for fault in faults))
+    if len(names) < len(sys.argv) - 1:
+        return try_from_nothing(chosen)
+    return try_all(chosen)
 
 
 if __name__ == "__main__":
