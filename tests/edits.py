@@ -1,13 +1,14 @@
 #!/usr/bin/env python3
 """Tries the edits in crates/NAME/must-fail/ and must-fail/further/: the prover must refuse each because a fact fails.
 
-    edits.py [NAME ...]                  the edits of these crates, these edits, or all; some seconds each
-    edits.py --from-nothing [CRATE ...]  the verdict on all of them, by rt must-fail; a check of a whole crate each
+    edits.py [NAME ...]                 in some seconds each, without a verdict
+    edits.py --from-nothing [NAME ...]  the verdict, by rt must-fail: a check of a whole crate each
 
-The first form checks a crate as it is, over the record that rt dev keeps; then with each edit over that record, so that
-only what the edit reaches is checked again; and at the end as it is once more. That is no verdict, but it shows where and
-why an edit is refused, which rt does not judge. Before that, docs/CLAIMS.md must name every edit and no other. The work is
-done on copies, in target/edits/; the output of a check is in LABEL.log there.
+NAME is a crate or an edit; without one, all are tried. First docs/CLAIMS.md must name every edit and no other.
+
+Without a verdict, a crate is checked as it is, over the record that rt dev keeps; then with each edit over that record, so
+that only what the edit reaches is checked again; and at the end as it is once more. This shows where and why an edit is
+refused, which rt must-fail does not judge. The work is done on copies, in target/edits/CRATE; LABEL.log has the output.
 """
 
 import collections
@@ -23,11 +24,12 @@ import time
 ROOT = pathlib.Path(__file__).resolve().parent.parent
 WORK = ROOT / "target" / "edits"
 AS_IT_IS = "as it is"
+# In a copy: the text that is generated from the code as it is.
+GENERATED = "generated"
 
 ERROR = re.compile(r"^(\S+): error[^:]*: (?:`([^`]*)`: )?(.*)", re.MULTILINE)
 OPEN_NEED = re.compile(r"^note: (\S+): it is not proved that ", re.MULTILINE)
 NO_PROOF = re.compile(r"^fn \S+: no proof: expected `[^`]*` in (\S+)/Proof\.antt", re.MULTILINE)
-
 CONTRACT = re.compile(r"^ *(?:requires|ensures) .*", re.MULTILINE)
 
 # The declaration names one that was refused: nothing new.
@@ -54,10 +56,10 @@ def name_faults(edits):
     words = set(re.findall(r"\w+", " ".join(file.read_text() for file in ROOT.glob("crates/*/src/**/*.rt"))))
     names = collections.Counter(edit.stem for edit in edits)
     yield from (f"{name}: two edits have this name" for name in names if names[name] > 1)
-    yield from (f"{name}: an edit's name has an underscore" for name in names if "_" not in name)
-    yield from (f"{name}: an edit's name is no word of the sources" for name in names.keys() & words)
+    yield from (f"{name}: the name of an edit must have an underscore" for name in names if "_" not in name)
+    yield from (f"{name}: the name of an edit may not be a word of the sources" for name in names.keys() & words)
     yield from (f"{name}: docs/CLAIMS.md does not name this edit" for name in sorted(names.keys() - claims))
-    yield from (f"{name}: docs/CLAIMS.md names no such edit" for name in sorted(claims - words - names.keys()))
+    yield from (f"{name}: docs/CLAIMS.md names this edit, and there is none" for name in sorted(claims - words - names.keys()))
 
 
 def replacements(edit):
@@ -94,33 +96,31 @@ def check(tree, name, label, *words):
     return run.returncode, run.stdout, time.monotonic() - began
 
 
-def generated(tree):
-    """Where the text that is generated from the code of the crate as it is stands."""
-    return tree / "generated"
-
-
 def same_needs(tree, name, function, output):
     """Whether what is to be proved of a function without a proof file, in order, is what it is in the crate as it is."""
-    tie = generated(tree) / f"Rattle.{name}.proofs" / "proofs" / function / "Tie.antt"
-    proposed = output.split(f"help: write {tree}/crates/{name}/proofs/{function}/Proof.antt ")[-1].split("-spec :")[0]
-    return re.findall(r"tie\.Need-(\S+)", proposed) == re.findall(r"pub Need-(\S+)", tie.read_text())
+    tie = tree / GENERATED / f"Rattle.{name}.proofs" / "proofs" / function / "Tie.antt"
+    before = tie.read_text() if tie.is_file() else ""
+    help_on = f"help: write {tree}/crates/{name}/proofs/{function}/Proof.antt "
+    proposed = output.partition(help_on)[2].partition("-spec :")[0]
+    return re.findall(r"tie\.Need-(\S+)", proposed) == re.findall(r"pub Need-(\S+)", before)
 
 
 def refusal(tree, name, output):
     """What a check that ended in not-proved shows, and the place of its first error."""
-    crate = tree / "crates" / name
+    proofs = tree / "crates" / name / "proofs"
     errors = [error for error in ERROR.findall(output) if CONSEQUENCE not in error[2]]
     for place, declaration, message in errors:
-        if not declaration or MISFIT.search(message) or NO_FACT.match(declaration):
-            return "not refused on a fact: the proof does not fit", place
+        if not place.startswith(f"{proofs}/"):
+            return "a file is broken", place
+        if MISFIT.search(message) or NO_FACT.match(declaration):
+            return "the proof does not fit", place
     if errors:
-        place = errors[0][0]
-        return "refused" if place.startswith(f"{crate}/proofs/") else "not refused on a fact: a file is broken", place
+        return "refused", errors[0][0]
     places = OPEN_NEED.findall(output)
-    functions = [os.path.relpath(path, crate / "proofs") for path in NO_PROOF.findall(output)]
+    functions = [os.path.relpath(path, proofs) for path in NO_PROOF.findall(output)]
     if places and functions and all(same_needs(tree, name, function, output) for function in functions):
         return "refused", places[0]
-    return "not refused on a fact: other needs than before", "".join(places[:1])
+    return "other needs than before", "".join(places[:1])
 
 
 def verdict(tree, name, status, output):
@@ -169,7 +169,7 @@ def try_edits(name, edits):
     copy_crates(tree)
     shutil.copytree(ROOT / "target" / "stamp", tree / "target" / "stamp")
     (tree / "target" / "rlib").symlink_to(ROOT / "target" / "rlib")
-    results = [check_gives("proved", tree, name, AS_IT_IS, "--generated", str(generated(tree)))]
+    results = [check_gives("proved", tree, name, AS_IT_IS, "--generated", str(tree / GENERATED))]
     results += [try_edit(tree, name, edit) for edit in edits]
     results += [check_gives("proved", tree, name, AS_IT_IS)]
     return results.count(False)
@@ -188,22 +188,29 @@ def try_all(chosen):
     return 1 if failed else 0
 
 
-def try_from_nothing(names):
-    """Has rt must-fail try the edits of these crates, the further ones too: its exit status."""
+def try_from_nothing(chosen):
+    """Has rt must-fail try the chosen edits, by crate: its exit status."""
     tree = WORK / "from-nothing"
     copy_crates(tree)
-    for edit in tree.glob("crates/*/must-fail/further/*.edit"):
-        edit.rename(edit.parent.parent / edit.name)
-    return subprocess.run(["rt", "must-fail", *names], cwd=tree).returncode
+    for name, edits in chosen.items():
+        folder = tree / "crates" / name / "must-fail"
+        shutil.rmtree(folder)
+        folder.mkdir()
+        for edit in edits:
+            shutil.copy(edit, folder)
+    return subprocess.run(["rt", "must-fail", *chosen], cwd=tree).returncode
 
 
 def chosen_edits(edits, names):
-    """The edits of the crates and the edits that are named, by crate."""
-    unknown = [name for name in names if name not in edits and name not in {e.stem for es in edits.values() for e in es}]
-    if unknown:
-        sys.exit(f"edits.py: {' '.join(unknown)}: no crate that has edits, and no edit")
-    wanted = {crate: [e for e in found if not names or crate in names or e.stem in names] for crate, found in edits.items()}
-    return {crate: found for crate, found in wanted.items() if found}
+    """The edits of the named crates and the named edits, by crate; all where nothing is named."""
+    known = edits.keys() | {edit.stem for found in edits.values() for edit in found}
+    for name in names:
+        if name not in known:
+            sys.exit(f"edits.py: {name}: no edit has this name, and no crate that has edits")
+    chosen = {}
+    for crate, found in edits.items():
+        chosen[crate] = [edit for edit in found if not names or crate in names or edit.stem in names]
+    return {crate: found for crate, found in chosen.items() if found}
 
 
 def main():
