@@ -27,7 +27,8 @@ AS_IT_IS = "as it is"
 # In a copy: the text that is generated from the code as it is.
 GENERATED = "generated"
 
-ERROR = re.compile(r"^(\S+): error[^:]*: (?:`([^`]*)`: )?(.*)", re.MULTILINE)
+# A place, the declaration there and the message, which may go on in lines that begin with blanks.
+ERROR = re.compile(r"^(\S+): error[^:]*: (?:`([^`]*)`: )?(.*(?:\n  .*)*)", re.MULTILINE)
 OPEN_NEED = re.compile(r"^note: (\S+): it is not proved that ", re.MULTILINE)
 NO_PROOF = re.compile(r"^fn \S+: no proof: expected `[^`]*` in (\S+)/Proof\.antt", re.MULTILINE)
 CONTRACT = re.compile(r"^ *(?:requires|ensures) .*", re.MULTILINE)
