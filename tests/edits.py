@@ -24,8 +24,6 @@ import time
 ROOT = pathlib.Path(__file__).resolve().parent.parent
 WORK = ROOT / "target" / "edits"
 AS_IT_IS = "as it is"
-# In a copy: the text that is generated from the code as it is.
-GENERATED = "generated"
 
 # A place, the declaration there and the message, which may go on in lines that begin with blanks.
 ERROR = re.compile(r"^(\S+): error[^:]*: (?:`([^`]*)`: )?(.*(?:\n  .*)*)", re.MULTILINE)
@@ -97,17 +95,23 @@ def check(tree, name, label, *words):
     return run.returncode, run.stdout, time.monotonic() - began
 
 
-def same_needs(tree, name, function, output):
-    """Whether what is to be proved of a function without a proof file, in order, is what it is in the crate as it is."""
-    tie = tree / GENERATED / f"Rattle.{name}.proofs" / "proofs" / function / "Tie.antt"
-    before = tie.read_text() if tie.is_file() else ""
+def needs(tree, name, function):
+    """What is to be proved of a function, in order, by the text generated from the crate as it is; or none."""
+    folder = tree / "generated"
+    if not folder.is_dir():
+        check(tree, name, "generated", "--generated", str(folder))
+    tie = folder / f"Rattle.{name}.proofs" / "proofs" / function / "Tie.antt"
+    return re.findall(r"pub Need-(\S+)", tie.read_text()) if tie.is_file() else None
+
+
+def needs_of_edited(tree, name, function, output):
+    """What is to be proved of a function without a proof file, in order, by the help in the edited crate's output."""
     help_on = f"help: write {tree}/crates/{name}/proofs/{function}/Proof.antt "
-    proposed = output.partition(help_on)[2].partition("-spec :")[0]
-    return re.findall(r"tie\.Need-(\S+)", proposed) == re.findall(r"pub Need-(\S+)", before)
+    return re.findall(r"tie\.Need-(\S+)", output.partition(help_on)[2].partition("-spec :")[0])
 
 
 def refusal(tree, name, output):
-    """What a check that ended in not-proved shows, and the place of its first error."""
+    """What a check that ended in not-proved shows, and the place of its first error. The crate is as it was again."""
     proofs = tree / "crates" / name / "proofs"
     errors = [error for error in ERROR.findall(output) if CONSEQUENCE not in error[2]]
     for place, declaration, message in errors:
@@ -119,7 +123,8 @@ def refusal(tree, name, output):
         return "refused", errors[0][0]
     places = OPEN_NEED.findall(output)
     functions = [os.path.relpath(path, proofs) for path in NO_PROOF.findall(output)]
-    if places and functions and all(same_needs(tree, name, function, output) for function in functions):
+    same = [needs_of_edited(tree, name, function, output) == needs(tree, name, function) for function in functions]
+    if places and same and all(same):
         return "refused", places[0]
     return "other needs than before", "".join(places[:1])
 
@@ -133,13 +138,18 @@ def verdict(tree, name, status, output):
     return f"no verdict (exit {status})", ""
 
 
-def check_gives(wanted, tree, name, label, *words):
-    """Whether a check of the crate comes to what is wanted; prints a line about it."""
-    status, output, seconds = check(tree, name, label, *words)
+def report(tree, name, label, result):
+    """What a check came to; prints a line about it."""
+    status, output, seconds = result
     found, place = verdict(tree, name, status, output)
     place = place.removeprefix(f"{tree}/crates/{name}/")
     print(f"{name}/{label}: {found}{', first at ' if place else ''}{place} ({seconds:.1f} s)", flush=True)
-    return found == wanted
+    return found
+
+
+def write(texts):
+    for path, text in texts.items():
+        path.write_text(text)
 
 
 def try_edit(tree, name, edit):
@@ -149,12 +159,15 @@ def try_edit(tree, name, edit):
         print(f"{name}/{edit.stem}: it has no old text, one that is not there once, or another contract", flush=True)
         return False
     before = {path: path.read_text() for path in texts}
-    for path, text in texts.items():
-        path.write_text(text)
-    refused = check_gives("refused", tree, name, edit.stem)
-    for path, text in before.items():
-        path.write_text(text)
-    return refused
+    write(texts)
+    result = check(tree, name, edit.stem)
+    write(before)
+    return report(tree, name, edit.stem, result) == "refused"
+
+
+def try_as_it_is(tree, name):
+    """Whether the crate as it is is proved."""
+    return report(tree, name, AS_IT_IS, check(tree, name, AS_IT_IS)) == "proved"
 
 
 def copy_crates(tree):
@@ -170,9 +183,7 @@ def try_edits(name, edits):
     copy_crates(tree)
     shutil.copytree(ROOT / "target" / "stamp", tree / "target" / "stamp")
     (tree / "target" / "rlib").symlink_to(ROOT / "target" / "rlib")
-    results = [check_gives("proved", tree, name, AS_IT_IS, "--generated", str(tree / GENERATED))]
-    results += [try_edit(tree, name, edit) for edit in edits]
-    results += [check_gives("proved", tree, name, AS_IT_IS)]
+    results = [try_as_it_is(tree, name), *(try_edit(tree, name, edit) for edit in edits), try_as_it_is(tree, name)]
     return results.count(False)
 
 
