@@ -64,8 +64,8 @@ pub fn byte_at(s: &[u8], i: usize) -> u8
     if i < s.len() { s[i] } else { 0 }
 }
 
-// The first m bytes of to become those of from without its first four bits, one by one.
-fn shift_bytes(m: usize, from: &[u8], to: &mut [u8])
+// The first m bytes of to become those of from without its first four bits.
+fn shift_half(m: usize, from: &[u8], to: &mut [u8])
     requires { ⌜ (m < length (now from)) × (m ≤ length (now to)) ⌝ }
     ensures { λ _. ⌜ now (to .exit) ≡ bytesOf m (drop 4 (bitsOf (now (from .entry)))) ++ drop m (now (to .entry)) ⌝ }
 {
@@ -74,46 +74,6 @@ fn shift_bytes(m: usize, from: &[u8], to: &mut [u8])
         to[i] = from[i] << 4 | from[i + 1] >> 4;
         i += 1;
     }
-}
-
-// The same of sixteen bytes, all read before the first is written, which the compiler then does at once.
-fn shift_sixteen(from: &[u8], to: &mut [u8])
-    requires { ⌜ (16 < length (now from)) × (16 ≤ length (now to)) ⌝ }
-    ensures { λ _. ⌜ now (to .exit) ≡ bytesOf 16 (drop 4 (bitsOf (now (from .entry)))) ++ drop 16 (now (to .entry)) ⌝ }
-{
-    let mut group = [0; 16];
-    shift_bytes(16, from, &mut group);
-    let mut i = 0;
-    while i < 16 {
-        to[i] = group[i];
-        i += 1;
-    }
-}
-
-// The same of at least sixteen bytes, by sixteens; the last sixteen may be over some that are written.
-fn shift_sixteens(m: usize, from: &[u8], to: &mut [u8])
-    requires { ⌜ (16 ≤ m) × (m < length (now from)) × (m ≤ length (now to)) ⌝ }
-    ensures { λ _. ⌜ now (to .exit) ≡ bytesOf m (drop 4 (bitsOf (now (from .entry)))) ++ drop m (now (to .entry)) ⌝ }
-{
-    let mut i = 0;
-    while 16 <= m - i {
-        shift_sixteen(&from[i..], &mut to[i..]);
-        i += 16;
-    }
-    let last = m - 16;
-    shift_sixteen(&from[last..], &mut to[last..]);
-}
-
-// The first m bytes of to become those of from without its first four bits.
-fn shift_half(m: usize, from: &[u8], to: &mut [u8])
-    requires { ⌜ (m < length (now from)) × (m ≤ length (now to)) ⌝ }
-    ensures { λ _. ⌜ now (to .exit) ≡ bytesOf m (drop 4 (bitsOf (now (from .entry)))) ++ drop m (now (to .entry)) ⌝ }
-{
-    if m < 16 {
-        shift_bytes(m, from, to);
-        return;
-    }
-    shift_sixteens(m, from, to);
 }
 
 // The service bits and the data behind them, over the first m bytes of block: all but the last four data bits.

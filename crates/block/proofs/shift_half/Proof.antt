@@ -1,4 +1,4 @@
--- The loop of `shift_bytes`: the bytes written so far, and in front of those to come the half byte that is carried.
+-- The loop of `shift_half`: the bytes written so far, and in front of those to come the half byte that is carried.
 -- Assumes nothing.
 use borrow.Author.Needs.{needs}
 use mathlib.Core.List.{List, [], _∷_, _++_, append-assoc, append-nil}
@@ -12,8 +12,8 @@ use lib.ListN.{length, getD, take, drop, set, length-set, take-append-drop}
 use lib.Seq.{take-suc-set, drop-set-lt, drop-drop}
 use Rattle.crc.specs.Bits.{Bits, binary, bitsOf, bytesOf}
 use Rattle.block.proofs.Packing.{drop-half-first, shifted-first}
-use Rattle.block.proofs.shift_bytes.Statement.{statement}
-use Rattle.block.proofs.shift_bytes.Tie as tie
+use Rattle.block.proofs.shift_half.Statement.{statement}
+use Rattle.block.proofs.shift_half.Tie as tie
 
 -- what is to come from place i on: the half of the byte there, and the bytes behind it
 abbrev toCome : List ℕ → ℕ → Bits
@@ -95,8 +95,8 @@ returns c =
     let a = c .before .before .args in
     last (l .to) (a .to .now) (a .m) (l .i) (drop 4 (bitsOf (a .from .now))) (toCome (a .from .now) (l .i)) (omega arith) (l .inv .2) (l .inv .3)
 
-pub shift-bytes-spec : {M : Type 1} → statement M
-shift-bytes-spec =
+pub shift-half-spec : {M : Type 1} → statement M
+shift-half-spec =
     tie.close
     (tie.spec
     Inv-loop
