@@ -1,5 +1,5 @@
--- Folding: a word in front of others is added into them by a multiple of the generator, and the register holds the same
--- as before. Assumes nothing.
+-- Folding: a word in front of others is left out and a multiple of the generator added to all of them, and the register
+-- holds the same as before. Assumes nothing.
 use mathlib.Core.Path.{_≡_, refl, sym, ap, ap₂, _∙_, subst}
 use mathlib.Core.Bool.{Bool, true, false}
 use mathlib.Core.List.{List, [], _∷_}
@@ -10,10 +10,10 @@ use lib.Arith.{lt-one}
 use lib.Bits.{bitXor, xor-comm, xor-self, xor-zero-r, xor-shifted, xor-mod}
 use lib.Dec.{T, lit<}
 use lib.ListN.{length}
-use lib.Pow.{pow-pos, split}
+use lib.Pow.{split}
 use Rattle.crc.specs.Bits.{Bits, bit, odd, binary, number}
 use Rattle.crc.specs.Words.{bitsOfWords}
-use Rattle.crc.specs.Polynomial.{polynomial, times, generator, Divides}
+use Rattle.crc.specs.Polynomial.{polynomial, times, Divides}
 use Rattle.crc.specs.Check.{remainder, register}
 use Rattle.crc.proofs.Xor.{xor-swap, xor-shl}
 use Rattle.crc.proofs.Rows.{bit-odd, number-append, number-binary, number-binary-mod, number-lt}
@@ -86,7 +86,7 @@ below-power : (v : ℕ) → v < 2 ^ v
 below-power zero = lit< tt
 below-power (suc v) = rw pow-suc (omega (arith, below-power v))
 
--- a product of what the generator divides
+-- v times a sum that the generator divides
 pub divides-powers : (es : List ℕ) → Divides (timesPowers es 1) → (v : ℕ) → Divides (timesPowers es v)
 divides-powers es d v =
     subst Divides (times-powers (coefficients v v) es ∙ ap (timesPowers es) (times-one v v (below-power v))) (divides-times (coefficients v v) d)
@@ -98,7 +98,8 @@ pub register-fold : (w : ℕ) (ws vs : List ℕ) → length ws ≡ length vs →
     → register 0 (bitsOfWords (w ∷ ws)) ≡ register 0 (bitsOfWords (xorWords ws vs))
 register-fold w ws vs h d =
     sym (xor-zero-r (register 0 l)) ∙ ap (bitXor (register 0 l)) (sym z) ∙ sym (register-xor 0 0 l m (lit< tt) (lit< tt) lengths)
-    ∙ ap (register 0) (sym (bitsOfWords-xor (w ∷ ws) (w ∷ vs) (ap suc h))) ∙ ap (λ (x : ℕ). register 0 (bitsOfWords (x ∷ xorWords ws vs))) (xor-self w) ∙ register-zero-word (xorWords ws vs)
+    ∙ ap (register 0) (sym (bitsOfWords-xor (w ∷ ws) (w ∷ vs) (ap suc h)))
+    ∙ ap (λ (x : ℕ). register 0 (bitsOfWords (x ∷ xorWords ws vs))) (xor-self w) ∙ register-zero-word (xorWords ws vs)
   where
     l : Bits
     l = bitsOfWords (w ∷ ws)

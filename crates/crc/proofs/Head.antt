@@ -1,5 +1,5 @@
 -- The first bits of a word as a word of their own, zeros in front, the register added to the first sixteen. Assumes nothing.
-use mathlib.Core.Path.{_≡_, refl, sym, ap, ap₂, _∙_}
+use mathlib.Core.Path.{_≡_, sym, ap, ap₂, _∙_}
 use mathlib.Core.List.{_++_}
 use Prim.Native.Nat.{ℕ, _+_, _*_, _/_, _%_, _^_, _<_}
 use native.Mathlib.Nat.{add-zero, add-comm, le-refl}
@@ -7,7 +7,7 @@ use native.Mathlib.Omega.{arith}
 use lib.Bits.{bitXor, xor-lt, xor-shr, xor-mod, xor-zero-r}
 use lib.Dec.{lit<}
 use lib.ListN.{take}
-use lib.Pow.{low, shr-shr, shl-lt, shl-exact, shl-shr}
+use lib.Pow.{low, shr-shr, shl-exact, shl-shr}
 use lib.Seq.{take-append-add}
 use Rattle.crc.specs.Bits.{Bits, binary}
 use Rattle.crc.specs.Check.{register}

@@ -73,7 +73,7 @@ struct Pair {
     b: u64,
 }
 
-// A word behind a window, whose first word is folded into the four behind it: the generator's 16th power is
+// One word more behind a window, whose first word is folded into the four behind it: the generator's 16th power is
 // x^256 + x^192 + x^80 + 1.
 fn fold_four(w: Window, next: u64) -> Window
     ensures { λ r. ⌜ register 0 (bitsOfWords (wordsOf r)) ≡ register 0 (bitsOfWords (wordsOf w ++ next ∷ [])) ⌝ }
@@ -137,7 +137,7 @@ fn load_head(c: u16, s: &[u8], h: usize) -> u64
     (load_word(s, 0) ^ ((c as u64) << 48)) >> (64 - 8 * h)
 }
 
-// The bytes of a slice into the register, by words: the bytes before the first whole word are at least two.
+// The bytes of a slice into the register, by words, the first of which holds two to eight of them.
 fn feed_words(c: u16, s: &[u8]) -> u16
     requires { ⌜ (8 ≤ length (now s)) × (0 < (length (now s) - 1) % 8) ⌝ }
     ensures { λ r. ⌜ r ≡ register c (bitsOf (now (s .entry))) ⌝ }
@@ -165,7 +165,7 @@ fn feed_singles(c: u16, s: &[u8]) -> u16
     r
 }
 
-// The bytes of a slice into the register. Fewer than eight go one by one, and one that is alone before whole words does too.
+// The bytes of a slice into the register. Fewer than eight go one by one, and so does one that is alone before whole words.
 pub fn feed_bytes(c: u16, s: &[u8]) -> u16
     ensures { λ r. ⌜ r ≡ register c (bitsOf (now (s .entry))) ⌝ }
 {

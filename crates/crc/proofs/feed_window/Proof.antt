@@ -1,7 +1,6 @@
 -- `crc::feed_window` meets its contract: each fold leaves what the register holds. Assumes nothing.
-use mathlib.Core.Path.{_≡_, sym, ap, _∙_}
+use mathlib.Core.Path.{sym, ap, _∙_}
 use mathlib.Core.List.{[], _∷_}
-use Prim.Native.Nat.{ℕ}
 use borrow.Author.Needs.{needs}
 use Rattle.crc.specs.Check.{register}
 use Rattle.crc.specs.declared.Window.{Window}
