@@ -22,7 +22,7 @@ use Rattle.line.specs.declared.receiver.Receiver.{Receiver}
 use Rattle.session.specs.LineOne.{Opening, lineOne, keep, limit, readable, said, readAll, start, next, nextOrder}
 use Rattle.session.specs.Period.{Course, period}
 use Rattle.session.specs.Session.{newline, speed, loop-ms, placed, writes, opens, senderOpened, receiverOpened, afterPeriod, letterKind, fresh, takes, takesOrder, takesStore, ends}
-use Rattle.session.specs.Text.{bytesOf, heading, refusedText, outcomeText}
+use Rattle.session.specs.Text.{textBytes, heading, refusedText, outcomeText}
 use Rattle.session.specs.Run.{firstLine, afterLine, joined, lines, kindOf, unlessRefused, periodText, periods, orderRoom, storeRoom, receiverText, senderText, openingText, runText}
 use Rattle.session.specs.declared.line_one.LineOne.{LineOne}
 use Rattle.session.specs.declared.period.Kind.{Kind}
@@ -39,7 +39,7 @@ use Rattle.session.proofs.Orders.{period-kept, period-setup}
 -- ---- what is written over the bytes of an input
 
 abbrev written : Written → List ℕ
-written w = bytesOf (w .text)
+written w = textBytes (w .text)
 
 unfoldable pub output : Session → List ℕ → List ℕ → List ℕ → List ℕ
 output s order store [] = written (ends s (s .place) order store)

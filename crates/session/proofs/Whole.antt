@@ -10,7 +10,7 @@ use lib.Seq.{take-append-seam}
 use Rattle.block.proofs.Truth.{either}
 use Rattle.session.specs.Program.{atStart, byteTaken, afterByte, afterBytes, bytesText, endTaken, outputRoom, outputOf, turnTo, turn, shown, outputs, inputOf, Whole}
 use Rattle.session.specs.Session.{placed, over}
-use Rattle.session.specs.Text.{bytesOf, heading}
+use Rattle.session.specs.Text.{textBytes, heading}
 use Rattle.session.specs.declared.program.Program.{Program}
 use Rattle.session.specs.declared.program.Turn.{Turn}
 use Rattle.session.specs.declared.script.Place.{Place}
@@ -39,8 +39,8 @@ rest-append : (cs ds : List ℕ) (p : Program) → rest p (cs ++ ds) ≡ bytesTe
 unfolding output afterBytes bytesText
 rest-append [] ds p = refl
 rest-append (c ∷ cs) ds p =
-    ap (λ (l : List ℕ). bytesOf (byteTaken p c .text) ++ l) (rest-append cs ds (afterByte p c))
-    ∙ sym (append-assoc (bytesOf (byteTaken p c .text)) (bytesText (afterByte p c) cs) (rest (afterBytes (afterByte p c) cs) ds))
+    ap (λ (l : List ℕ). textBytes (byteTaken p c .text) ++ l) (rest-append cs ds (afterByte p c))
+    ∙ sym (append-assoc (textBytes (byteTaken p c .text)) (bytesText (afterByte p c) cs) (rest (afterBytes (afterByte p c) cs) ds))
 
 -- the last turn's output is the last
 last-output : (t : Turn) → t .over ≡ true → (parts : List (List ℕ)) → outputs t parts ≡ shown (t .output)
@@ -61,7 +61,7 @@ unfolding output
 ends-there p text parts e =
     next-turn (turnTo p text) [] parts e
     ∙ ap₂ (λ (a b : List ℕ). a ++ b) (shown-text text)
-    (last-output (turn p []) refl parts ∙ shown-text (bytesOf (endTaken p .text)))
+    (last-output (turn p []) refl parts ∙ shown-text (textBytes (endTaken p .text)))
 
 -- bytes, then the turn after them
 bytes-then : (p : Program) (text : List ℕ) (c : ℕ) (cs ds : List ℕ) (parts : List (List ℕ)) → over (p .session .place) ≡ false

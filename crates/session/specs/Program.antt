@@ -7,7 +7,7 @@ use Prim.Native.Nat.{ℕ, _*_, _^_, _<_}
 use lib.ListN.{length, take, drop, replicate}
 use Rattle.session.specs.Run.{orderRoom, storeRoom, runText}
 use Rattle.session.specs.Session.{placed, fresh, takes, takesOrder, takesStore, ends, endsStore, over}
-use Rattle.session.specs.Text.{room, bytesOf, heading}
+use Rattle.session.specs.Text.{room, textBytes, heading}
 use Rattle.session.specs.declared.program.Output.{Output}
 use Rattle.session.specs.declared.program.Program.{Program}
 use Rattle.session.specs.declared.program.Turn.{Turn}
@@ -46,7 +46,7 @@ afterBytes p (c ∷ cs) = afterBytes (afterByte p c) cs
 
 unfoldable pub bytesText : Program → List ℕ → List ℕ
 bytesText p [] = []
-bytesText p (c ∷ cs) = bytesOf (byteTaken p c .text) ++ bytesText (afterByte p c) cs
+bytesText p (c ∷ cs) = textBytes (byteTaken p c .text) ++ bytesText (afterByte p c) cs
 
 -- bytes over the first of a list
 abbrev pub laid : List ℕ → List ℕ → List ℕ
@@ -77,12 +77,12 @@ abbrev pub turnTo : Program → List ℕ → Turn
 turnTo p text = record { program = p; output = outputOf text; over = over (p .session .place) }
 
 -- the first turn
-abbrev pub start : Turn
-start = turnTo atStart heading
+abbrev pub firstTurn : Turn
+firstTurn = turnTo atStart heading
 
 -- after a part; one with no byte is the end of the input
 abbrev pub turn : Program → List ℕ → Turn
-turn p [] = turnTo (afterEnd p) (bytesOf (endTaken p .text))
+turn p [] = turnTo (afterEnd p) (textBytes (endTaken p .text))
 turn p (c ∷ cs) = turnTo (afterBytes p (c ∷ cs)) (bytesText p (c ∷ cs))
 
 -- ---- the whole
@@ -105,4 +105,4 @@ inputOf ((c ∷ cs) ∷ parts) = (c ∷ cs) ++ inputOf parts
 abbrev pub Whole : Type 0
 Whole =
     (parts : List (List ℕ)) → length (inputOf parts) < 2 ^ 64
-    → outputs start (parts ++ ([] ∷ [])) ≡ runText (inputOf parts)
+    → outputs firstTurn (parts ++ ([] ∷ [])) ≡ runText (inputOf parts)

@@ -23,8 +23,8 @@ abbrev pub room : ℕ
 room = 64
 
 -- the bytes that a text holds
-abbrev pub bytesOf : Text → List ℕ
-bytesOf t = take (t .len) (t .bytes)
+abbrev pub textBytes : Text → List ℕ
+textBytes t = take (t .len) (t .bytes)
 
 abbrev pub emptyText : Text
 emptyText = record { bytes = replicate room 0; len = 0 }

@@ -6,7 +6,7 @@ ghost use Prim.Native.Nat.{_+_, _*_, _≤_, _<_, min};
 ghost use lib.ListN.{length, take};
 ghost use lib.Seq.{paste};
 ghost use Rattle.session.specs.Text.{room};
-ghost use Rattle.session.specs.Program.{partRoom, keeping, start, turn, ReadBytes};
+ghost use Rattle.session.specs.Program.{partRoom, keeping, firstTurn, turn, ReadBytes};
 use crate::script::Place;
 use crate::script::Session;
 use crate::script::least;
@@ -92,7 +92,7 @@ fn read_bytes(
 impl Program {
     // Before the first byte: the heading is to be written.
     pub fn start() -> Turn
-        ensures { λ r. ⌜ r ≡ start ⌝ }
+        ensures { λ r. ⌜ r ≡ firstTurn ⌝ }
     {
         let mut bytes = [0u8; OUTPUT_BYTES];
         let len = put(heading_text(), &mut bytes, 0);

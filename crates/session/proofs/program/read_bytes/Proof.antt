@@ -9,7 +9,7 @@ use lib.ListN.{length, take, drop, getD, take-append-drop, drop-of-length-le}
 use lib.Seq.{paste, length-paste, take-paste, drop-paste, drop-cons, drop-drop, length-take-le}
 use Rattle.session.specs.Program.{keeping, byteTaken, afterByte, afterBytes, bytesText, laid}
 use Rattle.session.specs.Session.{Take}
-use Rattle.session.specs.Text.{room, bytesOf}
+use Rattle.session.specs.Text.{room, textBytes}
 use Rattle.session.specs.declared.program.Program.{Program}
 use Rattle.session.specs.declared.script.Written.{Written}
 use Rattle.session.proofs.Outputs.{put-bytes}
@@ -39,7 +39,7 @@ next-program : (p : Program) (c : ℕ) (cs : List ℕ) → afterBytes p (c ∷ c
 unfolding afterBytes
 next-program p c cs = refl
 
-next-text : (p : Program) (c : ℕ) (cs : List ℕ) → bytesText p (c ∷ cs) ≡ bytesOf (byteTaken p c .text) ++ bytesText (afterByte p c) cs
+next-text : (p : Program) (c : ℕ) (cs : List ℕ) → bytesText p (c ∷ cs) ≡ textBytes (byteTaken p c .text) ++ bytesText (afterByte p c) cs
 unfolding bytesText
 next-text p c cs = refl
 
@@ -60,8 +60,8 @@ module _ (p₀ : Program) (part output₀ : List ℕ) (p : Program) (output : Li
         let q : keeping (w .session) order store ≡ afterByte p byte = taken p byte w order store t in
         let hl : len ≤ length output = omega (arith, g .short, g .same, g .fits) in
         let hn : n ≤ length b = omega arith in
-        let x : take len output ++ take n b ≡ take len output ++ bytesOf (byteTaken p byte .text) =
-        ap (λ (u : List ℕ). take len output ++ u) (put-bytes (w .text) h ∙ ap (λ (v : Written). bytesOf (v .text)) (t .answers)) in
+        let x : take len output ++ take n b ≡ take len output ++ textBytes (byteTaken p byte .text) =
+        ap (λ (u : List ℕ). take len output ++ u) (put-bytes (w .text) h ∙ ap (λ (v : Written). textBytes (v .text)) (t .answers)) in
         record {
           within = omega arith;
           fits = g .fits;
@@ -70,7 +70,7 @@ module _ (p₀ : Program) (part output₀ : List ℕ) (p : Program) (output : Li
           program = rw q (sym (next-program p byte (drop (i + 1) part)) ∙ rw d at (g .program));
           text =
               rw (q, o, l, take-paste output len b n hl hn, x)
-              (append-assoc (take len output) (bytesOf (byteTaken p byte .text)) (bytesText (afterByte p byte) (drop (i + 1) part))
+              (append-assoc (take len output) (textBytes (byteTaken p byte .text)) (bytesText (afterByte p byte) (drop (i + 1) part))
               ∙ ap (λ (u : List ℕ). take len output ++ u) (sym (next-text p byte (drop (i + 1) part)))
               ∙ rw d at (g .text));
           rest =

@@ -8,7 +8,7 @@ use lib.ListN.{length, replicate}
 use lib.Seq.{paste}
 use Rattle.session.specs.Program.{keeping, outputRoom, turn}
 use Rattle.session.specs.Session.{placed, End}
-use Rattle.session.specs.Text.{room, bytesOf}
+use Rattle.session.specs.Text.{room, textBytes}
 use Rattle.session.specs.declared.program.Program.{Program}
 use Rattle.session.specs.declared.script.Place.the-variants as P
 use Rattle.session.specs.declared.script.Written.{Written}
@@ -23,7 +23,7 @@ ended : (p : Program) (w : Written) (store bytes : List ℕ) (len : ℕ) → End
     → made (keeping (placed (w .session) P.Over) (p .order) store) bytes len true ≡ turn p []
 ended p w store bytes len e h b l =
     let f = put-first (w .text) h (replicate outputRoom 0) bytes len b l in
-    made-of (keeping (placed (w .session) P.Over) (p .order) store) (bytesOf (w .text)) bytes len true (f .0) (f .1)
+    made-of (keeping (placed (w .session) P.Over) (p .order) store) (textBytes (w .text)) bytes len true (f .0) (f .1)
     ∙ rw (e .answers, e .stores)
 
 slice-aggregate-end : tie.Need-slice-aggregate-end

@@ -6,10 +6,10 @@ use mathlib.Core.List.{List}
 use Prim.Native.Nat.{ℕ, _+_, min}
 use lib.ListN.{length, drop, replicate}
 use lib.Seq.{paste, take-append-seam}
-use Rattle.session.specs.Program.{keeping, outputRoom, start}
+use Rattle.session.specs.Program.{keeping, outputRoom, firstTurn}
 use Rattle.session.specs.Run.{orderRoom, storeRoom}
 use Rattle.session.specs.Session.{fresh}
-use Rattle.session.specs.Text.{room, bytesOf, holding, heading}
+use Rattle.session.specs.Text.{room, textBytes, holding, heading}
 use Rattle.session.specs.declared.script.Session.{Session}
 use Rattle.session.specs.declared.text.Text.{Text}
 use Rattle.session.proofs.Outputs.{made, made-of, put-first}
@@ -19,12 +19,12 @@ use Rattle.session.proofs.program.Program.start.Tie as tie
 -- the heading put into the output, and a new session
 begun : (s : Session) (text : Text) (bytes : List ℕ) (len : ℕ) → s ≡ fresh → text ≡ holding heading → length (text .bytes) ≡ room
     → bytes ≡ paste (replicate outputRoom 0) 0 (text .bytes) (min (text .len) room) → len ≡ 0 + min (text .len) room
-    → made (keeping s (replicate orderRoom 0) (replicate storeRoom 0)) bytes len false ≡ start
+    → made (keeping s (replicate orderRoom 0) (replicate storeRoom 0)) bytes len false ≡ firstTurn
 unfolding fresh
 begun s text bytes len e t h b l =
     let f = put-first text h (replicate outputRoom 0) bytes len b l in
-    let g : bytesOf text ≡ heading =
-    ap bytesOf t ∙ take-append-seam heading (drop (length heading) (replicate room 0)) in
+    let g : textBytes text ≡ heading =
+    ap textBytes t ∙ take-append-seam heading (drop (length heading) (replicate room 0)) in
     rw e (made-of (keeping fresh (replicate orderRoom 0) (replicate storeRoom 0)) heading bytes len false (rw g at (f .0)) (rw g at (f .1)))
 
 heading-text-requires : tie.Need-heading-text-requires
