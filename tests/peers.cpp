@@ -16,8 +16,6 @@
 #include <cstdio>
 #include <cstdlib>
 #include <cstring>
-#include <functional>
-#include <string>
 #include <vector>
 
 #if __has_include(<boost/crc.hpp>)
@@ -179,41 +177,51 @@ Buffers buffers(size_t k, bool lowest_first) {
     return b;
 }
 
-using Pass = std::function<void(const std::string &, Buffers &)>;
+using Pass = void (*)(Buffers &);
 
-void library_pass(const std::string &call, Buffers &b) {
-    size_t m = b.k / 8, n = ORDER_LINE_BLOCK_BYTES(b.k);
-    for (int i = 0; i < kBlocks; i++) {
-        if (call == "check")
-            require(order_line_read_block(b.k, b.bad[i].data(), n, b.place, m) == ORDER_LINE_FAILED, "check");
-        else if (call == "build")
-            require(order_line_build_block(b.k, service_of(i, false), b.data[i].data(), m, b.place, n) == 0, "build");
-        else
-            require(order_line_read_block(b.k, b.good[i].data(), n, b.place, m) >= ORDER_LINE_PASSED, "read");
-    }
+void library_check(Buffers &b) {
+    for (auto &block : b.bad)
+        require(order_line_read_block(b.k, block.data(), block.size(), b.place, b.k / 8) == ORDER_LINE_FAILED, "check");
 }
 
-template <class P> void peer_pass(const std::string &call, Buffers &b) {
-    for (int i = 0; i < kBlocks; i++) {
-        if (call == "check")
-            require(!check<P>(b.k, b.bad[i].data()), "check");
-        else if (call == "build")
-            build<P>(b.k, service_of(i, P::lowest_first), b.data[i].data(), b.place);
-        else
-            require(read<P>(b.k, b.good[i].data(), b.place), "read");
-    }
+void library_build(Buffers &b) {
+    for (int i = 0; i < kBlocks; i++)
+        require(order_line_build_block(b.k, service_of(i, false), b.data[i].data(), b.k / 8, b.place,
+                                       ORDER_LINE_BLOCK_BYTES(b.k)) == 0, "build");
+}
+
+void library_read(Buffers &b) {
+    for (auto &block : b.good)
+        require(order_line_read_block(b.k, block.data(), block.size(), b.place, b.k / 8) < ORDER_LINE_FAILED, "read");
+}
+
+template <class P> void peer_check(Buffers &b) {
+    for (auto &block : b.bad)
+        require(!check<P>(b.k, block.data()), "check");
+}
+
+template <class P> void peer_build(Buffers &b) {
+    for (int i = 0; i < kBlocks; i++)
+        build<P>(b.k, service_of(i, P::lowest_first), b.data[i].data(), b.place);
+}
+
+template <class P> void peer_read(Buffers &b) {
+    for (auto &block : b.good)
+        require(read<P>(b.k, block.data(), b.place), "read");
 }
 
 struct Tested {
     const char *name;
     bool lowest_first;
-    Pass pass;
+    Pass passes[3]; // in the order of kCalls
 };
 
-template <class P> Tested peer(const char *name) { return {name, P::lowest_first, peer_pass<P>}; }
+template <class P> Tested peer(const char *name) {
+    return {name, P::lowest_first, {peer_check<P>, peer_build<P>, peer_read<P>}};
+}
 
 std::vector<Tested> all_tested() {
-    std::vector<Tested> tested = {{"library", false, library_pass},
+    std::vector<Tested> tested = {{"library", false, {library_check, library_build, library_read}},
                                   peer<Table256>("table"),
                                   peer<Slicing<8>>("slicing8"),
                                   peer<Slicing<16>>("slicing16")};
@@ -226,26 +234,21 @@ std::vector<Tested> all_tested() {
     return tested;
 }
 
-// Each peer builds and reads what the library does.
+// Each peer builds and reads what the library does: its pass over sixteen times the same block, the last of which carries A.
 void compare(const Tested &t, size_t k) {
     Buffers b = buffers(k, t.lowest_first);
-    for (int i = 0; i < kBlocks; i++) {
-        Buffers one = b;
-        for (auto *rows : {one.data, one.good})
-            std::fill(rows, rows + kBlocks, rows[i]);
-        if (i % 3 == 0) { // the last block of a pass carries A
-            t.pass("build", one);
-            require(memcmp(one.place, b.good[i].data(), b.good[i].size()) == 0, "another block is built");
-        }
-        t.pass("read", one);
-        require(memcmp(one.place, b.data[i].data(), b.data[i].size()) == 0, "other data are read");
-    }
+    for (auto *rows : {b.data, b.good})
+        std::fill(rows, rows + kBlocks, rows[kBlocks - 1]);
+    t.passes[1](b);
+    require(memcmp(b.place, b.good[0].data(), b.good[0].size()) == 0, "another block is built");
+    t.passes[2](b);
+    require(memcmp(b.place, b.data[0].data(), b.data[0].size()) == 0, "other data are read");
 }
 
-double nanoseconds(const Tested &t, const std::string &call, Buffers &b, int passes) {
+double nanoseconds(Pass pass, Buffers &b, int passes) {
     auto began = std::chrono::steady_clock::now();
     for (int i = 0; i < passes; i++)
-        t.pass(call, b);
+        pass(b);
     std::chrono::duration<double, std::nano> took = std::chrono::steady_clock::now() - began;
     return took.count() / passes / kBlocks;
 }
@@ -255,7 +258,7 @@ double median(std::vector<double> values) {
     return values[values.size() / 2];
 }
 
-void measure(const std::vector<Tested> &tested, const char *call, size_t k) {
+void measure(const std::vector<Tested> &tested, int call, size_t k) {
     std::vector<Buffers> b;
     for (auto &t : tested)
         b.push_back(buffers(k, t.lowest_first));
@@ -263,9 +266,9 @@ void measure(const std::vector<Tested> &tested, const char *call, size_t k) {
     int passes = (int)(200000 / k);
     for (int round = 0; round < kRounds; round++)
         for (size_t i = 0; i < tested.size(); i++)
-            times[i].push_back(nanoseconds(tested[i], call, b[i], passes));
+            times[i].push_back(nanoseconds(tested[i].passes[call], b[i], passes));
     double library = median(times[0]);
-    printf("%-8s%6zu%12.1f", call, k, library);
+    printf("%-8s%6zu%12.1f", kCalls[call], k, library);
     for (size_t i = 1; i < tested.size(); i++)
         printf("%12.2f", median(times[i]) / library);
     printf("\n");
@@ -273,15 +276,16 @@ void measure(const std::vector<Tested> &tested, const char *call, size_t k) {
 
 int count(const std::vector<Tested> &tested, char **words) {
     for (auto &t : tested)
-        if (std::string(t.name) == words[2]) {
-            Buffers b = buffers((size_t)atoi(words[1]), t.lowest_first);
-            t.pass(words[0], b); // a peer may fill its tables here
-            for (int i = atoi(words[3]); i > 0; i--)
-                t.pass(words[0], b);
-            printf("%d\n", kBlocks);
-            return 0;
-        }
-    fprintf(stderr, "peers: no peer %s\n", words[2]);
+        for (int call = 0; call < 3; call++)
+            if (!strcmp(kCalls[call], words[0]) && !strcmp(t.name, words[2])) {
+                Buffers b = buffers((size_t)atoi(words[1]), t.lowest_first);
+                t.passes[call](b); // a peer may fill its tables here
+                for (int i = atoi(words[3]); i > 0; i--)
+                    t.passes[call](b);
+                printf("%d\n", kBlocks);
+                return 0;
+            }
+    fprintf(stderr, "peers: no call %s of %s\n", words[0], words[2]);
     return 1;
 }
 
@@ -304,7 +308,7 @@ int main(int argc, char **argv) {
     for (auto &t : tested)
         for (size_t k : kLengths)
             compare(t, k);
-    for (const char *call : kCalls)
+    for (int call = 0; call < 3; call++)
         for (size_t k : kLengths)
             measure(tested, call, k);
     return 0;
