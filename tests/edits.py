@@ -33,8 +33,9 @@ CONTRACT = re.compile(r"^ *(?:requires|ensures) .*", re.MULTILINE)
 
 # The declaration names one that was refused: nothing new.
 CONSEQUENCE = "was not admitted"
-# The proof speaks of a place or a name that the edited code does not have.
-MISFIT = re.compile(r"has no field|that can be named from here|is not in scope")
+# The proof speaks of a place or a name that the edited code does not have. That something printed "is not in scope here" is
+# only a hint on how to paste it.
+MISFIT = re.compile(r"has no field|that can be named from here|is not in scope(?! here, so)")
 # Declarations of a function's proof that hold no fact: a loop's invariant and measure, and the list of the facts.
 NO_FACT = re.compile(r"Inv-|μ-|.*-spec$")
 
