@@ -1,9 +1,11 @@
 -- Lemmas of the two ends. Those of one function of the code stand in the folder of its file (sender/, head/, ...).
--- Loop times: Table. An item: ServiceBits, Items, LastItem (its filling), ItemBlocks (the block that is built).
--- The sender's range: SenderRange. Bits moved by bytes: BitMoves. A receiving call: ReceivingCall, and in place InPlace;
--- in search SearchWindow, LineSearch; in step InStepBits, BlockFields (what a block's bytes say), StorePlace (where its data
--- go), BlockFinished (what is handed back). Demand 3: Delivery. Calls lent in pieces: Pieces. Document 01's examples: Examples.
+-- Loop times: Table, LoopTime (without rounding). An item: ServiceBits, Items, LastItem (its filling), ItemBlocks (the block
+-- that is built). The sender's range: SenderRange. Bits moved by bytes: BitMoves. A receiving call: ReceivingCall, and in
+-- place InPlace; in search SearchWindow, LineSearch; in step InStepBits, BlockFields (what a block's bytes say), StorePlace
+-- (where its data go), BlockFinished (what is handed back). Demand 3: Delivery. Calls lent in pieces: Pieces. The examples of
+-- docs/PROTOCOL.md: Examples.
 pub mod Table
+pub mod LoopTime
 pub mod ServiceBits
 pub mod Items
 pub mod LastItem

@@ -30,8 +30,8 @@ examples =
     ∷ items 240 240 1
     ∷ items 240 241 2
     ∷ items 240 262144 1093
-    ∷ loop 240 1200 127 (done tt)
-    ∷ loop 240 1200 128 (refused Refusals.loop-time)
+    ∷ loop 240 1200 126 (done tt)
+    ∷ loop 240 1200 127 (refused Refusals.loop-time)
     ∷ loop 240 4800 0 (refused Refusals.loop-time)
     ∷ []
 

@@ -1,4 +1,4 @@
-// Loop times: the Recommendation's table of the longest loop, by block length and speed, and the loop-time test.
+// Loop times: the table of the longest loop, by block length and speed, and the loop-time test.
 ghost use mathlib.Core.Path.{_≡_};
 ghost use Prim.Native.Nat.{_<_};
 ghost use lib.ListN.{getD};
@@ -13,12 +13,12 @@ pub enum LoopTime {
     Refused(u8),
 }
 
-// The longest loop in milliseconds: a row for each block length, a column for each speed.
+// The longest loop in milliseconds, rounded down: a row for each block length, a column for each speed.
 const LIMIT: [[u32; 6]; 4] = [
-    [1210, 343, 127, 18, 0, 0],
-    [2410, 743, 327, 118, 49, 14],
-    [4810, 1543, 727, 318, 182, 114],
-    [19210, 6343, 3127, 1518, 982, 714],
+    [1210, 343, 126, 18, 0, 0],
+    [2410, 743, 326, 118, 48, 14],
+    [4810, 1543, 726, 318, 182, 114],
+    [19210, 6343, 3126, 1518, 982, 714],
 ];
 
 // The cells that have an entry.

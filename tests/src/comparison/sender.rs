@@ -217,12 +217,13 @@ fn refused_opening<S: SendingEnd>(
     let mut opening = good_opening(rng, order);
     let (mut bytes, mut state) = (order.bytes.len(), SENDER_BYTES);
     for _ in 0..rng.between(1, 2) {
-        match rng.below(6) {
+        match rng.below(7) {
             0 => opening.k = rng.pick(&REFUSED_LENGTHS),
             1 => opening.speed = rng.pick(&REFUSED_SPEEDS) as u32,
-            2 => opening.loop_ms = rng.below(20_000) as u32,
-            3 => opening.length = rng.pick(&[0, LONGEST + 1, usize::MAX, bytes * 8 + 1]),
-            4 => bytes = rng.pick(&[0, order.length.div_ceil(8) - 1]),
+            2 => opening.loop_ms += 1,
+            3 => opening.loop_ms = rng.below(20_000) as u32,
+            4 => opening.length = rng.pick(&[0, LONGEST + 1, usize::MAX, bytes * 8 + 1]),
+            5 => bytes = rng.pick(&[0, order.length.div_ceil(8) - 1]),
             _ => state = rng.pick(&[0, SENDER_BYTES - 1]),
         }
     }

@@ -34,22 +34,36 @@ fn orders_make_their_items() {
 
 #[test]
 fn loop_times_on_either_side() {
-    assert_eq!(test_loop(240, 1200, 127), Ok(()));
-    assert_eq!(test_loop(240, 1200, 128), Err(3));
+    assert_eq!(test_loop(240, 1200, 126), Ok(()));
+    assert_eq!(test_loop(240, 1200, 127), Err(3));
     assert_eq!(test_loop(240, 4800, 0), Err(3));
 }
 
 #[test]
-fn longest_loops_are_the_table_of_the_recommendation() {
+fn longest_loops_are_those_of_the_table() {
     let table = [
-        [Some(1210), Some(343), Some(127), Some(18), None, None],
-        [2410, 743, 327, 118, 49, 14].map(Some),
-        [4810, 1543, 727, 318, 182, 114].map(Some),
-        [19210, 6343, 3127, 1518, 982, 714].map(Some),
+        [Some(1210), Some(343), Some(126), Some(18), None, None],
+        [2410, 743, 326, 118, 48, 14].map(Some),
+        [4810, 1543, 726, 318, 182, 114].map(Some),
+        [19210, 6343, 3126, 1518, 982, 714].map(Some),
     ];
     for (k, entries) in LENGTHS.into_iter().zip(table) {
         for (speed, entry) in SPEEDS.into_iter().zip(entries) {
             assert_eq!(longest_loop(k, speed), entry, "k {k}, speed {speed}");
+        }
+    }
+}
+
+/// Without rounding: the loop and 90 ms together last longer than the block.
+#[test]
+fn a_loop_is_refused_exactly_if_it_does_not_fit_into_the_block() {
+    for k in LENGTHS {
+        for speed in SPEEDS {
+            for loop_ms in 0..=20_000 {
+                let too_long = (loop_ms + 90) * speed > 1000 * (k + 20);
+                let refused = test_loop(k, speed, loop_ms) == Err(3);
+                assert_eq!(refused, too_long, "k {k}, speed {speed}, loop {loop_ms}");
+            }
         }
     }
 }

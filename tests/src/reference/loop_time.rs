@@ -1,4 +1,4 @@
-//! Document 01, "Loop time": the longest loop for each block length and speed, and its test.
+//! docs/PROTOCOL.md, "Loop time": the longest loop for each block length and speed, and its test.
 
 use super::block::{block_bits, is_length};
 use super::refusal::{Refusal, BLOCK, LOOP, SPEED};
@@ -8,11 +8,11 @@ pub const SPEEDS: [usize; 6] = [200, 600, 1200, 2400, 3600, 4800];
 
 const ALLOWANCE_MS: usize = 90;
 
-/// n times 1000 divided by the speed, less 90, rounded to the nearest; `None` where that is
-/// below 0 and the Recommendation's table has no entry.
+/// n times 1000 divided by the speed, less 90, rounded down; `None` where that is below 0 and the
+/// table has no entry.
 pub fn longest_loop(k: usize, speed: usize) -> Option<usize> {
-    let nearest = (block_bits(k) * 1000 + speed / 2) / speed;
-    nearest.checked_sub(ALLOWANCE_MS)
+    let block_ms = block_bits(k) * 1000 / speed;
+    block_ms.checked_sub(ALLOWANCE_MS)
 }
 
 /// The loop-time test; refusals in the order 1, 2, 3.
