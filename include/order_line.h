@@ -35,11 +35,11 @@ extern "C" {
 /* ---- the version ---- */
 
 /*
- * Version 1.0.0: major * 65536 + minor * 256 + patch. A later version with the same major number keeps the layouts, the
+ * Version 2.0.0: major * 65536 + minor * 256 + patch. A later version with the same major number keeps the layouts, the
  * numbers, the signatures and the promises of this one (docs/VERSION.md). order_line_version returns the version of the
  * library; the two differ where a header and a library of different versions were brought together.
  */
-#define ORDER_LINE_VERSION 0x010000u
+#define ORDER_LINE_VERSION 0x020000u
 
 uint32_t order_line_version(void);
 
@@ -92,8 +92,11 @@ uint32_t order_line_version(void);
 /* ---- loop times ---- */
 
 /*
- * The loop-time test: 0 if a loop of loop_ms milliseconds is not above the Recommendation's entry for k and the speed in
- * bit/s. Refused: BLOCK, SPEED, LOOP, in this order.
+ * The loop-time test: 0 if a loop of loop_ms milliseconds and 90 ms together last no longer than a block of k data bits
+ * at this speed in bit/s: (loop_ms + 90) * speed is at most 1000 * (k + 20). Round a measured loop up. The longest loops
+ * are in docs/PROTOCOL.md, "Loop time"; five of them are 1 ms below the Recommendation's own table, which rounds to the
+ * nearest.
+ * Refused: BLOCK, SPEED, LOOP, in this order.
  */
 uint8_t order_line_loop_time(size_t k, uint32_t speed, uint32_t loop_ms);
 

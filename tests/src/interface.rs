@@ -12,7 +12,7 @@ pub const SENDER_BYTES: usize = HEAD_BYTES;
 pub const RECEIVER_BYTES: usize = HEAD_BYTES + HELD_BYTES;
 
 /// 1.0.0.
-pub const VERSION: u32 = 0x01_00_00;
+pub const VERSION: u32 = 0x02_00_00;
 
 /// What `sender_rest` answers besides 7.
 pub const GOING_ON: u8 = 80;

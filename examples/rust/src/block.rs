@@ -4,7 +4,8 @@ use crate::c;
 use crate::numbers::{FAILED, PASSED};
 use crate::refusal::{Refusal, done};
 
-/// The loop-time test: whether a loop of so many milliseconds is within the Recommendation's table.
+/// The loop-time test: whether a loop of so many milliseconds and 90 ms together last no longer than a block. Round a
+/// measured loop up.
 pub fn loop_time(k: usize, speed: u32, loop_ms: u32) -> Result<(), Refusal> {
     done(unsafe { c::order_line_loop_time(k, speed, loop_ms) })
 }
