@@ -11,7 +11,7 @@ const HEAD_BYTES: usize = 16;
 pub const SENDER_BYTES: usize = HEAD_BYTES;
 pub const RECEIVER_BYTES: usize = HEAD_BYTES + HELD_BYTES;
 
-/// 1.0.0.
+/// 2.0.0.
 pub const VERSION: u32 = 0x02_00_00;
 
 /// What `sender_rest` answers besides 7.

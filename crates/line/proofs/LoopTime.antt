@@ -32,9 +32,9 @@ third-refusal : (known listed above : Bool)
     (refused Refusals.loop-time))
     ↔ ((known ≡ true) × (listed ≡ true) × (above ≡ true))
 third-refusal false listed above =
-    (λ e. absurd (let z : _≡_ {A = ℕ} 1 3 = cc in omega arith), λ h. absurd (false≢true (h .0)))
+    (λ e. absurd (let z : _≡_ {A = ℕ} A.block Refusals.loop-time = cc in omega arith), λ h. absurd (false≢true (h .0)))
 third-refusal true false above =
-    (λ e. absurd (let z : _≡_ {A = ℕ} 2 3 = cc in omega arith), λ h. absurd (false≢true (h .1)))
+    (λ e. absurd (let z : _≡_ {A = ℕ} Refusals.speed Refusals.loop-time = cc in omega arith), λ h. absurd (false≢true (h .1)))
 third-refusal true true false =
     (λ e. absurd (let z : _≡_ {A = ℕ} 0 1 = cc in omega arith), λ h. absurd (false≢true (h .2)))
 third-refusal true true true = (λ e. (refl, refl, refl), λ h. refl)
