@@ -92,8 +92,8 @@ uint32_t order_line_version(void);
 /* ---- loop times ---- */
 
 /*
- * The loop-time test. At one of the four k and one of the six speeds in bit/s: 0 if a loop of loop_ms milliseconds and 90
- * ms together last no longer than a block, that is, if (loop_ms + 90) * speed is at most 1000 * (k + 20); otherwise LOOP.
+ * The loop-time test. At one of the four k and six speeds (bit/s): 0 if a loop of loop_ms milliseconds and 90 ms
+ * together last no longer than a block, that is, if (loop_ms + 90) * speed is at most 1000 * (k + 20); otherwise LOOP.
  * Round a measured loop up. The longest loops are in docs/PROTOCOL.md, "Loop time"; five of them are 1 ms below the
  * Recommendation's own table, which rounds to the nearest.
  * Refused: BLOCK, SPEED, LOOP, in this order.
