@@ -24,7 +24,7 @@ use Rattle.block.specs.declared.Read.the-variants as B
 use Rattle.block.proofs.Read.{the-type}
 use Rattle.block.proofs.Lengths.{length-facts}
 use Rattle.block.proofs.Refusals.{check-done, move-done}
-use Rattle.line.specs.Receiving.{lastBad, afterBad, Rule, sync-block, check-fails, accepts, meaning, endRule, serviceRule, looksSync, judge, stops, Reception, storeAt}
+use Rattle.line.specs.Receiving.{lastBad, afterBad, Rule, sync-block, check-fails, accepts, meaning, endRule, serviceRule, looksSync, judge, blockRule, stops, Reception, storeAt}
 use Rattle.line.specs.Code.ReceiveSteps.{ruleOf, stepped, handedBack, judged, Handed}
 use Rattle.line.specs.declared.receiver.Receiver.{Receiver}
 use Rattle.line.specs.declared.receiving.Event.the-variants as E
@@ -62,7 +62,7 @@ stores-nothing C.EndsAgain h = refl
 stores-nothing C.AnythingElse h = refl
 
 module _ (s : Receiver) (row : Bits) (used : ℕ) (store : List ℕ) (r : Step) where
-  pub handed-rule : (rule : Rule) → rule ≡ judge (s .setup .k) (s .taken) (s .ended) row → meaning rule .stores ≡ false
+  pub handed-rule : (rule : Rule) → rule ≡ blockRule s row → meaning rule .stores ≡ false
       → r ≡ handedBack (stops s rule [] used) → Handed s store (judged s row used) r store
   handed-rule rule e n h =
       subst (λ (y : Rule). Handed s store (stops s y row used) r store) e
@@ -83,23 +83,24 @@ module _ (s : Receiver) (row : Bits) (used : ℕ) (store : List ℕ) (r : Step) 
       subst (λ (y : Step). Handed s store (stops s accepts row used) y store′) (sym h)
       (record { answers = rw q; state = rw q; writes = rw q w })
 
-  pub handed-accepts : (store′ : List ℕ) → accepts ≡ judge (s .setup .k) (s .taken) (s .ended) row
+  pub handed-accepts : (store′ : List ℕ) → accepts ≡ blockRule s row
       → Handed s store (stops s accepts row used) r store′ → Handed s store (judged s row used) r store′
   handed-accepts store′ e = subst (λ (y : Rule). Handed s store (stops s y row used) r store′) e
 
 -- ---- the rule of a row
 
-module _ (k r : ℕ) (ended : Bool) (row : Bits) where
-  pub rule-sync : looksSync k row ≡ true → sync-block ≡ judge k r ended row
+module _ (s : Receiver) (row : Bits) where
+  pub rule-sync : looksSync (s .setup .k) row ≡ true → sync-block ≡ blockRule s row
   unfolding judge
   rule-sync e = sym (rw e)
 
-  pub rule-failed : looksSync k row ≡ false → verdict row ≡ failed → check-fails ≡ judge k r ended row
+  pub rule-failed : looksSync (s .setup .k) row ≡ false → verdict row ≡ failed → check-fails ≡ blockRule s row
   unfolding judge
   rule-failed e v = sym (rw (e, v))
 
-  pub rule-passed : (service : ℕ) → looksSync k row ≡ false → verdict row ≡ passed service
-      → serviceRule k r ended service (payloadOf k row) ≡ judge k r ended row
+  pub rule-passed : (service : ℕ) → looksSync (s .setup .k) row ≡ false → verdict row ≡ passed service
+      → serviceRule (s .setup .marks .«in_use») (s .setup .k) (s .taken) (s .ended) service (payloadOf (s .setup .k) row)
+      ≡ blockRule s row
   unfolding judge
   rule-passed service e v = sym (rw (e, v))
 

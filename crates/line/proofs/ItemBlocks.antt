@@ -19,7 +19,8 @@ use Rattle.block.specs.Calls.{overwritten, buildBlock, builtBytes, BuildBlock, 
 use Rattle.block.specs.declared.Built.{Built}
 use Rattle.block.proofs.Lengths.{length-facts, length-bytes}
 use Rattle.block.proofs.Block.{length-cancelled}
-use Rattle.line.specs.Order.{itemCount, letter, filled, orderBits, version, endPayload, itemBits}
+use Rattle.line.specs.Order.{itemCount, dataService, filled, orderBits, version, endPayload, itemBits}
+use Rattle.line.specs.declared.marks.Marks.{Marks}
 use Rattle.line.proofs.Items.{itemCount-least, item-within, length-orderBits, itemService-data, itemPayload-data}
 use Rattle.line.proofs.LastItem.{take-zeros, drop-take}
 
@@ -182,11 +183,11 @@ module _ (k L : ℕ) (order : List ℕ) (pos : 0 < k) (lent : L ≤ 8 * length o
       (ap (take k) (drop-append-le (i * k) (orderBits L order) (zeros z) (omega (arith, length-orderBits L order lent)))
       ∙ take-zeros k z row (omega arith) (omega arith) ∙ ap (λ (j : ℕ). row ++ zeros j) m)
 
--- a data item from its letter and its data
-pub data-item : (k L : ℕ) (content payload : Bits) (i : ℕ) → i < itemCount k L
-    → payload ≡ take k (drop (i * k) (filled k L content))
-    → blockBits (binary 4 (letter i)) payload ≡ itemBits k L content i
+-- a data item from its service bits and its data
+pub data-item : (m : Marks) (k L : ℕ) (content payload : Bits) (i service : ℕ) → i < itemCount k L
+    → service ≡ dataService m i → payload ≡ take k (drop (i * k) (filled k L content))
+    → blockBits (binary 4 service) payload ≡ itemBits m k L content i
 unfolding itemBits
-data-item k L content payload i h e =
-    ap₂ (λ (s : ℕ) (p : Bits). blockBits (binary 4 s) p) (sym (itemService-data k L i h))
+data-item m k L content payload i service h g e =
+    ap₂ (λ (s : ℕ) (p : Bits). blockBits (binary 4 s) p) (g ∙ sym (itemService-data m k L i h))
     (e ∙ sym (itemPayload-data k L i content h))

@@ -17,9 +17,10 @@ use Rattle.block.specs.Lengths.{isLength, blockLength}
 use Rattle.block.specs.Block.{blockBits, serviceOf, payloadOf}
 use Rattle.block.proofs.Lengths.{length-facts}
 use Rattle.block.proofs.Block.{length-blockBits, passes-blockBits, service-blockBits, payload-blockBits}
-use Rattle.block.proofs.Truth.{and-left, and-right}
-use Rattle.line.proofs.ServiceBits.{letter-lt16}
-use Rattle.line.specs.Order.{longestOrder, mostItems, validLength, itemCount, letter, endService, orderBits, filled, version, endPayload, isData, itemService, itemPayload, itemBits}
+use Rattle.block.proofs.Truth.{and-left, and-right, cond-case}
+use Rattle.line.specs.declared.marks.Marks.{Marks}
+use Rattle.line.proofs.ServiceBits.{service-lt16}
+use Rattle.line.specs.Order.{longestOrder, mostItems, validLength, itemCount, endService, dataService, orderBits, filled, version, endPayload, isData, itemService, itemPayload, itemBits}
 
 -- ---- the number of items
 
@@ -107,45 +108,49 @@ module _ (k L : ℕ) (content : Bits) (h : isLength k ≡ true) (e : length cont
   unfolding itemPayload
   length-itemPayload i = length-payload i (isData k L i) refl
 
-  pub length-itemBits : (i : ℕ) → length (itemBits k L content i) ≡ blockLength k
+  pub length-itemBits : (m : Marks) (i : ℕ) → length (itemBits m k L content i) ≡ blockLength k
   unfolding itemBits
-  length-itemBits i =
+  length-itemBits m i =
       omega (
         arith,
-        length-blockBits (binary 4 (itemService k L i)) (itemPayload k L content i),
-        length-binary 4 (itemService k L i),
+        length-blockBits (binary 4 (itemService m k L i)) (itemPayload k L content i),
+        length-binary 4 (itemService m k L i),
         length-itemPayload i,
       )
 
-  pub payload-itemBits : (i : ℕ) → payloadOf k (itemBits k L content i) ≡ itemPayload k L content i
+  pub payload-itemBits : (m : Marks) (i : ℕ) → payloadOf k (itemBits m k L content i) ≡ itemPayload k L content i
   unfolding itemBits
-  payload-itemBits i =
-      payload-blockBits k (binary 4 (itemService k L i)) (itemPayload k L content i) (length-binary 4 (itemService k L i))
+  payload-itemBits m i =
+      payload-blockBits k (binary 4 (itemService m k L i)) (itemPayload k L content i) (length-binary 4 (itemService m k L i))
       (length-itemPayload i)
 
-pub passes-itemBits : (k L : ℕ) (content : Bits) (i : ℕ) → passes (itemBits k L content i) ≡ true
+pub passes-itemBits : (m : Marks) (k L : ℕ) (content : Bits) (i : ℕ) → passes (itemBits m k L content i) ≡ true
 unfolding itemBits
-passes-itemBits k L content i = passes-blockBits (binary 4 (itemService k L i)) (itemPayload k L content i)
+passes-itemBits m k L content i = passes-blockBits (binary 4 (itemService m k L i)) (itemPayload k L content i)
 
 -- ---- service bits and data
 
-module _ (k L i : ℕ) where
-  pub itemService-data : i < itemCount k L → itemService k L i ≡ letter i
+module _ (m : Marks) (k L i : ℕ) where
+  pub itemService-data : i < itemCount k L → itemService m k L i ≡ dataService m i
   unfolding itemService
   itemService-data h = simp (lt-ltb i (itemCount k L) h)
 
-  pub itemService-end : itemCount k L ≤ i → itemService k L i ≡ endService
+  pub itemService-end : itemCount k L ≤ i → itemService m k L i ≡ endService
   unfolding itemService
   itemService-end h = simp (le-ltb i (itemCount k L) h)
 
-  service-lt16 : (t : Bool) → cond t (letter i) endService < 16
-  service-lt16 true = letter-lt16 i
-  service-lt16 false = omega arith
-
-  pub itemService-lt16 : itemService k L i < 16
+  pub itemService-lt16 : itemService m k L i < 16
   unfolding itemService
-  itemService-lt16 = service-lt16 (isData k L i)
+  itemService-lt16 = cond-case (λ (s : ℕ). s < 16) (isData k L i) (λ e. service-lt16 m i) (λ e. omega arith)
 
+  pub service-itemBits : (content : Bits) → number (serviceOf (itemBits m k L content i)) ≡ itemService m k L i
+  unfolding itemBits
+  service-itemBits content =
+      ap number
+      (service-blockBits (binary 4 (itemService m k L i)) (itemPayload k L content i) (length-binary 4 (itemService m k L i)))
+      ∙ number-binary 4 (itemService m k L i) itemService-lt16
+
+module _ (k L i : ℕ) where
   pub itemPayload-data : (content : Bits) → i < itemCount k L
       → itemPayload k L content i ≡ take k (drop (i * k) (filled k L content))
   unfolding itemPayload
@@ -155,19 +160,12 @@ module _ (k L i : ℕ) where
   unfolding itemPayload
   itemPayload-end content h = simp (le-ltb i (itemCount k L) h)
 
-  pub service-itemBits : (content : Bits) → number (serviceOf (itemBits k L content i)) ≡ itemService k L i
-  unfolding itemBits
-  service-itemBits content =
-      ap number
-      (service-blockBits (binary 4 (itemService k L i)) (itemPayload k L content i) (length-binary 4 (itemService k L i)))
-      ∙ number-binary 4 (itemService k L i) itemService-lt16
-
 -- the two end blocks are equal
-pub itemBits-end : (k L : ℕ) (content : Bits) (i : ℕ) → itemCount k L ≤ i
-    → itemBits k L content i ≡ blockBits (binary 4 endService) (endPayload k L)
+pub itemBits-end : (m : Marks) (k L : ℕ) (content : Bits) (i : ℕ) → itemCount k L ≤ i
+    → itemBits m k L content i ≡ blockBits (binary 4 endService) (endPayload k L)
 unfolding itemBits
-itemBits-end k L content i h =
-    ap₂ (λ (s : ℕ) (p : Bits). blockBits (binary 4 s) p) (itemService-end k L i h) (itemPayload-end k L i content h)
+itemBits-end m k L content i h =
+    ap₂ (λ (s : ℕ) (p : Bits). blockBits (binary 4 s) p) (itemService-end m k L i h) (itemPayload-end k L i content h)
 
 -- ---- the items are the order
 

@@ -7,6 +7,7 @@
 pub mod Table
 pub mod LoopTime
 pub mod ServiceBits
+pub mod WithoutMarks
 pub mod Items
 pub mod LastItem
 pub mod ItemBlocks

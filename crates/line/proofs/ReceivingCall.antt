@@ -3,7 +3,7 @@ use mathlib.Core.Path.{_≡_, refl, sym, ap, _∙_, subst}
 use mathlib.Core.Bool.{Bool, true, false, _&&_}
 use mathlib.Core.List.{List, []}
 use Prim.Native.Nat.{ℕ, _≤_, _<_}
-use borrow.Author.Tests.{ltb-true, leb-true, eq-eqb, ne-eqb}
+use borrow.Author.Tests.{ltb-true, leb-true, lt-ltb, le-leb, eq-eqb, ne-eqb}
 use lib.Dec.{ltb, leb}
 use lib.ListN.{take}
 use Rattle.crc.specs.Bits.{Bits, bitsOf}
@@ -12,6 +12,7 @@ use Rattle.block.specs.Answer.{refused}
 use Rattle.block.specs.Lengths.{isLength, blockLength}
 use Rattle.block.specs.Calls.{tooShort}
 use Rattle.block.proofs.Truth.{and-left, and-right}
+use Rattle.line.specs.Marks.{marksInRange}
 use Rattle.line.specs.Order.{mostItems}
 use Rattle.line.specs.Receiving as S
 use Rattle.line.specs.Receiving.{meaning, standing, underAlarm, Reception, idleRule, idle, byPhase, reception, lastBad, heldInRange, receiverInRange, judgeStore, receive, reported, receiveState, receiveStore, Receive}
@@ -29,6 +30,7 @@ use Rattle.line.proofs.LineSearch.{search-stores}
 
 pub record InRange (s : Receiver) : Type 0 where
   pub known : isLength (s .setup .k) ≡ true
+  pub marks : marksInRange (s .setup .marks) ≡ true
   pub bad-row : s .«bad_row» < lastBad
   pub taken : s .taken ≤ mostItems
   pub held : heldInRange (s .phase) (blockLength (s .setup .k)) (s .held) ≡ true
@@ -37,17 +39,25 @@ pub in-range : (s : Receiver) → receiverInRange s ≡ true → InRange s
 unfolding receiverInRange
 in-range s e =
     let k : Bool = isLength (s .setup .k) in
+    let m : Bool = marksInRange (s .setup .marks) in
     let r : Bool = ltb (s .«bad_row») lastBad in
     let t : Bool = leb (s .taken) mostItems in
     let h : Bool = heldInRange (s .phase) (blockLength (s .setup .k)) (s .held) in
-    let a : k && r && t ≡ true = and-left (k && r && t) h e in
-    let b : k && r ≡ true = and-left (k && r) t a in
+    let a : k && m && r && t ≡ true = and-left (k && m && r && t) h e in
+    let b : k && m && r ≡ true = and-left (k && m && r) t a in
+    let c : k && m ≡ true = and-left (k && m) r b in
     record {
-      known = and-left k r b;
-      bad-row = ltb-true (s .«bad_row») lastBad (and-right k r b);
-      taken = leb-true (s .taken) mostItems (and-right (k && r) t a);
-      held = and-right (k && r && t) h e;
+      known = and-left k m c;
+      marks = and-right k m c;
+      bad-row = ltb-true (s .«bad_row») lastBad (and-right (k && m) r b);
+      taken = leb-true (s .taken) mostItems (and-right (k && m && r) t a);
+      held = and-right (k && m && r && t) h e;
     }
+
+pub range-in : (s : Receiver) → InRange s → receiverInRange s ≡ true
+unfolding receiverInRange
+range-in s r =
+    simp (r .known, r .marks, lt-ltb (s .«bad_row») lastBad (r .bad-row), le-leb (s .taken) mostItems (r .taken), r .held)
 
 module _ (s : Receiver) (r : InRange s) where
   pub held-search : s .phase ≡ P.Search → s .held ≤ 15

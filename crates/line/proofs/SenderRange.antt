@@ -15,10 +15,13 @@ use Rattle.block.specs.Answer.{Answer, refused, done, refuseIf}
 use Rattle.block.specs.Lengths.{isLength, blockLength}
 use Rattle.block.specs.Calls.{tooShort}
 use Rattle.line.specs.LoopTime.{loopTime}
+use Rattle.line.specs.Marks.{marksOf, marksInRange}
 use Rattle.line.specs.Order.{longestOrder, validLength, itemCount}
 use Rattle.line.specs.Sending.{freshSender, unless-refused, openSender, OpenSender, Block, transmit, senderItems, atLast, lastRun, senderInRange, gaveUp, send, sendState, sendBytes, sentAnswer, Send}
 use Rattle.line.specs.SendCalls.{SendCalls, none, call}
 use Rattle.line.specs.Code.SendSteps.{Ready, Sends}
+use Rattle.line.specs.declared.marks.CodeSize.{CodeSize}
+use Rattle.line.specs.declared.marks.Marks.{Marks}
 use Rattle.line.specs.declared.sender.Sender.{Sender}
 use Rattle.line.specs.declared.sender.Next.{Next}
 use Rattle.line.specs.declared.sender.Next.the-variants.{Sync, Older, Newer}
@@ -32,38 +35,43 @@ use Rattle.line.proofs.Items.{valid-length, itemCount-pos}
 
 -- ---- what the range says
 
-pub record Range (k L newer run : ℕ) : Type 0 where
+pub record Range (k L : ℕ) (m : Marks) (newer run : ℕ) : Type 0 where
   pub known : isLength k ≡ true
   pub valid : validLength L ≡ true
+  pub marks : marksInRange m ≡ true
   pub first : 1 ≤ newer
   pub last : newer ≤ itemCount k L + 1
   pub cancels : run ≤ lastRun
 
-pub in-range : (s : Sender) → senderInRange s ≡ true → Range (s .setup .k) (s .setup .length) (s .newer) (s .run)
+pub in-range : (s : Sender) → senderInRange s ≡ true → Range (s .setup .k) (s .setup .length) (s .setup .marks) (s .newer) (s .run)
 unfolding senderInRange
 in-range s h =
     let a = isLength (s .setup .k) in
     let b = validLength (s .setup .length) in
-    let c = leb 1 (s .newer) in
-    let d = leb (s .newer) (senderItems s + 1) in
-    let e = leb (s .run) lastRun in
-    let abcd = and-left (a && b && c && d) e h in
+    let c = marksInRange (s .setup .marks) in
+    let d = leb 1 (s .newer) in
+    let e = leb (s .newer) (senderItems s + 1) in
+    let f = leb (s .run) lastRun in
+    let abcde = and-left (a && b && c && d && e) f h in
+    let abcd = and-left (a && b && c && d) e abcde in
     let abc = and-left (a && b && c) d abcd in
     let ab = and-left (a && b) c abc in
     record {
       known = and-left a b ab;
       valid = and-right a b ab;
-      first = leb-true 1 (s .newer) (and-right (a && b) c abc);
-      last = leb-true (s .newer) (senderItems s + 1) (and-right (a && b && c) d abcd);
-      cancels = leb-true (s .run) lastRun (and-right (a && b && c && d) e h);
+      marks = and-right (a && b) c abc;
+      first = leb-true 1 (s .newer) (and-right (a && b && c) d abcd);
+      last = leb-true (s .newer) (senderItems s + 1) (and-right (a && b && c && d) e abcde);
+      cancels = leb-true (s .run) lastRun (and-right (a && b && c && d && e) f h);
     }
 
-pub range-in : (s : Sender) → Range (s .setup .k) (s .setup .length) (s .newer) (s .run) → senderInRange s ≡ true
+pub range-in : (s : Sender) → Range (s .setup .k) (s .setup .length) (s .setup .marks) (s .newer) (s .run) → senderInRange s ≡ true
 unfolding senderInRange
 range-in s r =
     simp (
       r .known,
       r .valid,
+      r .marks,
       le-leb 1 (s .newer) (r .first),
       le-leb (s .newer) (senderItems s + 1) (r .last),
       le-leb (s .run) lastRun (r .cancels),
@@ -81,40 +89,50 @@ unfolding loopTime
 loop-goes k speed loop-ms u e = not-false (isLength k) (passed-test (not (isLength k)) A.block _ u e .0)
 
 -- what holds if a sender is opened
-pub record Openable (k L : ℕ) (order : List ℕ) (s : Sender) : Type 0 where
+pub record Openable (k L : ℕ) (size : CodeSize) (order : List ℕ) (s : Sender) : Type 0 where
   pub known : isLength k ≡ true
   pub valid : validLength L ≡ true
+  pub marks : marksInRange (marksOf size) ≡ true
   pub lent : L ≤ 8 * length order
-  pub state : s ≡ freshSender k L
+  pub state : s ≡ freshSender k L (marksOf size)
 
-pub opened : (k speed loop-ms L : ℕ) (order : List ℕ) (s : Sender) → openSender k speed loop-ms L order ≡ done s
-    → Openable k L order s
+pub opened : (k speed loop-ms L : ℕ) (size : CodeSize) (order : List ℕ) (s : Sender)
+    → openSender k speed loop-ms L size order ≡ done s → Openable k L size order s
 unfolding openSender validLength
-opened k speed loop-ms L order s e =
+opened k speed loop-ms L size order s e =
     let p = passed-refusal (loopTime k speed loop-ms) _ s e in
     let q = passed-test (eqb L 0) Refusals.empty _ s (p .1) in
     let r = passed-test (ltb longestOrder L) Refusals.long _ s (q .1) in
-    let t = passed-test (tooShort order L) A.short _ s (r .1) in
+    let m = passed-test (not (marksInRange (marksOf size))) Refusals.code-size _ s (r .1) in
+    let t = passed-test (tooShort order L) A.short _ s (m .1) in
     let n = eqb-false L 0 (q .0) in
     let one : 1 ≤ L = omega arith in
     record {
       known = loop-goes k speed loop-ms (p .0 .0) (p .0 .1);
       valid = simp (le-leb 1 L one, le-leb L longestOrder (ltb-false longestOrder L (r .0)));
+      marks = not-false (marksInRange (marksOf size)) (m .0);
       lent = ltb-false (8 * length order) L (t .0);
       state = cc (t .1);
     }
 
-pub opened-in-range : (k speed loop-ms L : ℕ) (order : List ℕ) (s : Sender)
-    → OpenSender k speed loop-ms L order (O.Opened s) → senderInRange s ≡ true
+pub opened-in-range : (k speed loop-ms L : ℕ) (size : CodeSize) (order : List ℕ) (s : Sender)
+    → OpenSender k speed loop-ms L size order (O.Opened s) → senderInRange s ≡ true
 unfolding freshSender
-opened-in-range k speed loop-ms L order s p =
-    let o = opened k speed loop-ms L order s (sym (p .answers)) in
+opened-in-range k speed loop-ms L size order s p =
+    let o = opened k speed loop-ms L size order s (sym (p .answers)) in
     let f = length-facts k (o .known) in
     let v = valid-length L (o .valid) in
     let n = itemCount-pos k L (omega arith) (v .0) in
     rw (o .state)
-    (range-in (freshSender k L)
-    (record { known = o .known; valid = o .valid; first = omega arith; last = omega arith; cancels = omega arith }))
+    (range-in (freshSender k L (marksOf size))
+    (record {
+      known = o .known;
+      valid = o .valid;
+      marks = o .marks;
+      first = omega arith;
+      last = omega arith;
+      cancels = omega arith;
+    }))
 
 -- ---- a sending call
 
@@ -177,11 +195,18 @@ transmit-in-range s Newer false h g =
     let r = in-range s h in
     let n = next-newer (s .newer) (senderItems s) (atLast s) refl (r .last) (r .first) in
     range-in (transmit s Newer false .state)
-    (record { known = r .known; valid = r .valid; first = n .0; last = n .1; cancels = omega arith })
+    (record { known = r .known; valid = r .valid; marks = r .marks; first = n .0; last = n .1; cancels = omega arith })
 transmit-in-range s Newer true h g =
     let r = in-range s h in
     range-in (transmit s Newer true .state)
-    (record { known = r .known; valid = r .valid; first = r .first; last = r .last; cancels = omega (arith, r .cancels) })
+    (record {
+      known = r .known;
+      valid = r .valid;
+      marks = r .marks;
+      first = r .first;
+      last = r .last;
+      cancels = omega (arith, r .cancels);
+    })
 
 after-send : (s : Sender) (order : List ℕ) (reading : Bool) (slice : List ℕ) (a : Answer Block)
     → send s order reading slice ≡ a → senderInRange s ≡ true → senderInRange (sendState s reading a) ≡ true
@@ -200,14 +225,14 @@ calls-in-range (call order reading slice result slice′ p rest) h =
     calls-in-range rest (send-in-range _ order reading slice result slice′ p h)
 
 -- from an opened sender, after any calls, a call is refused only for a sender at rest or a short slice
-module _ (k speed loop-ms L : ℕ) (order : List ℕ) (s t : Sender) (o : OpenSender k speed loop-ms L order (O.Opened s))
-    (calls : SendCalls s t) (lent : List ℕ) (reading : Bool) (slice : List ℕ) (result : Step) (slice′ : List ℕ)
+module _ (k speed loop-ms L : ℕ) (size : CodeSize) (order : List ℕ) (s t : Sender)
+    (o : OpenSender k speed loop-ms L size order (O.Opened s)) (calls : SendCalls s t) (lent : List ℕ) (reading : Bool) (slice : List ℕ) (result : Step) (slice′ : List ℕ)
     (p : Send t lent reading slice result slice′) where
   pub send-refused-only : (n : ℕ) → result .answer ≡ W.Refused n
       → ((n ≡ Refusals.rest) × (t .finished || gaveUp t ≡ true))
       ⊎ ((n ≡ A.short) × (tooShort lent (t .setup .length) || tooShort slice (blockLength (t .setup .k)) ≡ true))
   send-refused-only n e =
-      send-refusals t lent reading slice (calls-in-range calls (opened-in-range k speed loop-ms L order s o)) n
+      send-refusals t lent reading slice (calls-in-range calls (opened-in-range k speed loop-ms L size order s o)) n
       (sym (ap sentAnswer (sym e) ∙ p .answers))
 
   -- never for a spoiled state

@@ -11,10 +11,12 @@ use Rattle.crc.specs.Damage.{Damage}
 use Rattle.block.specs.Answer as A
 use Rattle.line.specs.Refusals as Refusals
 use Rattle.block.specs.Lengths.{blockLength}
+use Rattle.line.specs.Marks.{marksOf}
 use Rattle.line.specs.Order.{itemCount, filled, orderBits}
 use Rattle.line.specs.Sending.{Block, synchronising, item, OpenSender, gaveUp}
 use Rattle.line.specs.Receiving.{meaning, EventKind, eventKind, withLength, OpenReceiver}
 use Rattle.line.specs.Course.{Call, World, opened, Sent, Heard, Entry, send-refused, receive-refused, sent, heard, onSent, onHeard, course, final, Result, results, Run, observed}
+use Rattle.line.specs.declared.marks.CodeSize.{CodeSize}
 use Rattle.line.specs.declared.sender.Sender.{Sender}
 use Rattle.line.specs.declared.sender.Opened.{Opened}
 use Rattle.line.specs.declared.sender.Opened.the-variants as SenderOpened
@@ -197,10 +199,12 @@ pub record Guarantees (k L : ℕ) (content : Bits) (initialStore : List ℕ) (es
       → All (Undisturbed k) these → brings isEnd before ≡ false → brings (λ e. isNew e || isEnd e) these ≡ true
   pub refusals : All OnlyRefused es
 
--- Both ends have just been opened, neither refused, with the same k; the store has at least N times k bits.
-pub record Openings (k speed loop-ms L : ℕ) (order : List ℕ) (s : Sender) (o : ReceiverOpened.Opened) (initialStore : List ℕ) : Type 0 where
-  pub sender : OpenSender k speed loop-ms L order (SenderOpened.Opened s)
-  pub receiver : OpenReceiver k o
+-- Both ends have just been opened, neither refused, with the same k and with marks at both or at neither, of any sizes; the
+-- store has at least N times k bits.
+pub record Openings (k speed loop-ms L : ℕ) (senderSize receiverSize : CodeSize) (order : List ℕ) (s : Sender) (o : ReceiverOpened.Opened) (initialStore : List ℕ) : Type 0 where
+  pub sender : OpenSender k speed loop-ms L senderSize order (SenderOpened.Opened s)
+  pub receiver : OpenReceiver k receiverSize o
+  pub alike : marksOf senderSize .«in_use» ≡ marksOf receiverSize .«in_use»
   pub not-refused : o .answer ≡ Opening.Opened
   pub room : itemCount k L * k ≤ 8 * length initialStore
 
@@ -213,6 +217,6 @@ pub record Delivered (k L : ℕ) (content : Bits) (initialStore : List ℕ) {s :
 -- Demand 3: of every list of calls as it ran, from both openings on.
 unfoldable pub Delivery : Type 0
 Delivery =
-    (k speed loop-ms L : ℕ) (order : List ℕ) (s : Sender) (o : ReceiverOpened.Opened) (initialStore : List ℕ)
-    → Openings k speed loop-ms L order s o initialStore → (calls : List Call) (run : Run s (o .state) calls)
-    → Delivered k L (orderBits L order) initialStore run
+    (k speed loop-ms L : ℕ) (senderSize receiverSize : CodeSize) (order : List ℕ) (s : Sender) (o : ReceiverOpened.Opened)
+    (initialStore : List ℕ) → Openings k speed loop-ms L senderSize receiverSize order s o initialStore
+    → (calls : List Call) (run : Run s (o .state) calls) → Delivered k L (orderBits L order) initialStore run

@@ -2,10 +2,12 @@
 -- are proved, and what the private functions ask and promise.
 pub mod Refusals
 pub mod LoopTime
+pub mod Marks
 pub mod Order
 pub mod Sending
 pub mod SendCalls
 pub mod Receiving
+pub mod WithoutMarks
 pub mod ReceivingInPlace
 pub mod Pieces
 pub mod Course

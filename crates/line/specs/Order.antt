@@ -6,6 +6,8 @@ use lib.Dec.{eqb, leb, ltb}
 use lib.ListN.{take, drop}
 use Rattle.crc.specs.Bits.{Bits, binary, bitsOf, zeros}
 use Rattle.block.specs.Block.{blockBits}
+use Rattle.line.specs.Marks.{mark}
+use Rattle.line.specs.declared.marks.Marks.{Marks}
 
 -- the longest order in bits, and the most data items that an order makes
 abbrev pub longestOrder : ℕ
@@ -48,6 +50,15 @@ letter i = third (i % 3)
 unfoldable pub isLetter : ℕ → Bool
 isLetter service = eqb service letterA || eqb service letterB || eqb service letterC
 
+-- with marks: item 0 carries the mark of the code size, item i + 1 the letter of i
+abbrev pub marked : ℕ → ℕ → ℕ
+marked size zero = mark size
+marked size (suc i) = letter i
+
+-- the service bits of data item i
+unfoldable pub dataService : Marks → ℕ → ℕ
+dataService m i = cond (m .«in_use») (marked (m .size) i) (letter i)
+
 -- ---- items
 
 -- the L bits of an order
@@ -69,11 +80,11 @@ endPayload k L = (binary 8 version ++ binary 32 L) ++ zeros (k - 40)
 abbrev pub isData : ℕ → ℕ → ℕ → Bool
 isData k L i = ltb i (itemCount k L)
 
-unfoldable pub itemService : ℕ → ℕ → ℕ → ℕ
-itemService k L i = cond (isData k L i) (letter i) endService
+unfoldable pub itemService : Marks → ℕ → ℕ → ℕ → ℕ
+itemService m k L i = cond (isData k L i) (dataService m i) endService
 
 unfoldable pub itemPayload : ℕ → ℕ → Bits → ℕ → Bits
 itemPayload k L content i = cond (isData k L i) (take k (drop (i * k) (filled k L content))) (endPayload k L)
 
-unfoldable pub itemBits : ℕ → ℕ → Bits → ℕ → Bits
-itemBits k L content i = blockBits (binary 4 (itemService k L i)) (itemPayload k L content i)
+unfoldable pub itemBits : Marks → ℕ → ℕ → Bits → ℕ → Bits
+itemBits m k L content i = blockBits (binary 4 (itemService m k L i)) (itemPayload k L content i)

@@ -4,7 +4,7 @@ use mathlib.Core.Path.{_≡_}
 use mathlib.Core.Bool.{Bool, true, false, cond, not, _&&_, _||_}
 use mathlib.Core.List.{List, [], _∷_, _++_}
 use mathlib.Core.Option.{Option, none, some}
-use Prim.Native.Nat.{ℕ, suc, _+_, _-_, _*_}
+use Prim.Native.Nat.{ℕ, zero, suc, _+_, _-_, _*_}
 use lib.Dec.{eqb, leb, ltb}
 use lib.ListN.{length, take, drop, replicate}
 use Rattle.crc.specs.Bits.{Bits, number, bitsOf, bytesOf}
@@ -13,7 +13,12 @@ use Rattle.block.specs.Answer.{Answer, refused, done, refuseIf}
 use Rattle.block.specs.Lengths.{isLength, blockLength}
 use Rattle.block.specs.Block.{serviceOf, payloadOf, Verdict, passed, failed, verdict, serviceSync, syncSequence}
 use Rattle.block.specs.Calls.{tooShort}
+use Rattle.line.specs.Refusals as Refusals
+use Rattle.line.specs.Marks.{marksOf, marksInRange, isMark}
 use Rattle.line.specs.Order.{mostItems, validLength, itemCount, letter, isLetter, endService, version}
+use Rattle.line.specs.declared.marks.CodeSize.{CodeSize}
+use Rattle.line.specs.declared.marks.CodeSize.the-variants as C
+use Rattle.line.specs.declared.marks.Marks.{Marks}
 use Rattle.line.specs.declared.receiver.Receiver.{Receiver}
 use Rattle.line.specs.declared.receiving.Phase.{Phase}
 use Rattle.line.specs.declared.receiving.Phase.the-variants as P
@@ -26,7 +31,7 @@ use Rattle.line.specs.declared.receiver.Opening.{Opening}
 use Rattle.line.specs.declared.receiver.Opening.the-variants as O
 use Rattle.line.specs.declared.receiver.Opened.{Opened}
 
--- ---- opening: 1
+-- ---- opening: 1, 9
 
 -- the bytes of the array that holds one unfinished block
 abbrev pub arrayBytes : ℕ
@@ -36,10 +41,10 @@ unfoldable pub zeroArray : List ℕ
 zeroArray = replicate arrayBytes 0
 
 -- it starts in search with return bit 1
-unfoldable pub freshReceiver : ℕ → Receiver
-freshReceiver k =
+unfoldable pub freshReceiver : ℕ → Marks → Receiver
+freshReceiver k m =
     record {
-      setup = record { k = k };
+      setup = record { k = k; marks = m };
       bits = zeroArray;
       held = 0;
       «bad_row» = 0;
@@ -49,21 +54,23 @@ freshReceiver k =
       phase = P.Search;
     }
 
-unfoldable pub openReceiver : ℕ → Answer (Unit {0})
-openReceiver k = refuseIf (not (isLength k)) A.block (done tt)
+unfoldable pub openReceiver : ℕ → CodeSize → Answer (Unit {0})
+openReceiver k size =
+    refuseIf (not (isLength k)) A.block
+    (refuseIf (not (marksInRange (marksOf size))) Refusals.code-size (done tt))
 
--- a refused opening hands back a state that every step refuses, k being 0
-abbrev pub openedReceiver : ℕ → Answer (Unit {0}) → Receiver
-openedReceiver k (refused n) = freshReceiver 0
-openedReceiver k (done u) = freshReceiver k
+-- a refused opening hands back a state that every step refuses, k being 0, and without marks
+abbrev pub openedReceiver : ℕ → CodeSize → Answer (Unit {0}) → Receiver
+openedReceiver k size (refused n) = freshReceiver 0 (marksOf C.NotGiven)
+openedReceiver k size (done u) = freshReceiver k (marksOf size)
 
 abbrev pub openingAnswer : Opening → Answer (Unit {0})
 openingAnswer O.Opened = done tt
 openingAnswer (O.Refused n) = refused n
 
-pub record OpenReceiver (k : ℕ) (result : Opened) : Type 0 where
-  pub answers : openingAnswer (result .answer) ≡ openReceiver k
-  pub state : result .state ≡ openedReceiver k (openReceiver k)
+pub record OpenReceiver (k : ℕ) (size : CodeSize) (result : Opened) : Type 0 where
+  pub answers : openingAnswer (result .answer) ≡ openReceiver k size
+  pub state : result .state ≡ openedReceiver k size (openReceiver k size)
 
 -- ---- the rules
 
@@ -129,23 +136,32 @@ abbrev pub withLength : {A : Type 0} → A → (ℕ → A) → Option ℕ → A
 withLength other f none = other
 withLength other f (some L) = f L
 
--- ---- in step, at each n-th bit: k, the items taken and whether the end is, and the row of n bits
+-- ---- in step, at each n-th bit: whether marks are in use, k, the items taken and whether the end is, and the row of n bits
 
--- a letter against the items taken: of item r, of item r - 1, of item r + 1, or of none of these
+-- with marks: any of the four is item 0's, whatever the receiver's own code size; item i + 1 has the letter of i
+abbrev pub isMarked : ℕ → ℕ → Bool
+isMarked zero service = isMark service
+isMarked (suc i) service = eqb service (letter i)
+
+-- whether service bits are those of item i
+unfoldable pub isOf : Bool → ℕ → ℕ → Bool
+isOf in-use i service = cond in-use (isMarked i service) (eqb service (letter i))
+
+-- service bits against the items taken: of item r, of item r - 1, of item r + 1, or of none of these
 pub data Place : Type 0 where
   expected last next other : Place
 
-unfoldable pub place : ℕ → ℕ → Place
-place r service =
-    cond (eqb service (letter r)) expected
-    (cond (leb 1 r && eqb service (letter (r - 1))) last (cond (eqb service (letter (r + 1))) next other))
+unfoldable pub place : Bool → ℕ → ℕ → Place
+place in-use r service =
+    cond (isOf in-use r service) expected
+    (cond (leb 1 r && isOf in-use (r - 1) service) last (cond (isOf in-use (r + 1) service) next other))
 
 -- rules 3, 4, 5 and 7, the end not taken
-abbrev pub letterRule : ℕ → Place → Rule
-letterRule r expected = cond (ltb r mostItems) accepts anything-else
-letterRule r last = previous
-letterRule r next = out-of-sequence
-letterRule r other = anything-else
+abbrev pub placeRule : ℕ → Place → Rule
+placeRule r expected = cond (ltb r mostItems) accepts anything-else
+placeRule r last = previous
+placeRule r next = out-of-sequence
+placeRule r other = anything-else
 
 -- L makes r items
 abbrev pub makesItems : ℕ → ℕ → ℕ → Bool
@@ -159,24 +175,29 @@ unfoldable pub endRule : ℕ → ℕ → Bool → Bits → Rule
 endRule k r ended payload =
     cond ended ends-again (lengthRule k r (eqb (number (take 8 payload)) version) (number (take 32 (drop 8 payload))))
 
+-- no letter and no end block: a mark goes by its place where marks are in use and the end is not taken, all else by rule 7
+unfoldable pub markRule : Bool → ℕ → Bool → ℕ → Rule
+markRule in-use r ended service =
+    cond (in-use && isMark service && not ended) (placeRule r (place in-use r service)) anything-else
+
 -- rules 3 to 7: by the service bits of a block that passes
-unfoldable pub serviceRule : ℕ → ℕ → Bool → ℕ → Bits → Rule
-serviceRule k r ended service payload =
-    cond (isLetter service) (cond ended out-of-sequence (letterRule r (place r service)))
-    (cond (eqb service endService) (endRule k r ended payload) anything-else)
+unfoldable pub serviceRule : Bool → ℕ → ℕ → Bool → ℕ → Bits → Rule
+serviceRule in-use k r ended service payload =
+    cond (isLetter service) (cond ended out-of-sequence (placeRule r (place in-use r service)))
+    (cond (eqb service endService) (endRule k r ended payload) (markRule in-use r ended service))
 
 -- rule 2
-abbrev pub verdictRule : ℕ → ℕ → Bool → Bits → Verdict → Rule
-verdictRule k r ended row failed = check-fails
-verdictRule k r ended row (passed service) = serviceRule k r ended service (payloadOf k row)
+abbrev pub verdictRule : Bool → ℕ → ℕ → Bool → Bits → Verdict → Rule
+verdictRule in-use k r ended row failed = check-fails
+verdictRule in-use k r ended row (passed service) = serviceRule in-use k r ended service (payloadOf k row)
 
 -- rule 1: first four bits 0101 and last sixteen the sequence
 unfoldable pub looksSync : ℕ → Bits → Bool
 looksSync k row =
     eqb (number (serviceOf row)) (number serviceSync) && eqb (number (drop (k + 4) row)) (number syncSequence)
 
-unfoldable pub judge : ℕ → ℕ → Bool → Bits → Rule
-judge k r ended row = cond (looksSync k row) sync-block (verdictRule k r ended row (verdict row))
+unfoldable pub judge : Bool → ℕ → ℕ → Bool → Bits → Rule
+judge in-use k r ended row = cond (looksSync k row) sync-block (verdictRule in-use k r ended row (verdict row))
 
 -- ---- the state after an event: nothing held
 
@@ -286,6 +307,10 @@ holding s new =
 abbrev pub missing : Receiver → ℕ
 missing s = blockLength (s .setup .k) - s .held
 
+-- the rule of a finished block
+abbrev pub blockRule : Receiver → Bits → Rule
+blockRule s row = judge (s .setup .marks .«in_use») (s .setup .k) (s .taken) (s .ended) row
+
 abbrev pub finishedRow : Receiver → Bits → Bits
 finishedRow s new = heldBits s ++ take (missing s) new
 
@@ -293,7 +318,7 @@ unfoldable pub inStep : Receiver → Bits → Reception
 inStep s new =
     cond (ltb (length new) (missing s))
     (record { rule = unfinished; row = []; used = length new; state = holding s new })
-    (stops s (judge (s .setup .k) (s .taken) (s .ended) (finishedRow s new)) (finishedRow s new) (missing s))
+    (stops s (blockRule s (finishedRow s new)) (finishedRow s new) (missing s))
 
 -- A standing alarm: return 1, the bad row cleared, all bits used.
 abbrev pub underAlarm : Receiver → Receiver
@@ -343,7 +368,7 @@ heldInRange P.LengthAlarm n held = ltb held n
 -- every field within its range
 unfoldable pub receiverInRange : Receiver → Bool
 receiverInRange s =
-    isLength (s .setup .k) && ltb (s .«bad_row») lastBad && leb (s .taken) mostItems
+    isLength (s .setup .k) && marksInRange (s .setup .marks) && ltb (s .«bad_row») lastBad && leb (s .taken) mostItems
     && heldInRange (s .phase) (blockLength (s .setup .k)) (s .held)
 
 -- the store is judged only where a block would be accepted

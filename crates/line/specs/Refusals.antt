@@ -16,3 +16,6 @@ long = 5
 
 abbrev pub rest : ℕ
 rest = 8
+
+abbrev pub code-size : ℕ
+code-size = 9

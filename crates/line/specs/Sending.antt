@@ -12,7 +12,10 @@ use Rattle.block.specs.Lengths.{isLength, blockLength, blockBytes}
 use Rattle.block.specs.Block.{syncBlock, cancelled}
 use Rattle.block.specs.Calls.{tooShort, overwritten}
 use Rattle.line.specs.LoopTime.{loopTime}
+use Rattle.line.specs.Marks.{marksOf, marksInRange}
 use Rattle.line.specs.Order.{longestOrder, validLength, itemCount, isData, orderBits, itemBits}
+use Rattle.line.specs.declared.marks.CodeSize.{CodeSize}
+use Rattle.line.specs.declared.marks.Marks.{Marks}
 use Rattle.line.specs.declared.sender.Sender.{Sender}
 use Rattle.line.specs.declared.sender.Next.{Next}
 use Rattle.line.specs.declared.sender.Next.the-variants.{Sync, Older, Newer}
@@ -22,31 +25,39 @@ use Rattle.line.specs.declared.sender.Sent.{Sent}
 use Rattle.line.specs.declared.sender.Sent.the-variants as W
 use Rattle.line.specs.declared.sender.Step.{Step}
 
--- ---- opening: 1, 2, 3, 4, 5, 6
+-- ---- opening: 1, 2, 3, 4, 5, 9, 6
 
 -- the pair is 0 and 1, opening lasts, and the first block is a synchronising block
-unfoldable pub freshSender : ℕ → ℕ → Sender
-freshSender k L =
-    record { setup = record { k = k; length = L }; newer = 1; run = 0; opening = true; next = Sync; finished = false }
+unfoldable pub freshSender : ℕ → ℕ → Marks → Sender
+freshSender k L m =
+    record {
+      setup = record { k = k; length = L; marks = m };
+      newer = 1;
+      run = 0;
+      opening = true;
+      next = Sync;
+      finished = false;
+    }
 
 -- what follows if an answer is no refusal
 abbrev pub unless-refused : {A B : Type 0} → Answer A → Answer B → Answer B
 unless-refused (refused n) next = refused n
 unless-refused (done a) next = next
 
-unfoldable pub openSender : ℕ → ℕ → ℕ → ℕ → List ℕ → Answer Sender
-openSender k speed loop-ms L order =
+unfoldable pub openSender : ℕ → ℕ → ℕ → ℕ → CodeSize → List ℕ → Answer Sender
+openSender k speed loop-ms L size order =
     unless-refused (loopTime k speed loop-ms)
     (refuseIf (eqb L 0) Refusals.empty
     (refuseIf (ltb longestOrder L) Refusals.long
-    (refuseIf (tooShort order L) A.short (done (freshSender k L)))))
+    (refuseIf (not (marksInRange (marksOf size))) Refusals.code-size
+    (refuseIf (tooShort order L) A.short (done (freshSender k L (marksOf size)))))))
 
 abbrev pub openedAnswer : Opened → Answer Sender
 openedAnswer (O.Opened s) = done s
 openedAnswer (O.Refused n) = refused n
 
-pub record OpenSender (k speed loop-ms L : ℕ) (order : List ℕ) (answer : Opened) : Type 0 where
-  pub answers : openedAnswer answer ≡ openSender k speed loop-ms L order
+pub record OpenSender (k speed loop-ms L : ℕ) (size : CodeSize) (order : List ℕ) (answer : Opened) : Type 0 where
+  pub answers : openedAnswer answer ≡ openSender k speed loop-ms L size order
 
 -- ---- a sending call
 
@@ -115,8 +126,8 @@ transmit s Newer true = record { block = itemBlock s (s .newer) true true; state
 -- every field within its range
 unfoldable pub senderInRange : Sender → Bool
 senderInRange s =
-    isLength (s .setup .k) && validLength (s .setup .length) && leb 1 (s .newer) && leb (s .newer) (senderItems s + 1)
-    && leb (s .run) lastRun
+    isLength (s .setup .k) && validLength (s .setup .length) && marksInRange (s .setup .marks) && leb 1 (s .newer)
+    && leb (s .newer) (senderItems s + 1) && leb (s .run) lastRun
 
 abbrev pub gaveUp : Sender → Bool
 gaveUp s = eqb (s .run) lastRun
@@ -134,19 +145,20 @@ sendState s reading (refused n) = s
 sendState s reading (done b) = transmit s (s .next) reading .state
 
 -- the bits of a block before cancelling, and as they are sent
-unfoldable pub plainBits : ℕ → ℕ → Bits → Block → Bits
-plainBits k L content synchronising = syncBlock k
-plainBits k L content (item i end used cancel) = itemBits k L content i
+unfoldable pub plainBits : Marks → ℕ → ℕ → Bits → Block → Bits
+plainBits m k L content synchronising = syncBlock k
+plainBits m k L content (item i end used cancel) = itemBits m k L content i
 
-unfoldable pub sentBits : ℕ → ℕ → Bits → Block → Bits
-sentBits k L content synchronising = syncBlock k
-sentBits k L content (item i end used cancel) = cond cancel (cancelled (itemBits k L content i)) (itemBits k L content i)
+unfoldable pub sentBits : Marks → ℕ → ℕ → Bits → Block → Bits
+sentBits m k L content synchronising = syncBlock k
+sentBits m k L content (item i end used cancel) =
+    cond cancel (cancelled (itemBits m k L content i)) (itemBits m k L content i)
 
 abbrev pub sendBytes : Sender → List ℕ → List ℕ → Answer Block → List ℕ
 sendBytes s order slice (refused n) = slice
 sendBytes s order slice (done b) =
     overwritten (blockBytes (s .setup .k))
-    (sentBits (s .setup .k) (s .setup .length) (orderBits (s .setup .length) order) b) slice
+    (sentBits (s .setup .marks) (s .setup .k) (s .setup .length) (orderBits (s .setup .length) order) b) slice
 
 abbrev pub sentAnswer : Sent → Answer Block
 sentAnswer W.Synchronising = done synchronising

@@ -81,6 +81,9 @@ impl Head {
         if !block::known_length(k) {
             return false;
         }
+        if !self.setup.marks.in_range() {
+            return false;
+        }
         if LAST_BAD <= self.bad_row {
             return false;
         }
@@ -239,7 +242,7 @@ impl Head {
         let Read::Passed(service) = answer else {
             return self.after_bad(array, false, used);
         };
-        let rule = service_rule(k, taken, ended, service, row);
+        let rule = service_rule(self.setup.marks.in_use, k, taken, ended, service, row);
         match rule {
             Rule::Accepts => {
                 if !self.has_room(store) {

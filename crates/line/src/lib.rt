@@ -2,6 +2,7 @@
 pub mod head;
 mod hold;
 pub mod loop_time;
+pub mod marks;
 mod order;
 pub mod receiver;
 pub mod receiving;
@@ -9,7 +10,7 @@ mod rules;
 pub mod sender;
 mod window;
 
-// Document 01, "What the ends turn away"; the crate block has the numbers of what it turns away itself.
+// docs/PROTOCOL.md, "What the ends turn away"; the crate block has the numbers of what it turns away itself.
 pub const SPEED: u8 = 2;
 
 pub const LOOP_TIME: u8 = 3;
@@ -19,3 +20,5 @@ pub const EMPTY: u8 = 4;
 pub const LONG: u8 = 5;
 
 pub const REST: u8 = 8;
+
+pub const CODE_SIZE: u8 = 9;

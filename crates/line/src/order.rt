@@ -8,7 +8,9 @@ ghost use Rattle.crc.specs.Bits.{binary, bitsOf, bytesOf, number, zeros};
 ghost use Rattle.block.specs.Lengths.{isLength, blockLength, blockBytes};
 ghost use Rattle.block.specs.Block.{blockBits};
 ghost use Rattle.block.specs.Calls.{overwritten};
-ghost use Rattle.line.specs.Order.{longestOrder, validLength, itemCount, letter, endService, orderBits, endPayload, itemBits};
+ghost use Rattle.line.specs.Order.{longestOrder, validLength, itemCount, letter, endService, dataService, orderBits, endPayload, itemBits};
+use crate::marks::Marks;
+use crate::marks::mark;
 
 // The longest order in bits, and the most data items that an order makes.
 pub(crate) const LONGEST_ORDER: usize = 262144;
@@ -34,7 +36,7 @@ pub(crate) fn item_count(k: usize, bits: usize) -> usize
     (bits + k - 1) / k
 }
 
-// The service bits of data item i.
+// The letter of item i.
 pub(crate) fn letter(i: usize) -> u8
     ensures { λ r. ⌜ r ≡ letter i ⌝ }
 {
@@ -43,6 +45,19 @@ pub(crate) fn letter(i: usize) -> u8
         1 => LETTER_B,
         _ => LETTER_C,
     }
+}
+
+// The service bits of data item i.
+fn data_service(marks: Marks, i: usize) -> u8
+    ensures { λ r. ⌜ r ≡ dataService marks i ⌝ }
+{
+    if !marks.in_use {
+        return letter(i);
+    }
+    if i == 0 {
+        return mark(marks.size);
+    }
+    letter(i - 1)
 }
 
 // The first count bits of a byte, zeros behind them.
@@ -95,37 +110,45 @@ fn write_end(k: usize, bits: usize, block: &mut [u8])
     block::build_block(k, END, &payload, block);
 }
 
-// Item i, whose data are all of the order, over the first bytes of block.
-fn write_whole(k: usize, i: usize, order: &[u8], block: &mut [u8])
-    requires { ⌜ (isLength k ≡ true) × (i * k + k ≤ 8 * length (now order)) × (blockLength k ≤ 8 * length (now block)) ⌝ }
-    ensures { λ _. ⌜ now (block .exit) ≡ overwritten (blockBytes k) (blockBits (binary 4 (letter i)) (take k (drop (i * k) (bitsOf (now (order .entry)))))) (now (block .entry)) ⌝ }
+// Item i, whose data are all of the order, under these service bits over the first bytes of block.
+fn write_whole(k: usize, i: usize, service: u8, order: &[u8], block: &mut [u8])
+    requires { ⌜ (isLength k ≡ true) × (i * k + k ≤ 8 * length (now order)) × (blockLength k ≤ 8 * length (now block)) × (service < 16) ⌝ }
+    ensures { λ _. ⌜ now (block .exit) ≡ overwritten (blockBytes k) (blockBits (binary 4 service) (take k (drop (i * k) (bitsOf (now (order .entry)))))) (now (block .entry)) ⌝ }
 {
     let start = i * (k / 8);
     let end = start + k / 8;
-    block::build_block(k, letter(i), &order[start..end], block);
+    block::build_block(k, service, &order[start..end], block);
 }
 
-// Item i, the order's last bits and the filling behind them, over the first bytes of block.
-fn write_last(k: usize, bits: usize, i: usize, order: &[u8], block: &mut [u8])
-    requires { ⌜ (isLength k ≡ true) × (i * k ≤ bits) × (bits ≤ i * k + k) × (bits ≤ 8 * length (now order)) × (blockLength k ≤ 8 * length (now block)) ⌝ }
-    ensures { λ _. ⌜ now (block .exit) ≡ overwritten (blockBytes k) (blockBits (binary 4 (letter i)) (drop (i * k) (orderBits bits (now (order .entry))) ++ zeros (i * k + k - bits))) (now (block .entry)) ⌝ }
+// Item i, the order's last bits and the filling behind them, under these service bits over the first bytes of block.
+fn write_last(k: usize, bits: usize, i: usize, service: u8, order: &[u8], block: &mut [u8])
+    requires { ⌜ (isLength k ≡ true) × (i * k ≤ bits) × (bits ≤ i * k + k) × (bits ≤ 8 * length (now order)) × (blockLength k ≤ 8 * length (now block)) × (service < 16) ⌝ }
+    ensures { λ _. ⌜ now (block .exit) ≡ overwritten (blockBytes k) (blockBits (binary 4 service) (drop (i * k) (orderBits bits (now (order .entry))) ++ zeros (i * k + k - bits))) (now (block .entry)) ⌝ }
 {
     let payload = last_data(order, bits, i * (k / 8));
-    block::build_block(k, letter(i), &payload, block);
+    block::build_block(k, service, &payload, block);
 }
 
 // Item i over the first bytes of block.
-pub(crate) fn write_item(k: usize, bits: usize, i: usize, order: &[u8], block: &mut [u8])
+pub(crate) fn write_item(
+    marks: Marks,
+    k: usize,
+    bits: usize,
+    i: usize,
+    order: &[u8],
+    block: &mut [u8],
+)
     requires { ⌜ (isLength k ≡ true) × (validLength bits ≡ true) × (bits ≤ 8 * length (now order)) × (blockLength k ≤ 8 * length (now block)) ⌝ }
-    ensures { λ _. ⌜ now (block .exit) ≡ overwritten (blockBytes k) (itemBits k bits (orderBits bits (now (order .entry))) i) (now (block .entry)) ⌝ }
+    ensures { λ _. ⌜ now (block .exit) ≡ overwritten (blockBytes k) (itemBits marks k bits (orderBits bits (now (order .entry))) i) (now (block .entry)) ⌝ }
 {
     if item_count(k, bits) <= i {
         write_end(k, bits, block);
         return;
     }
+    let service = data_service(marks, i);
     if bits / k <= i {
-        write_last(k, bits, i, order, block);
+        write_last(k, bits, i, service, order, block);
         return;
     }
-    write_whole(k, i, order, block);
+    write_whole(k, i, service, order, block);
 }

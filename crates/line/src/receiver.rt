@@ -2,7 +2,11 @@
 ghost use mathlib.Core.Path.{_≡_};
 ghost use Rattle.line.specs.Receiving.{OpenReceiver, freshReceiver, Receive};
 ghost use Rattle.line.specs.ReceivingInPlace.{withArray};
+ghost use Rattle.line.specs.Code.ReceiveSteps.{refusedOpening};
+use crate::CODE_SIZE;
 use crate::head::Head;
+use crate::marks::CodeSize;
+use crate::marks::Marks;
 use crate::receiving::Phase;
 use crate::receiving::Received;
 use crate::receiving::Setup;
@@ -41,11 +45,11 @@ pub struct Opened {
 
 impl Receiver {
     // In search, with return bit 1.
-    fn fresh(k: usize) -> Receiver
-        ensures { λ r. ⌜ r ≡ freshReceiver k ⌝ }
+    fn fresh(k: usize, marks: Marks) -> Receiver
+        ensures { λ r. ⌜ r ≡ freshReceiver k marks ⌝ }
     {
         Receiver {
-            setup: Setup { k },
+            setup: Setup { k, marks },
             bits: [0u8; 483],
             held: 0,
             bad_row: 0,
@@ -56,18 +60,29 @@ impl Receiver {
         }
     }
 
+    fn refused(number: u8) -> Opened
+        ensures { λ r. ⌜ r ≡ refusedOpening number ⌝ }
+    {
+        let marks = Marks::of(CodeSize::NotGiven);
+        Opened {
+            state: Receiver::fresh(0, marks),
+            answer: Opening::Refused(number),
+        }
+    }
+
     // A receiver of blocks of k data bits.
-    pub fn open(k: usize) -> Opened
-        ensures { λ r. ⌜ OpenReceiver k r ⌝ }
+    pub fn open(k: usize, size: CodeSize) -> Opened
+        ensures { λ r. ⌜ OpenReceiver k size r ⌝ }
     {
         if !block::known_length(k) {
-            return Opened {
-                state: Receiver::fresh(0),
-                answer: Opening::Refused(block::BLOCK),
-            };
+            return Receiver::refused(block::BLOCK);
+        }
+        let marks = Marks::of(size);
+        if !marks.in_range() {
+            return Receiver::refused(CODE_SIZE);
         }
         Opened {
-            state: Receiver::fresh(k),
+            state: Receiver::fresh(k, marks),
             answer: Opening::Opened,
         }
     }

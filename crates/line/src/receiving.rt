@@ -1,5 +1,7 @@
 // What both forms of the receiving end are made of: the phase, what opening fixes, the events and the answer.
 
+use crate::marks::Marks;
+
 // The bytes of the array that holds one unfinished block.
 pub const ARRAY_SIZE: usize = 483;
 
@@ -10,9 +12,10 @@ pub enum Phase {
     LengthAlarm,
 }
 
-// What opening fixes: the data bits of a block.
+// What opening fixes: the data bits of a block and the marks.
 pub struct Setup {
     pub k: usize,
+    pub marks: Marks,
 }
 
 pub enum Event {

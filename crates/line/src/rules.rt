@@ -2,14 +2,15 @@
 ghost use mathlib.Core.Path.{_≡_};
 ghost use mathlib.Core.Bool.{true, _&&_};
 ghost use Prim.Native.Nat.{_-_, _*_, _≤_};
-ghost use lib.Dec.{eqb, leb};
+ghost use lib.Dec.{leb};
 ghost use lib.ListN.{length, take, drop};
 ghost use Rattle.crc.specs.Bits.{number, bitsOf};
 ghost use Rattle.block.specs.Lengths.{isLength, blockLength};
 ghost use Rattle.block.specs.Block.{payloadOf};
-ghost use Rattle.line.specs.Order.{longestOrder, mostItems, letter, isLetter};
-ghost use Rattle.line.specs.Receiving.{looksSync, place, letterRule, makesItems, endRule, serviceRule};
+ghost use Rattle.line.specs.Order.{longestOrder, mostItems, isLetter};
+ghost use Rattle.line.specs.Receiving.{looksSync, isOf, place, placeRule, makesItems, endRule, markRule, serviceRule};
 ghost use Rattle.line.specs.Code.ReceiveSteps.{ruleOf};
+use crate::marks::is_mark;
 use crate::order::END;
 use crate::order::LETTER_A;
 use crate::order::LETTER_B;
@@ -54,31 +55,44 @@ fn is_letter(service: u8) -> bool
     }
 }
 
-// The letter of the item before.
-fn is_last(taken: usize, service: u8) -> bool
-    ensures { λ r. ⌜ r ≡ (leb 1 taken && eqb service (letter (taken - 1))) ⌝ }
+// The service bits of item i; with marks any of the four is item 0's.
+fn is_of(in_use: bool, i: usize, service: u8) -> bool
+    ensures { λ r. ⌜ r ≡ isOf «in_use» i service ⌝ }
+{
+    if !in_use {
+        return service == letter(i);
+    }
+    if i == 0 {
+        return is_mark(service);
+    }
+    service == letter(i - 1)
+}
+
+// The service bits of the item before.
+fn is_last(in_use: bool, taken: usize, service: u8) -> bool
+    ensures { λ r. ⌜ r ≡ (leb 1 taken && isOf «in_use» (taken - 1) service) ⌝ }
 {
     if taken == 0 {
         return false;
     }
-    service == letter(taken - 1)
+    is_of(in_use, taken - 1, service)
 }
 
-// A letter, the end not taken.
-fn letter_rule(taken: usize, service: u8) -> Rule
+// A letter or a mark, the end not taken.
+fn place_rule(in_use: bool, taken: usize, service: u8) -> Rule
     requires { ⌜ taken ≤ mostItems ⌝ }
-    ensures { λ r. ⌜ ruleOf r ≡ letterRule taken (place taken service) ⌝ }
+    ensures { λ r. ⌜ ruleOf r ≡ placeRule taken (place «in_use» taken service) ⌝ }
 {
-    if service == letter(taken) {
+    if is_of(in_use, taken, service) {
         if taken < MOST_ITEMS {
             return Rule::Accepts;
         }
         return Rule::AnythingElse;
     }
-    if is_last(taken, service) {
+    if is_last(in_use, taken, service) {
         return Rule::Previous;
     }
-    if service == letter(taken + 1) {
+    if is_of(in_use, taken + 1, service) {
         return Rule::OutOfSequence;
     }
     Rule::AnythingElse
@@ -124,21 +138,45 @@ fn end_rule(k: usize, taken: usize, ended: bool, payload: &[u8]) -> Rule
     Rule::WrongLength
 }
 
+// No letter and no end block.
+fn mark_rule(in_use: bool, taken: usize, ended: bool, service: u8) -> Rule
+    requires { ⌜ taken ≤ mostItems ⌝ }
+    ensures { λ r. ⌜ ruleOf r ≡ markRule «in_use» taken ended service ⌝ }
+{
+    if !in_use {
+        return Rule::AnythingElse;
+    }
+    if !is_mark(service) {
+        return Rule::AnythingElse;
+    }
+    if ended {
+        return Rule::AnythingElse;
+    }
+    place_rule(in_use, taken, service)
+}
+
 // By the service bits; of an end block's data the version and the length are moved out.
-pub(crate) fn service_rule(k: usize, taken: usize, ended: bool, service: u8, row: &[u8]) -> Rule
+pub(crate) fn service_rule(
+    in_use: bool,
+    k: usize,
+    taken: usize,
+    ended: bool,
+    service: u8,
+    row: &[u8],
+) -> Rule
     requires { ⌜ (isLength k ≡ true) × (taken ≤ mostItems) × (blockLength k ≤ 8 * length (now row)) ⌝ }
-    ensures { λ r. ⌜ ruleOf r ≡ serviceRule k taken ended service (payloadOf k (take (blockLength k) (bitsOf (now (row .entry))))) ⌝ }
+    ensures { λ r. ⌜ ruleOf r ≡ serviceRule «in_use» k taken ended service (payloadOf k (take (blockLength k) (bitsOf (now (row .entry))))) ⌝ }
 {
     if is_letter(service) {
         if ended {
             return Rule::OutOfSequence;
         }
-        return letter_rule(taken, service);
+        return place_rule(in_use, taken, service);
     }
     if service == END {
         let mut payload = [0u8; 5];
         block::move_data(5, row, &mut payload);
         return end_rule(k, taken, ended, &payload);
     }
-    Rule::AnythingElse
+    mark_rule(in_use, taken, ended, service)
 }

@@ -8,11 +8,14 @@ ghost use Rattle.block.specs.Answer.{done};
 ghost use Rattle.block.specs.Lengths.{blockLength};
 ghost use Rattle.line.specs.Sending.{confirmed, repeated, itemBlock, senderInRange, gaveUp, sentAnswer, OpenSender, Send};
 ghost use Rattle.line.specs.Code.SendSteps.{Ready, Lent, Sends};
+use crate::CODE_SIZE;
 use crate::EMPTY;
 use crate::LONG;
 use crate::REST;
 use crate::loop_time::LoopTime;
 use crate::loop_time::loop_time;
+use crate::marks::CodeSize;
+use crate::marks::Marks;
 use crate::order::LONGEST_ORDER;
 use crate::order::item_count;
 use crate::order::write_item;
@@ -31,10 +34,11 @@ pub enum Next {
     Newer,
 }
 
-// What opening fixes: the data bits of a block and the bits of the order.
+// What opening fixes: the data bits of a block, the bits of the order and the marks.
 pub struct Setup {
     pub k: usize,
     pub length: usize,
+    pub marks: Marks,
 }
 
 pub struct Sender {
@@ -74,8 +78,15 @@ pub struct Step {
 
 impl Sender {
     // The pair is 0 and 1, opening lasts, and the first block is a synchronising block.
-    pub fn open(k: usize, speed: u32, loop_ms: u32, length: usize, order: &[u8]) -> Opened
-        ensures { λ r. ⌜ OpenSender k speed «loop_ms» length (now (order .entry)) r ⌝ }
+    pub fn open(
+        k: usize,
+        speed: u32,
+        loop_ms: u32,
+        length: usize,
+        size: CodeSize,
+        order: &[u8],
+    ) -> Opened
+        ensures { λ r. ⌜ OpenSender k speed «loop_ms» length size (now (order .entry)) r ⌝ }
     {
         if let LoopTime::Refused(number) = loop_time(k, speed, loop_ms) {
             return Opened::Refused(number);
@@ -86,11 +97,15 @@ impl Sender {
         if LONGEST_ORDER < length {
             return Opened::Refused(LONG);
         }
+        let marks = Marks::of(size);
+        if !marks.in_range() {
+            return Opened::Refused(CODE_SIZE);
+        }
         if too_short(order, length) {
             return Opened::Refused(block::SHORT);
         }
         Opened::Opened(Sender {
-            setup: Setup { k, length },
+            setup: Setup { k, length, marks },
             newer: 1,
             run: 0,
             opening: true,
@@ -113,6 +128,9 @@ impl Sender {
             return false;
         }
         if LONGEST_ORDER < length {
+            return false;
+        }
+        if !setup.marks.in_range() {
             return false;
         }
         if self.newer == 0 {
@@ -220,7 +238,7 @@ impl Sender {
     {
         let setup = self.setup;
         let older = self.newer - 1;
-        write_item(setup.k, setup.length, older, order, block);
+        write_item(setup.marks, setup.k, setup.length, older, order, block);
         Step {
             state: Sender {
                 next: Next::Newer,
@@ -237,7 +255,7 @@ impl Sender {
     {
         let setup = self.setup;
         let newer = self.newer;
-        write_item(setup.k, setup.length, newer, order, block);
+        write_item(setup.marks, setup.k, setup.length, newer, order, block);
         if reading {
             block::cancel_block(setup.k, block);
             return Step {

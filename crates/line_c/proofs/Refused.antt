@@ -15,9 +15,11 @@ use Rattle.block.specs.Block.{Verdict, passed, failed, verdict}
 use Rattle.block.specs.Calls.{tooShort, buildBlock, readBlock}
 use Rattle.line.specs.Refusals as Refusals
 use Rattle.line.specs.LoopTime.{isSpeed, hasEntry, longestLoop, loopTime}
+use Rattle.line.specs.Marks.{marksOf, marksInRange}
 use Rattle.line.specs.Order.{longestOrder}
 use Rattle.line.specs.Sending.{Block, synchronising, item, transmit, senderInRange, gaveUp, freshSender, unless-refused, openSender, send}
 use Rattle.line.specs.Receiving.{meaning, openReceiver, Reception, reception, reported, receiverInRange, receive}
+use Rattle.line.specs.declared.marks.CodeSize.{CodeSize}
 use Rattle.line.specs.declared.sender.Sender.{Sender}
 use Rattle.line.specs.declared.receiver.Receiver.{Receiver}
 use Rattle.line.specs.declared.receiving.Event.{Event}
@@ -76,6 +78,11 @@ module _ {A : Type 0} (f : Answer A → ℕ) (of-refused : (n : ℕ) → f (refu
   three true u v l m n c d e = ap isRefusal (of-refused l) ∙ c
   three false u v l m n c d e = two u v m n d e
 
+  four : (s t u v : Bool) (k l m n : ℕ) → isRefusal k ≡ true → isRefusal l ≡ true → isRefusal m ≡ true → isRefusal n ≡ true
+      → Told (refuseIf s k (refuseIf t l (refuseIf u m (refuseIf v n last))))
+  four true t u v k l m n b c d e = ap isRefusal (of-refused k) ∙ b
+  four false t u v k l m n b c d e = three t u v l m n c d e
+
 -- an answer whose number is 0 unless it is refused
 abbrev Plain : {A : Type 0} → Answer A → Type 0
 Plain a = isRefusal (refusal a) ≡ isRefused a
@@ -110,16 +117,20 @@ read-told k slice payload =
     two readNumber (λ n. refl) (done v) (verdict-told v) (not (isLength k)) (tooShort slice (blockLength k) || tooShort payload k)
     A.block A.short refl refl
 
-open-sender-told : (k speed loop-ms L : ℕ) (order state : List ℕ) → Plain (openSenderIn k speed loop-ms L order state)
+open-sender-told : (k speed loop-ms L : ℕ) (size : CodeSize) (order state : List ℕ)
+    → Plain (openSenderIn k speed loop-ms L size order state)
 unfolding openSenderIn openSender
-open-sender-told k speed loop-ms L order state =
-    judge-told senderSize state (openSender k speed loop-ms L order)
+open-sender-told k speed loop-ms L size order state =
+    let s = freshSender k L (marksOf size) in
+    let unknown = not (marksInRange (marksOf size)) in
+    judge-told senderSize state (openSender k speed loop-ms L size order)
     (unless-told (loopTime k speed loop-ms)
     (refuseIf (eqb L 0) Refusals.empty
-    (refuseIf (ltb longestOrder L) Refusals.long (refuseIf (tooShort order L) A.short (done (freshSender k L)))))
+    (refuseIf (ltb longestOrder L) Refusals.long
+    (refuseIf unknown Refusals.code-size (refuseIf (tooShort order L) A.short (done s)))))
     (loop-told k speed loop-ms)
-    (three refusal (λ n. refl) (done (freshSender k L)) refl (eqb L 0) (ltb longestOrder L) (tooShort order L) Refusals.empty
-    Refusals.long A.short refl refl refl))
+    (four refusal (λ n. refl) (done s) refl (eqb L 0) (ltb longestOrder L) unknown (tooShort order L) Refusals.empty Refusals.long
+    Refusals.code-size A.short refl refl refl refl))
 
 -- what the bytes hold, and a call on it
 sender-told : (state : List ℕ) → Plain (senderOf state)
@@ -139,10 +150,12 @@ send-told order reading slice (done s) h =
     three sentWord (λ n. refl) (done b) (sent-told b) (not (senderInRange s)) (s .finished || gaveUp s)
     (tooShort order (s .setup .length) || tooShort slice (blockLength (s .setup .k))) A.spoiled Refusals.rest A.short refl refl refl
 
-open-receiver-told : (k : ℕ) (state : List ℕ) → Plain (openReceiverIn k state)
+open-receiver-told : (k : ℕ) (size : CodeSize) (state : List ℕ) → Plain (openReceiverIn k size state)
 unfolding openReceiverIn openReceiver
-open-receiver-told k state =
-    judge-told receiverSize state (openReceiver k) (one refusal (λ n. refl) (done tt) refl (not (isLength k)) A.block refl)
+open-receiver-told k size state =
+    judge-told receiverSize state (openReceiver k size)
+    (two refusal (λ n. refl) (done tt) refl (not (isLength k)) (not (marksInRange (marksOf size))) A.block Refusals.code-size refl
+    refl)
 
 abbrev receptionNumber : Answer Reception → ℕ
 receptionNumber a = reportNumber (reported a)

@@ -3,17 +3,20 @@
 use mathlib.Core.Path.{_≡_, refl, sym, ap, _∙_}
 use mathlib.Core.Bool.{Bool, true, false, not, _&&_}
 use mathlib.Core.List.{List, _++_, append-assoc}
-use Prim.Native.Nat.{ℕ, zero, suc, _+_, _*_, _/_, _%_, _^_, _≤_, _<_}
+use Prim.Native.Nat.{ℕ, zero, suc, _+_, _-_, _*_, _/_, _%_, _^_, _≤_, _<_}
 use native.Mathlib.Nat.{div-add-mod'}
 use native.Mathlib.Omega.{arith}
 use borrow.Author.Tests.{leb-true, le-leb, not-false}
 use lib.Dec.{eqb, leb, ltb}
 use lib.ListN.{length, drop, getD, length-append, length-drop, take-append-drop}
-use lib.Seq.{length-take-le, drop-drop, take-at}
+use lib.Seq.{length-take-le, drop-drop, take-at, getD-at, getD-append-add}
 use Rattle.block.specs.Answer as A
-use Rattle.block.specs.Answer.{Answer, refused, done}
+use Rattle.block.specs.Answer.{Answer, refused, done, refuseIf}
 use Rattle.block.proofs.Truth.{and-left, and-right}
 use Rattle.block.proofs.Refusals.{passed-test}
+use Rattle.line.specs.Marks.{marksOf}
+use Rattle.line.specs.declared.marks.CodeSize.{CodeSize}
+use Rattle.line.specs.declared.marks.Marks.{Marks}
 use Rattle.line.specs.declared.sender.Sender.{Sender}
 use Rattle.line.specs.declared.sender.Next.{Next}
 use Rattle.line.specs.declared.sender.Next.the-variants as N
@@ -26,9 +29,9 @@ use Rattle.line.specs.declared.receiving.Phase.the-variants as P
 use Rattle.line_c.specs.ReceiverCalls.{receiverOver, openReceiverIn, openedReceiver, OpenReceiverCall, ReceiveCall}
 use Rattle.line_c.proofs.ReceiverRange as R
 use Rattle.line_c.proofs.ReceiverRange.{receiver-fits}
-use Rattle.line_c.proofs.Places.{four}
+use Rattle.line_c.proofs.Places.{two, four, length-head, length-marks}
 use Rattle.line_c.proofs.Ranges.{sender-fits, opened-fits, sent-fits}
-use Rattle.line_c.specs.State.{wordAt, wordBytes, flagByte, nextOf, nextByte, headSize, holds, headBytes, senderSize, senderIn, senderOf, senderBytes, SenderFits, phaseOf, phaseByte, receiverSize, holdsReceiver, receiverIn, receiverOf, receiverBytes, ReceiverFits}
+use Rattle.line_c.specs.State.{wordAt, wordBytes, flagByte, nextOf, nextByte, headSize, headBytes, marksSize, marksIn, marksBytes, holds, senderSize, holdsSender, senderIn, senderOf, senderBytes, SenderFits, phaseOf, phaseByte, arrayEnd, receiverSize, holdsReceiver, receiverIn, receiverOf, receiverBytes, ReceiverFits}
 
 -- every element of a list is a byte
 abbrev pub Bytes : List ℕ → Type 0
@@ -115,6 +118,30 @@ next-written-back (suc zero) h = refl
 next-written-back (suc (suc zero)) h = refl
 next-written-back (suc (suc (suc n))) h = absurd (omega arith)
 
+-- ---- the marks
+
+module _ (l p rest : List ℕ) (m : Marks) (at : ℕ) (n : length p ≡ at) (e : l ≡ p ++ (marksBytes m ++ rest)) where
+  marks-flag-back : getD l at 0 ≡ flagByte (m .«in_use»)
+  unfolding marksBytes
+  marks-flag-back = rw e (getD-at p (flagByte (m .«in_use»)) _ 0 at n)
+
+  marks-size-back : m .size < 256 → getD l (at + 1) 0 ≡ m .size
+  unfolding marksBytes
+  marks-size-back h =
+      let r : m .size % 256 ≡ m .size = omega arith in
+      rw (e, ← n) (getD-append-add p (marksBytes m ++ rest) 1 0 ∙ r)
+
+  marks-back : m .size < 256 → marksIn l at ≡ m
+  unfolding marksIn
+  marks-back h = simp (marks-flag-back, marks-size-back h, flag-back)
+
+marks-written-back : (s : List ℕ) (at : ℕ) → at + marksSize ≤ length s → Bytes s → getD s at 0 ≤ 1
+    → marksBytes (marksIn s at) ++ drop (at + marksSize) s ≡ drop at s
+unfolding marksIn marksBytes
+marks-written-back s at h b f =
+    let r : getD s (at + 1) 0 % 256 ≡ getD s (at + 1) 0 = omega (arith, b (at + 1)) in
+    rw (r, flag-written-back (getD s at 0) f) (sym (two s at h))
+
 -- ---- what it says that bytes hold a state
 
 pub record Held (size a b c : ℕ) (s : List ℕ) : Type 0 where
@@ -122,6 +149,7 @@ pub record Held (size a b c : ℕ) (s : List ℕ) : Type 0 where
   pub first : getD s 13 0 ≤ a
   pub second : getD s 14 0 ≤ b
   pub third : getD s 15 0 ≤ c
+  pub marks : getD s (size - marksSize) 0 ≤ 1
 
 pub held : (size a b c : ℕ) (s : List ℕ) → holds size a b c s ≡ true → Held size a b c s
 unfolding holds
@@ -130,13 +158,16 @@ held size a b c s h =
     let t1 = leb (getD s 13 0) a in
     let t2 = leb (getD s 14 0) b in
     let t3 = leb (getD s 15 0) c in
-    let t012 = and-left (t0 && t1 && t2) t3 h in
+    let t4 = leb (getD s (size - marksSize) 0) 1 in
+    let t0123 = and-left (t0 && t1 && t2 && t3) t4 h in
+    let t012 = and-left (t0 && t1 && t2) t3 t0123 in
     let t01 = and-left (t0 && t1) t2 t012 in
     record {
       enough = leb-true size (length s) (and-left t0 t1 t01);
       first = leb-true (getD s 13 0) a (and-right t0 t1 t01);
       second = leb-true (getD s 14 0) b (and-right (t0 && t1) t2 t012);
-      third = leb-true (getD s 15 0) c (and-right (t0 && t1 && t2) t3 h);
+      third = leb-true (getD s 15 0) c (and-right (t0 && t1 && t2) t3 t0123);
+      marks = leb-true (getD s (size - marksSize) 0) 1 (and-right (t0 && t1 && t2 && t3) t4 h);
     }
 
 -- ---- the head read back
@@ -174,11 +205,11 @@ module _ (x y z d a b c : ℕ) (rest : List ℕ) where
   byte-15-back = refl
 
   head-holds : (size la lb lc : ℕ) → size ≤ headSize + length rest → leb a la ≡ true → leb b lb ≡ true → leb c lc ≡ true
-      → holds size la lb lc bytes ≡ true
+      → (flag : Bool) → getD bytes (size - marksSize) 0 ≡ flagByte flag → holds size la lb lc bytes ≡ true
   unfolding headBytes wordBytes holds
-  head-holds size la lb lc h ta tb tc =
+  head-holds size la lb lc h ta tb tc flag m =
       let e : size ≤ length bytes = omega arith in
-      simp (le-leb size (length bytes) e, ta, tb, tc)
+      simp (le-leb size (length bytes) e, ta, tb, tc, m, flag-small flag)
 
 -- ---- the sender
 
@@ -187,59 +218,79 @@ unfolding senderOf senderIn senderBytes
 sender-read-back s rest f =
     let k = s .setup .k in
     let L = s .setup .length in
+    let m = s .setup .marks in
     let d = s .run in
     let a = flagByte (s .opening) in
     let b = nextByte (s .next) in
     let c = flagByte (s .finished) in
+    let l = marksBytes m ++ rest in
+    let head = headBytes k L (s .newer) d a b c in
+    let behind = length-head k L (s .newer) d a b c in
     let r : s .run % 256 ≡ s .run = omega arith in
-    rw r
+    let n : senderSize ≤ headSize + length l = simp (length-append, length-marks) (omega arith) in
+    rw (r, append-assoc)
     (simp (
-      head-holds k L (s .newer) d a b c rest senderSize 1 2 1 (omega arith) (flag-small (s .opening)) (next-small (s .next)) (flag-small (s .finished)),
-      word-0-back k L (s .newer) d a b c rest (f .k),
-      word-4-back k L (s .newer) d a b c rest (f .length),
-      word-8-back k L (s .newer) d a b c rest (f .newer),
-      byte-12-back k L (s .newer) d a b c rest,
-      byte-13-back k L (s .newer) d a b c rest,
-      byte-14-back k L (s .newer) d a b c rest,
-      byte-15-back k L (s .newer) d a b c rest,
+      head-holds k L (s .newer) d a b c l senderSize 1 2 1 n (flag-small (s .opening)) (next-small (s .next)) (flag-small (s .finished))
+          (m .«in_use») (marks-flag-back (head ++ l) head rest m headSize behind refl),
+      word-0-back k L (s .newer) d a b c l (f .k),
+      word-4-back k L (s .newer) d a b c l (f .length),
+      word-8-back k L (s .newer) d a b c l (f .newer),
+      byte-12-back k L (s .newer) d a b c l,
+      byte-13-back k L (s .newer) d a b c l,
+      byte-14-back k L (s .newer) d a b c l,
+      byte-15-back k L (s .newer) d a b c l,
+      marks-back (head ++ l) head rest m headSize behind refl (f .size),
       flag-back,
       next-back,
     ))
 
-pub sender-written-back : (s : List ℕ) → Bytes s → holds senderSize 1 2 1 s ≡ true → senderBytes (senderIn s) ++ drop senderSize s ≡ s
+pub sender-written-back : (s : List ℕ) → Bytes s → holdsSender s ≡ true → senderBytes (senderIn s) ++ drop senderSize s ≡ s
 unfolding senderIn senderBytes
 sender-written-back s b h =
     let f = held senderSize 1 2 1 s h in
     let r : getD s 12 0 % 256 ≡ getD s 12 0 = omega (arith, b 12) in
-    rw (r, flag-written-back (getD s 13 0) (f .first), next-written-back (getD s 14 0) (f .second), flag-written-back (getD s 15 0) (f .third))
-    (head-written-back s (f .enough) b)
+    rw (r, flag-written-back (getD s 13 0) (f .first), next-written-back (getD s 14 0) (f .second), flag-written-back (getD s 15 0) (f .third), append-assoc, marks-written-back s headSize (f .enough) b (f .marks))
+    (head-written-back s (omega (arith, f .enough)) b)
 
 judged : {A : Type 0} (size : ℕ) (state : List ℕ) (answer : Answer A) (a : A) → judgeState size state answer ≡ done a → answer ≡ done a
 judged size state (refused n) a e = absurd (let z : _≡_ {A = ℕ} 0 1 = cc in omega arith)
 judged size state (done x) a e = passed-test (ltb (length state) size) A.short (done x) a e .1
 
--- every sender in range is read back from its bytes
-pub in-range-read-back : (s : Sender) (rest : List ℕ) → senderInRange s ≡ true → senderOf (senderBytes s ++ rest) ≡ done s
-in-range-read-back s rest h = sender-read-back s rest (sender-fits s h)
+-- every sender in range whose code size fits a byte is read back from its bytes
+pub in-range-read-back : (s : Sender) (rest : List ℕ) → senderInRange s ≡ true → s .setup .marks .size < 256
+    → senderOf (senderBytes s ++ rest) ≡ done s
+in-range-read-back s rest h size = sender-read-back s rest (sender-fits s h size)
 
 -- after an opening that is not refused, the bytes hold the sender that was opened
-pub opened-read-back : (k speed loop-ms L : ℕ) (order state : List ℕ) (result : ℕ) (state′ : List ℕ) (s : Sender)
-    → OpenSenderCall k speed loop-ms L order state result state′ → openSenderIn k speed loop-ms L order state ≡ done s
+pub opened-read-back : (k speed loop-ms L : ℕ) (size : CodeSize) (order state : List ℕ) (result : ℕ) (state′ : List ℕ) (s : Sender)
+    → OpenSenderCall k speed loop-ms L size order state result state′ → openSenderIn k speed loop-ms L size order state ≡ done s
     → senderOf state′ ≡ done s
 unfolding openSenderIn
-opened-read-back k speed loop-ms L order state result state′ s p e =
+opened-read-back k speed loop-ms L size order state result state′ s p e =
     let w : state′ ≡ senderOver state s = p .writes ∙ ap (openedBytes state) e in
     rw w
     (sender-read-back s (drop senderSize state)
-    (opened-fits k speed loop-ms L order s (judged senderSize state (openSender k speed loop-ms L order) s e)))
+    (opened-fits k speed loop-ms L size order s (judged senderSize state (openSender k speed loop-ms L size order) s e)))
+
+-- what it says that a state was read
+read-state : {X : Type 0} (t : Bool) (x s : X) → refuseIf (not t) A.spoiled (done x) ≡ done s → (t ≡ true) × (s ≡ x)
+read-state t x s e =
+    let p = passed-test (not t) A.spoiled (done x) s e in
+    (not-false t (p .0), cc (p .1))
+
+sender-size : (state : List ℕ) (s : Sender) → Bytes state → senderOf state ≡ done s → s .setup .marks .size < 256
+unfolding senderOf senderIn marksIn
+sender-size state s b e = rw (read-state (holdsSender state) (senderIn state) s e .1) (b 17)
 
 -- after a sending call that is not refused, the bytes hold the state that it hands back
 pub sent-read-back : (state order : List ℕ) (reading : Bool) (slice : List ℕ) (result : ℕ) (state′ slice′ : List ℕ) (s : Sender) (b : Block)
-    → SendCall state order reading slice result state′ slice′ → senderOf state ≡ done s → send s order reading slice ≡ done b
-    → senderOf state′ ≡ done (sendState s reading (done b))
-sent-read-back state order reading slice result state′ slice′ s b p e f =
+    → Bytes state → SendCall state order reading slice result state′ slice′ → senderOf state ≡ done s
+    → send s order reading slice ≡ done b → senderOf state′ ≡ done (sendState s reading (done b))
+sent-read-back state order reading slice result state′ slice′ s b bytes p e f =
     let w : state′ ≡ senderOver state (sendState s reading (done b)) = rw (e, f) at (p .keeps) in
-    rw w (sender-read-back (sendState s reading (done b)) (drop senderSize state) (sent-fits s order reading slice b f))
+    rw w
+    (sender-read-back (sendState s reading (done b)) (drop senderSize state)
+    (sent-fits s order reading slice b (sender-size state s bytes e) f))
 
 -- ---- the receiver
 
@@ -271,16 +322,22 @@ pub receiver-read-back : (s : Receiver) (rest : List ℕ) → ReceiverFits s →
 unfolding receiverOf receiverIn receiverBytes
 receiver-read-back s rest f =
     let k = s .setup .k in
+    let m = s .setup .marks in
     let d = s .«bad_row» in
     let a = flagByte (s .back) in
     let b = flagByte (s .ended) in
     let c = phaseByte (s .phase) in
-    let l = s .bits ++ rest in
+    let l = s .bits ++ (marksBytes m ++ rest) in
+    let head = headBytes k (s .held) (s .taken) d a b c in
+    let behind : length (head ++ s .bits) ≡ arrayEnd =
+    simp (length-append, length-head k (s .held) (s .taken) d a b c, f .bits) in
+    let e : head ++ l ≡ head ++ s .bits ++ (marksBytes m ++ rest) = sym (append-assoc head (s .bits) (marksBytes m ++ rest)) in
     let r : s .«bad_row» % 256 ≡ s .«bad_row» = omega (arith, f .bad-row) in
-    let n : receiverSize ≤ headSize + length l = simp length-append (omega (arith, f .bits)) in
-    rw (r, append-assoc)
+    let n : receiverSize ≤ headSize + length l = simp (length-append, length-marks) (omega (arith, f .bits)) in
+    rw (r, append-assoc, append-assoc)
     (simp (
-      head-holds k (s .held) (s .taken) d a b c l receiverSize 1 1 3 n (flag-small (s .back)) (flag-small (s .ended)) (phase-small (s .phase)),
+      head-holds k (s .held) (s .taken) d a b c l receiverSize 1 1 3 n (flag-small (s .back)) (flag-small (s .ended)) (phase-small (s .phase))
+          (m .«in_use») (marks-flag-back (head ++ l) (head ++ s .bits) rest m arrayEnd behind e),
       word-0-back k (s .held) (s .taken) d a b c l (f .k),
       word-4-back k (s .held) (s .taken) d a b c l (f .held),
       word-8-back k (s .held) (s .taken) d a b c l (f .taken),
@@ -289,7 +346,8 @@ receiver-read-back s rest f =
       byte-14-back k (s .held) (s .taken) d a b c l,
       byte-15-back k (s .held) (s .taken) d a b c l,
       behind-head k (s .held) (s .taken) d a b c l,
-      take-at (s .bits) rest arrayBytes (f .bits),
+      take-at (s .bits) (marksBytes m ++ rest) arrayBytes (f .bits),
+      marks-back (head ++ l) (head ++ s .bits) rest m arrayEnd behind e (f .size),
       flag-back,
       phase-back,
     ))
@@ -299,8 +357,8 @@ unfolding receiverIn receiverBytes
 receiver-written-back s b h =
     let f = held receiverSize 1 1 3 s h in
     let r : getD s 12 0 % 256 ≡ getD s 12 0 = omega (arith, b 12) in
-    let e : drop receiverSize s ≡ drop arrayBytes (drop headSize s) = sym (drop-drop arrayBytes headSize s) in
-    rw (r, flag-written-back (getD s 13 0) (f .first), flag-written-back (getD s 14 0) (f .second), phase-written-back (getD s 15 0) (f .third), e, append-assoc, take-append-drop)
+    let e : drop arrayEnd s ≡ drop arrayBytes (drop headSize s) = sym (drop-drop arrayBytes headSize s) in
+    rw (r, flag-written-back (getD s 13 0) (f .first), flag-written-back (getD s 14 0) (f .second), phase-written-back (getD s 15 0) (f .third), append-assoc, append-assoc, marks-written-back s arrayEnd (f .enough) b (f .marks), e, take-append-drop arrayBytes (drop headSize s))
     (head-written-back s (omega (arith, f .enough)) b)
 
 -- the array of a receiver that bytes hold is whole
@@ -310,33 +368,40 @@ length-bits s h =
     let f = held receiverSize 1 1 3 s h in
     length-take-le arrayBytes (drop headSize s) (simp length-drop (omega (arith, f .enough)))
 
--- every receiver in range whose array is whole is read back from its bytes
-pub in-range-receiver-read-back : (s : Receiver) (rest : List ℕ) → receiverInRange s ≡ true → length (s .bits) ≡ arrayBytes
-    → receiverOf (receiverBytes s ++ rest) ≡ done s
-in-range-receiver-read-back s rest h b = receiver-read-back s rest (receiver-fits s h b)
+-- every receiver in range whose code size fits a byte and whose array is whole is read back from its bytes
+pub in-range-receiver-read-back : (s : Receiver) (rest : List ℕ) → receiverInRange s ≡ true → s .setup .marks .size < 256
+    → length (s .bits) ≡ arrayBytes → receiverOf (receiverBytes s ++ rest) ≡ done s
+in-range-receiver-read-back s rest h size b = receiver-read-back s rest (receiver-fits s h size b)
 
 -- after an opening that is not refused, the bytes hold the receiver that was opened
-pub opened-receiver-read-back : (k : ℕ) (state : List ℕ) (result : ℕ) (state′ : List ℕ) (u : Unit {0})
-    → OpenReceiverCall k state result state′ → openReceiverIn k state ≡ done u → receiverOf state′ ≡ done (freshReceiver k)
+pub opened-receiver-read-back : (k : ℕ) (size : CodeSize) (state : List ℕ) (result : ℕ) (state′ : List ℕ) (u : Unit {0})
+    → OpenReceiverCall k size state result state′ → openReceiverIn k size state ≡ done u
+    → receiverOf state′ ≡ done (freshReceiver k (marksOf size))
 unfolding openReceiverIn
-opened-receiver-read-back k state result state′ u p e =
-    let w : state′ ≡ receiverOver state (freshReceiver k) = p .writes ∙ ap (openedReceiver k state) e in
+opened-receiver-read-back k size state result state′ u p e =
+    let s = freshReceiver k (marksOf size) in
+    let w : state′ ≡ receiverOver state s = p .writes ∙ ap (openedReceiver k size state) e in
     rw w
-    (receiver-read-back (freshReceiver k) (drop receiverSize state)
-    (R.opened-fits k u (judged receiverSize state (openReceiver k) u e)))
+    (receiver-read-back s (drop receiverSize state)
+    (R.opened-fits k size u (judged receiverSize state (openReceiver k size) u e)))
 
-holds-of : (state : List ℕ) (s : Receiver) → receiverOf state ≡ done s → (holdsReceiver state ≡ true) × (s ≡ receiverIn state)
-unfolding receiverOf
-holds-of state s e =
-    let p = passed-test (not (holdsReceiver state)) A.spoiled (done (receiverIn state)) s e in
-    (not-false (holdsReceiver state) (p .0), cc (p .1))
+module _ (state : List ℕ) (s : Receiver) (e : receiverOf state ≡ done s) where
+  receiver-size : Bytes state → s .setup .marks .size < 256
+  unfolding receiverOf receiverIn marksIn
+  receiver-size b = rw (read-state (holdsReceiver state) (receiverIn state) s e .1) (b 500)
+
+  receiver-bits : length (s .bits) ≡ arrayBytes
+  unfolding receiverOf
+  receiver-bits =
+      let h = read-state (holdsReceiver state) (receiverIn state) s e in
+      rw (h .1) (length-bits state (h .0))
 
 -- after a receiving call that is not refused, the bytes hold the state that it hands back
 pub received-read-back : (state line : List ℕ) (count : ℕ) (store : List ℕ) (used len result : ℕ) (state′ store′ : List ℕ) (used′ len′ : ℕ)
-    (s : Receiver) (x : Reception) → ReceiveCall state line count store used len result state′ store′ used′ len′
+    (s : Receiver) (x : Reception) → Bytes state → ReceiveCall state line count store used len result state′ store′ used′ len′
     → receiverOf state ≡ done s → receive s line count store ≡ done x → receiverOf state′ ≡ done (x .state)
-received-read-back state line count store used len result state′ store′ used′ len′ s x p e f =
+received-read-back state line count store used len result state′ store′ used′ len′ s x bytes p e f =
     let w : state′ ≡ receiverOver state (x .state) = rw (e, f) at (p .keeps) in
-    let h = holds-of state s e in
-    let b : length (s .bits) ≡ arrayBytes = rw (h .1) (length-bits state (h .0)) in
-    rw w (receiver-read-back (x .state) (drop receiverSize state) (R.received-fits s line count store x b f))
+    rw w
+    (receiver-read-back (x .state) (drop receiverSize state)
+    (R.received-fits s line count store x (receiver-size state s e bytes) (receiver-bits state s e) f))

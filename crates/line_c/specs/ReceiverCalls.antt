@@ -7,7 +7,9 @@ use Prim.Native.Nat.{ℕ}
 use lib.ListN.{drop}
 use Rattle.block.specs.Answer as A
 use Rattle.block.specs.Answer.{Answer, refused, done}
+use Rattle.line.specs.Marks.{marksOf}
 use Rattle.line.specs.Receiving.{eventKind, withLength, openReceiver, freshReceiver, Reception, receiverInRange, receive, receiveStore, Report, reported}
+use Rattle.line.specs.declared.marks.CodeSize.{CodeSize}
 use Rattle.line.specs.declared.receiver.Receiver.{Receiver}
 use Rattle.line.specs.declared.receiving.Event.{Event}
 use Rattle.line.specs.declared.receiving.Event.the-variants as E
@@ -19,18 +21,18 @@ use Rattle.line_c.specs.SenderCalls.{judgeState}
 abbrev pub receiverOver : List ℕ → Receiver → List ℕ
 receiverOver state s = receiverBytes s ++ drop receiverSize state
 
--- ---- opening: 1, then the slice for the state: 6
+-- ---- opening, without marks if no code size is given: 1, 9, then the slice for the state: 6
 
-unfoldable pub openReceiverIn : ℕ → List ℕ → Answer (Unit {0})
-openReceiverIn k state = judgeState receiverSize state (openReceiver k)
+unfoldable pub openReceiverIn : ℕ → CodeSize → List ℕ → Answer (Unit {0})
+openReceiverIn k size state = judgeState receiverSize state (openReceiver k size)
 
-abbrev pub openedReceiver : ℕ → List ℕ → Answer (Unit {0}) → List ℕ
-openedReceiver k state (refused n) = state
-openedReceiver k state (done u) = receiverOver state (freshReceiver k)
+abbrev pub openedReceiver : ℕ → CodeSize → List ℕ → Answer (Unit {0}) → List ℕ
+openedReceiver k size state (refused n) = state
+openedReceiver k size state (done u) = receiverOver state (freshReceiver k (marksOf size))
 
-pub record OpenReceiverCall (k : ℕ) (state : List ℕ) (result : ℕ) (state′ : List ℕ) : Type 0 where
-  pub answers : result ≡ refusal (openReceiverIn k state)
-  pub writes : state′ ≡ openedReceiver k state (openReceiverIn k state)
+pub record OpenReceiverCall (k : ℕ) (size : CodeSize) (state : List ℕ) (result : ℕ) (state′ : List ℕ) : Type 0 where
+  pub answers : result ≡ refusal (openReceiverIn k size state)
+  pub writes : state′ ≡ openedReceiver k size state (openReceiverIn k size state)
 
 -- ---- a receiving call
 

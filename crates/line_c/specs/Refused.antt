@@ -10,6 +10,7 @@ use Rattle.block.specs.Answer.{Answer, refused, done}
 use Rattle.block.specs.Calls.{buildBlock, readBlock}
 use Rattle.line.specs.LoopTime.{loopTime}
 use Rattle.line.specs.Receiving.{reported}
+use Rattle.line.specs.declared.marks.CodeSize.{CodeSize}
 use Rattle.line_c.specs.State.{senderOf, receiverOf}
 use Rattle.line_c.specs.BlockCalls.{refusal, readNumber}
 use Rattle.line_c.specs.SenderCalls.{openSenderIn, sendIn, sentWord, restIn}
@@ -30,12 +31,14 @@ pub record RefusalsTold : Type 0 where
       → isRefusal (refusal (buildBlock k service payload slice)) ≡ isRefused (buildBlock k service payload slice)
   pub read-block : (k : ℕ) (slice payload : List ℕ)
       → isRefusal (readNumber (readBlock k slice payload)) ≡ isRefused (readBlock k slice payload)
-  pub open-sender : (k speed loop-ms L : ℕ) (order state : List ℕ)
-      → isRefusal (refusal (openSenderIn k speed loop-ms L order state)) ≡ isRefused (openSenderIn k speed loop-ms L order state)
+  pub open-sender : (k speed loop-ms L : ℕ) (size : CodeSize) (order state : List ℕ)
+      → isRefusal (refusal (openSenderIn k speed loop-ms L size order state))
+      ≡ isRefused (openSenderIn k speed loop-ms L size order state)
   pub send : (state order : List ℕ) (reading : Bool) (slice : List ℕ)
       → isRefusal (sentWord (sendIn order reading slice (senderOf state))) ≡ isRefused (sendIn order reading slice (senderOf state))
   pub sender-rest : (state : List ℕ) → isRefusal (restIn (senderOf state)) ≡ eqb (restIn (senderOf state)) A.spoiled
-  pub open-receiver : (k : ℕ) (state : List ℕ) → isRefusal (refusal (openReceiverIn k state)) ≡ isRefused (openReceiverIn k state)
+  pub open-receiver : (k : ℕ) (size : CodeSize) (state : List ℕ)
+      → isRefusal (refusal (openReceiverIn k size state)) ≡ isRefused (openReceiverIn k size state)
   pub receive : (state line : List ℕ) (count : ℕ) (store : List ℕ)
       → isRefusal (reportNumber (reported (receiveIn line count store (receiverOf state))))
       ≡ isRefused (receiveIn line count store (receiverOf state))

@@ -9,6 +9,7 @@ use lib.ListN.{length, drop}
 use Rattle.block.specs.Answer as A
 use Rattle.block.specs.Answer.{Answer, refused, done, refuseIf}
 use Rattle.line.specs.Sending.{openSender, Block, synchronising, item, senderInRange, gaveUp, send, sendState, sendBytes}
+use Rattle.line.specs.declared.marks.CodeSize.{CodeSize}
 use Rattle.line.specs.declared.sender.Sender.{Sender}
 use Rattle.line_c.specs.State.{senderSize, senderOf, senderBytes}
 use Rattle.line_c.specs.BlockCalls.{refusal}
@@ -17,22 +18,24 @@ use Rattle.line_c.specs.BlockCalls.{refusal}
 abbrev pub senderOver : List ℕ → Sender → List ℕ
 senderOver state s = senderBytes s ++ drop senderSize state
 
--- ---- opening: 1, 2, 3, 4, 5, 6, the slice for the state judged last
+-- ---- opening, without marks if no code size is given: 1, 2, 3, 4, 5, 9, 6, the slice for the state judged last
 
 abbrev pub judgeState : {A : Type 0} → ℕ → List ℕ → Answer A → Answer A
 judgeState size state (refused n) = refused n
 judgeState size state (done a) = refuseIf (ltb (length state) size) A.short (done a)
 
-unfoldable pub openSenderIn : ℕ → ℕ → ℕ → ℕ → List ℕ → List ℕ → Answer Sender
-openSenderIn k speed loop-ms L order state = judgeState senderSize state (openSender k speed loop-ms L order)
+unfoldable pub openSenderIn : ℕ → ℕ → ℕ → ℕ → CodeSize → List ℕ → List ℕ → Answer Sender
+openSenderIn k speed loop-ms L size order state = judgeState senderSize state (openSender k speed loop-ms L size order)
 
 abbrev pub openedBytes : List ℕ → Answer Sender → List ℕ
 openedBytes state (refused n) = state
 openedBytes state (done s) = senderOver state s
 
-pub record OpenSenderCall (k speed loop-ms L : ℕ) (order state : List ℕ) (result : ℕ) (state′ : List ℕ) : Type 0 where
-  pub answers : result ≡ refusal (openSenderIn k speed loop-ms L order state)
-  pub writes : state′ ≡ openedBytes state (openSenderIn k speed loop-ms L order state)
+pub record OpenSenderCall
+    (k speed loop-ms L : ℕ) (size : CodeSize) (order state : List ℕ) (result : ℕ) (state′ : List ℕ)
+    : Type 0 where
+  pub answers : result ≡ refusal (openSenderIn k speed loop-ms L size order state)
+  pub writes : state′ ≡ openedBytes state (openSenderIn k speed loop-ms L size order state)
 
 -- ---- a sending call
 

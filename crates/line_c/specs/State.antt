@@ -2,12 +2,13 @@
 use mathlib.Core.Path.{_≡_}
 use mathlib.Core.Bool.{Bool, true, false, not, _&&_}
 use mathlib.Core.List.{List, [], _∷_, _++_}
-use Prim.Native.Nat.{ℕ, zero, suc, _+_, _*_, _/_, _%_, _^_, _<_}
+use Prim.Native.Nat.{ℕ, zero, suc, _+_, _-_, _*_, _/_, _%_, _^_, _<_}
 use lib.Dec.{eqb, leb}
 use lib.ListN.{length, take, drop, getD}
 use Rattle.block.specs.Answer as A
 use Rattle.block.specs.Answer.{Answer, done, refuseIf}
 use Rattle.line.specs.Receiving.{arrayBytes}
+use Rattle.line.specs.declared.marks.Marks.{Marks}
 use Rattle.line.specs.declared.sender.Sender.{Sender}
 use Rattle.line.specs.declared.sender.Next.{Next}
 use Rattle.line.specs.declared.sender.Next.the-variants as N
@@ -55,22 +56,34 @@ phaseByte P.InStep = 1
 phaseByte P.SequenceAlarm = 2
 phaseByte P.LengthAlarm = 3
 
--- ---- what the two layouts share: three numbers of four bytes, then four bytes
+-- ---- what the two layouts share: first the head, three numbers of four bytes and four bytes; last the marks, two bytes
 
 abbrev pub headSize : ℕ
 headSize = 16
 
--- the bytes are enough, and those at 13, 14 and 15, flags or an enum, are at most these
-unfoldable pub holds : ℕ → ℕ → ℕ → ℕ → List ℕ → Bool
-holds size a b c s = leb size (length s) && leb (getD s 13 0) a && leb (getD s 14 0) b && leb (getD s 15 0) c
-
 unfoldable pub headBytes : ℕ → ℕ → ℕ → ℕ → ℕ → ℕ → ℕ → List ℕ
 headBytes x y z d a b c = wordBytes x ++ (wordBytes y ++ (wordBytes z ++ (d ∷ a ∷ b ∷ c ∷ [])))
 
--- ---- the sender: k, length, newer, four bytes each; run, opening, next, finished, a byte each
+abbrev pub marksSize : ℕ
+marksSize = 2
+
+-- whether marks are in use, and the code size, a byte each
+unfoldable pub marksIn : List ℕ → ℕ → Marks
+marksIn s at = record { «in_use» = flagAt s at; size = getD s (at + 1) 0 }
+
+unfoldable pub marksBytes : Marks → List ℕ
+marksBytes m = flagByte (m .«in_use») ∷ m .size % 256 ∷ []
+
+-- the bytes are enough; those at 13, 14 and 15, flags or an enum, are at most these, and the marks' flag at most 1
+unfoldable pub holds : ℕ → ℕ → ℕ → ℕ → List ℕ → Bool
+holds size a b c s =
+    leb size (length s) && leb (getD s 13 0) a && leb (getD s 14 0) b && leb (getD s 15 0) c
+    && leb (getD s (size - marksSize) 0) 1
+
+-- ---- the sender: k, length, newer, four bytes each; run, opening, next, finished, a byte each; then the marks
 
 abbrev pub senderSize : ℕ
-senderSize = headSize
+senderSize = headSize + marksSize
 
 abbrev pub holdsSender : List ℕ → Bool
 holdsSender s = holds senderSize 1 2 1 s
@@ -78,7 +91,7 @@ holdsSender s = holds senderSize 1 2 1 s
 unfoldable pub senderIn : List ℕ → Sender
 senderIn s =
     record {
-      setup = record { k = wordAt s 0; length = wordAt s 4 };
+      setup = record { k = wordAt s 0; length = wordAt s 4; marks = marksIn s headSize };
       newer = wordAt s 8;
       run = getD s 12 0;
       opening = flagAt s 13;
@@ -90,22 +103,29 @@ senderIn s =
 unfoldable pub senderOf : List ℕ → Answer Sender
 senderOf s = refuseIf (not (holdsSender s)) A.spoiled (done (senderIn s))
 
-unfoldable pub senderBytes : Sender → List ℕ
-senderBytes s =
+abbrev pub senderHead : Sender → List ℕ
+senderHead s =
     headBytes (s .setup .k) (s .setup .length) (s .newer) (s .run % 256) (flagByte (s .opening)) (nextByte (s .next))
     (flagByte (s .finished))
+
+unfoldable pub senderBytes : Sender → List ℕ
+senderBytes s = senderHead s ++ marksBytes (s .setup .marks)
 
 -- the fields that the layout can hold
 pub record SenderFits (s : Sender) : Type 0 where
   pub k : s .setup .k < 2 ^ 32
   pub length : s .setup .length < 2 ^ 32
+  pub size : s .setup .marks .size < 256
   pub newer : s .newer < 2 ^ 32
   pub run : s .run < 256
 
--- ---- the receiver: k, held, taken, four bytes each; row, back, ended, phase, a byte each; then the array
+-- ---- the receiver: k, held, taken, four bytes each; row, back, ended, phase, a byte each; then the array and the marks
+
+abbrev pub arrayEnd : ℕ
+arrayEnd = headSize + arrayBytes
 
 abbrev pub receiverSize : ℕ
-receiverSize = headSize + arrayBytes
+receiverSize = arrayEnd + marksSize
 
 abbrev pub holdsReceiver : List ℕ → Bool
 holdsReceiver s = holds receiverSize 1 1 3 s
@@ -113,7 +133,7 @@ holdsReceiver s = holds receiverSize 1 1 3 s
 unfoldable pub receiverIn : List ℕ → Receiver
 receiverIn s =
     record {
-      setup = record { k = wordAt s 0 };
+      setup = record { k = wordAt s 0; marks = marksIn s arrayEnd };
       bits = take arrayBytes (drop headSize s);
       held = wordAt s 4;
       «bad_row» = getD s 12 0;
@@ -133,10 +153,11 @@ receiverHead s =
     (phaseByte (s .phase))
 
 unfoldable pub receiverBytes : Receiver → List ℕ
-receiverBytes s = receiverHead s ++ s .bits
+receiverBytes s = receiverHead s ++ (s .bits ++ marksBytes (s .setup .marks))
 
 pub record ReceiverFits (s : Receiver) : Type 0 where
   pub k : s .setup .k < 2 ^ 32
+  pub size : s .setup .marks .size < 256
   pub held : s .held < 2 ^ 32
   pub taken : s .taken < 2 ^ 32
   pub bad-row : s .«bad_row» < 256

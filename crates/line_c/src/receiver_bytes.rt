@@ -1,15 +1,18 @@
 // A receiver in lent bytes.
 ghost use mathlib.Core.Path.{_≡_};
-ghost use mathlib.Core.List.{[], _++_};
+ghost use mathlib.Core.List.{_++_};
 ghost use Prim.Native.Nat.{_≤_};
 ghost use lib.ListN.{length, take, drop};
 ghost use Rattle.line.specs.Receiving.{arrayBytes};
 ghost use Rattle.line.specs.ReceivingInPlace.{withArray};
-ghost use Rattle.line_c.specs.State.{headSize, receiverSize, holdsReceiver, receiverIn, receiverHead, receiverBytes, phaseOf, phaseByte};
+ghost use Rattle.line_c.specs.State.{headSize, arrayEnd, receiverSize, holdsReceiver, receiverIn, receiverBytes, phaseOf, phaseByte};
 use crate::layout::HEAD_SIZE;
+use crate::layout::MARKS_SIZE;
 use crate::layout::holds_state;
+use crate::layout::load_marks;
 use crate::layout::load_word;
 use crate::layout::store_head;
+use crate::layout::store_marks;
 use crate::layout::wide;
 use line::head::Head;
 use line::receiver::Receiver;
@@ -17,7 +20,10 @@ use line::receiving::ARRAY_SIZE;
 use line::receiving::Phase;
 use line::receiving::Setup;
 
-pub(crate) const RECEIVER_SIZE: usize = HEAD_SIZE + ARRAY_SIZE;
+// Behind the array stand the marks.
+pub(crate) const ARRAY_END: usize = HEAD_SIZE + ARRAY_SIZE;
+
+pub(crate) const RECEIVER_SIZE: usize = ARRAY_END + MARKS_SIZE;
 
 fn phase_of(n: u8) -> Phase
     ensures { λ r. ⌜ r ≡ phaseOf n ⌝ }
@@ -50,8 +56,8 @@ pub(crate) fn holds_receiver(s: &[u8]) -> bool
 
 // The array, behind the head.
 fn store_bits(bits: [u8; 483], s: &mut [u8])
-    requires { ⌜ receiverSize ≤ length (now s) ⌝ }
-    ensures { λ _. ⌜ now (s .exit) ≡ take headSize (now (s .entry)) ++ bits ++ drop receiverSize (now (s .entry)) ⌝ }
+    requires { ⌜ arrayEnd ≤ length (now s) ⌝ }
+    ensures { λ _. ⌜ now (s .exit) ≡ take headSize (now (s .entry)) ++ bits ++ drop arrayEnd (now (s .entry)) ⌝ }
 {
     let mut i = 0;
     while i < ARRAY_SIZE {
@@ -65,7 +71,10 @@ pub(crate) fn load_head(s: &[u8]) -> Head
     ensures { λ r. ⌜ withArray r (take arrayBytes (drop headSize (now (s .entry)))) ≡ receiverIn (now (s .entry)) ⌝ }
 {
     Head {
-        setup: Setup { k: load_word(s, 0) },
+        setup: Setup {
+            k: load_word(s, 0),
+            marks: load_marks(s, ARRAY_END),
+        },
         held: load_word(s, 4),
         bad_row: wide(s[12]),
         back: s[13] == 1,
@@ -75,10 +84,10 @@ pub(crate) fn load_head(s: &[u8]) -> Head
     }
 }
 
-// The array stays as it is.
+// The head and the marks; the array stays as it is.
 pub(crate) fn put_head(head: Head, s: &mut [u8])
-    requires { ⌜ headSize ≤ length (now s) ⌝ }
-    ensures { λ _. ⌜ now (s .exit) ≡ receiverHead (withArray head []) ++ drop headSize (now (s .entry)) ⌝ }
+    requires { ⌜ receiverSize ≤ length (now s) ⌝ }
+    ensures { λ _. ⌜ now (s .exit) ≡ receiverBytes (withArray head (take arrayBytes (drop headSize (now (s .entry))))) ++ drop receiverSize (now (s .entry)) ⌝ }
 {
     let setup = head.setup;
     let phase = head.phase;
@@ -92,6 +101,7 @@ pub(crate) fn put_head(head: Head, s: &mut [u8])
         phase_byte(phase),
         s,
     );
+    store_marks(s, ARRAY_END, setup.marks);
 }
 
 pub(crate) fn store_receiver(receiver: Receiver, s: &mut [u8])
@@ -99,6 +109,6 @@ pub(crate) fn store_receiver(receiver: Receiver, s: &mut [u8])
     ensures { λ _. ⌜ now (s .exit) ≡ receiverBytes receiver ++ drop receiverSize (now (s .entry)) ⌝ }
 {
     let bits = receiver.bits;
-    put_head(receiver.head(), s);
     store_bits(bits, s);
+    put_head(receiver.head(), s);
 }

@@ -2,11 +2,13 @@
 ghost use mathlib.Core.Path.{_≡_};
 ghost use Rattle.line_c.specs.ReceiverCalls.{OpenReceiverCall, eventNumber, eventLength, ReceiveCall, ReturnBitCall};
 use crate::layout::HEAD_SIZE;
+use crate::receiver_bytes::ARRAY_END;
 use crate::receiver_bytes::RECEIVER_SIZE;
 use crate::receiver_bytes::holds_receiver;
 use crate::receiver_bytes::load_head;
 use crate::receiver_bytes::put_head;
 use crate::receiver_bytes::store_receiver;
+use line::marks::CodeSize;
 use line::receiver::Opening;
 use line::receiver::Receiver;
 use line::receiving::Event;
@@ -34,11 +36,10 @@ pub const RETURN_0: u8 = 96;
 
 pub const RETURN_1: u8 = 97;
 
-#[no_mangle]
-pub extern "C" fn order_line_open_receiver(k: usize, state: &mut [u8]) -> u8
-    ensures { λ r. ⌜ OpenReceiverCall k (now (state .entry)) r (now (state .exit)) ⌝ }
+fn open_receiver(k: usize, size: CodeSize, state: &mut [u8]) -> u8
+    ensures { λ r. ⌜ OpenReceiverCall k size (now (state .entry)) r (now (state .exit)) ⌝ }
 {
-    let opened = Receiver::open(k);
+    let opened = Receiver::open(k, size);
     let answer = opened.answer;
     let receiver = opened.state;
     match answer {
@@ -51,6 +52,21 @@ pub extern "C" fn order_line_open_receiver(k: usize, state: &mut [u8]) -> u8
             0
         }
     }
+}
+
+// Without marks.
+#[no_mangle]
+pub extern "C" fn order_line_open_receiver(k: usize, state: &mut [u8]) -> u8
+    ensures { λ r. ⌜ OpenReceiverCall k CodeSize.NotGiven (now (state .entry)) r (now (state .exit)) ⌝ }
+{
+    open_receiver(k, CodeSize::NotGiven, state)
+}
+
+#[no_mangle]
+pub extern "C" fn order_line_open_receiver_with_marks(k: usize, size: usize, state: &mut [u8]) -> u8
+    ensures { λ r. ⌜ OpenReceiverCall k (CodeSize.Given size) (now (state .entry)) r (now (state .exit)) ⌝ }
+{
+    open_receiver(k, CodeSize::Given(size), state)
 }
 
 fn number_of(event: Event) -> u8
@@ -94,7 +110,7 @@ pub extern "C" fn order_line_receive(
         return block::SPOILED;
     }
     let head = load_head(state);
-    let step = head.receive(&mut state[HEAD_SIZE..RECEIVER_SIZE], line, bits, store);
+    let step = head.receive(&mut state[HEAD_SIZE..ARRAY_END], line, bits, store);
     let answer = step.answer;
     let next = step.head;
     match answer {

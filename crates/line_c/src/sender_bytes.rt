@@ -5,15 +5,18 @@ ghost use Prim.Native.Nat.{_≤_};
 ghost use lib.ListN.{length, drop};
 ghost use Rattle.line_c.specs.State.{senderSize, holdsSender, senderIn, senderBytes, nextOf, nextByte};
 use crate::layout::HEAD_SIZE;
+use crate::layout::MARKS_SIZE;
 use crate::layout::holds_state;
+use crate::layout::load_marks;
 use crate::layout::load_word;
 use crate::layout::store_head;
+use crate::layout::store_marks;
 use crate::layout::wide;
 use line::sender::Next;
 use line::sender::Sender;
 use line::sender::Setup;
 
-pub(crate) const SENDER_SIZE: usize = HEAD_SIZE;
+pub(crate) const SENDER_SIZE: usize = HEAD_SIZE + MARKS_SIZE;
 
 fn next_of(n: u8) -> Next
     ensures { λ r. ⌜ r ≡ nextOf n ⌝ }
@@ -50,6 +53,7 @@ pub(crate) fn load_sender(s: &[u8]) -> Sender
         setup: Setup {
             k: load_word(s, 0),
             length: load_word(s, 4),
+            marks: load_marks(s, HEAD_SIZE),
         },
         newer: load_word(s, 8),
         run: wide(s[12]),
@@ -75,4 +79,5 @@ pub(crate) fn store_sender(sender: Sender, s: &mut [u8])
         sender.finished as u8,
         s,
     );
+    store_marks(s, HEAD_SIZE, setup.marks);
 }

@@ -6,22 +6,23 @@ use crate::sender_bytes::SENDER_SIZE;
 use crate::sender_bytes::holds_sender;
 use crate::sender_bytes::load_sender;
 use crate::sender_bytes::store_sender;
+use line::marks::CodeSize;
 use line::sender::Opened;
 use line::sender::Sender;
 use line::sender::Sent;
 
-#[no_mangle]
-pub extern "C" fn order_line_open_sender(
+fn open_sender(
     k: usize,
     speed: u32,
     loop_ms: u32,
     length: usize,
+    size: CodeSize,
     order: &[u8],
     state: &mut [u8],
 ) -> u8
-    ensures { λ r. ⌜ OpenSenderCall k speed «loop_ms» length (now (order .entry)) (now (state .entry)) r (now (state .exit)) ⌝ }
+    ensures { λ r. ⌜ OpenSenderCall k speed «loop_ms» length size (now (order .entry)) (now (state .entry)) r (now (state .exit)) ⌝ }
 {
-    match Sender::open(k, speed, loop_ms, length, order) {
+    match Sender::open(k, speed, loop_ms, length, size, order) {
         Opened::Refused(number) => number,
         Opened::Opened(sender) => {
             if state.len() < SENDER_SIZE {
@@ -33,7 +34,45 @@ pub extern "C" fn order_line_open_sender(
     }
 }
 
-// What a sending call returns where it is not refused: SENT, with the marks of the block and an item's number times
+// Without marks.
+#[no_mangle]
+pub extern "C" fn order_line_open_sender(
+    k: usize,
+    speed: u32,
+    loop_ms: u32,
+    length: usize,
+    order: &[u8],
+    state: &mut [u8],
+) -> u8
+    ensures { λ r. ⌜ OpenSenderCall k speed «loop_ms» length CodeSize.NotGiven (now (order .entry)) (now (state .entry)) r (now (state .exit)) ⌝ }
+{
+    open_sender(k, speed, loop_ms, length, CodeSize::NotGiven, order, state)
+}
+
+#[no_mangle]
+pub extern "C" fn order_line_open_sender_with_marks(
+    k: usize,
+    speed: u32,
+    loop_ms: u32,
+    length: usize,
+    size: usize,
+    order: &[u8],
+    state: &mut [u8],
+) -> u8
+    ensures { λ r. ⌜ OpenSenderCall k speed «loop_ms» length (CodeSize.Given size) (now (order .entry)) (now (state .entry)) r (now (state .exit)) ⌝ }
+{
+    open_sender(
+        k,
+        speed,
+        loop_ms,
+        length,
+        CodeSize::Given(size),
+        order,
+        state,
+    )
+}
+
+// What a sending call returns where it is not refused: SENT, with the flags of the block and an item's number times
 // NUMBER.
 pub const SENT: u32 = 0x100;
 
@@ -54,8 +93,8 @@ pub const FINISHED: u8 = 81;
 
 pub const GAVE_UP: u8 = 82;
 
-// A mark where a truth value holds.
-fn mark(set: bool, value: u32) -> u32
+// A flag where a truth value holds.
+fn flag(set: bool, value: u32) -> u32
     ensures { λ r. ⌜ (r ≡ flagWord set value) × (r ≤ value) ⌝ }
 {
     if set { value } else { 0 }
@@ -67,9 +106,9 @@ fn item_word(number: usize, end: bool, used: bool, cancelled: bool) -> u32
 {
     SENT
         + ITEM
-        + mark(end, END)
-        + mark(used, USED)
-        + mark(cancelled, CANCELLED)
+        + flag(end, END)
+        + flag(used, USED)
+        + flag(cancelled, CANCELLED)
         + number as u32 * NUMBER
 }
 

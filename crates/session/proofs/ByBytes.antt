@@ -13,15 +13,17 @@ use borrow.Author.Tests.{lt-ltb, eqb-true}
 use Rattle.block.specs.Answer.{Answer, refused, done}
 use Rattle.block.proofs.Lengths.{length-facts}
 use Rattle.block.proofs.Truth.{either}
+use Rattle.line.specs.Marks.{marksOf}
 use Rattle.line.specs.Sending.{openSender, freshSender}
 use Rattle.line.specs.Receiving.{openReceiver, freshReceiver}
 use Rattle.line.proofs.Items.{valid-length}
 use Rattle.line.proofs.SenderRange.{opened}
+use Rattle.line.specs.declared.marks.Marks.{Marks}
 use Rattle.line.specs.declared.sender.Sender.{Sender}
 use Rattle.line.specs.declared.receiver.Receiver.{Receiver}
 use Rattle.session.specs.LineOne.{Opening, lineOne, keep, limit, readable, said, readAll, start, next, nextOrder}
 use Rattle.session.specs.Period.{Course, period}
-use Rattle.session.specs.Session.{newline, speed, loop-ms, placed, writes, opens, senderOpened, receiverOpened, afterPeriod, letterKind, fresh, takes, takesOrder, takesStore, ends}
+use Rattle.session.specs.Session.{newline, speed, loop-ms, code-size, placed, writes, opens, senderOpened, receiverOpened, afterPeriod, letterKind, fresh, takes, takesOrder, takesStore, ends}
 use Rattle.session.specs.Text.{textBytes, heading, refusedText, outcomeText}
 use Rattle.session.specs.Run.{firstLine, afterLine, joined, lines, kindOf, unlessRefused, periodText, periods, orderRoom, storeRoom, receiverText, senderText, openingText, runText}
 use Rattle.session.specs.declared.line_one.LineOne.{LineOne}
@@ -185,8 +187,8 @@ module _ (o : LineOne) (s₀ : Sender) (r₀ : Receiver) (order : List ℕ) wher
 
   -- what follows: nothing where the run is over, else the periods of these lines
   module _ (rest : Session → List ℕ) (ls : List (List ℕ)) (over : (s : Session) → rest (placed s P.Over) ≡ [])
-      (started : (s : Sender) → rest (session P.LineStart o s (freshReceiver (o .k)) 0)
-      ≡ periods 0 s (freshReceiver (o .k)) (take (o .kept) order) zero-store ls) where
+      (started : (s : Sender) → rest (session P.LineStart o s (freshReceiver (o .k) (marksOf code-size)) 0)
+      ≡ periods 0 s (freshReceiver (o .k) (marksOf code-size)) (take (o .kept) order) zero-store ls) where
     receiver-then : (s : Sender) (a : Answer (Unit {0}))
         → written (receiverOpened before s a) ++ rest (receiverOpened before s a .session) ≡ receiverText kept s ls a
     receiver-then s (refused n) =
@@ -196,14 +198,14 @@ module _ (o : LineOne) (s₀ : Sender) (r₀ : Receiver) (order : List ℕ) wher
     sender-then : (a : Answer Sender) → written (senderOpened before a) ++ rest (senderOpened before a .session) ≡ senderText kept ls a
     sender-then (refused n) =
         ap₂ (λ (a b : List ℕ). a ++ b) (written-text before (refusedText n)) (over before) ∙ append-nil (refusedText n)
-    sender-then (done s) = receiver-then s (openReceiver (o .k))
+    sender-then (done s) = receiver-then s (openReceiver (o .k) code-size)
 
     opens-then : written (opens before order) ++ rest (opens before order .session) ≡ openingText (said o order) ls
     unfolding opens
     opens-then =
         ⊎-elim
         (λ (t : readable (o .place) ≡ true).
-        rw t (sender-then (openSender (o .k) speed loop-ms (o .length) (take (o .kept) order))))
+        rw t (sender-then (openSender (o .k) speed loop-ms (o .length) code-size (take (o .kept) order))))
         (λ (t : readable (o .place) ≡ false). rw t (over before)) (either (readable (o .place)))
 
 -- ---- line one is read
@@ -219,7 +221,7 @@ first-line o s r order (c ∷ cs) h =
     ⊎-elim (λ (t : eqb c newline ≡ true).
     rw t
     (opens-then o s r order (λ x. output x order zero-store cs) (lines cs) (λ x. over-silent x order zero-store cs)
-    (λ x. line-start o order x (freshReceiver (o .k)) 0 zero-store cs (omega arith))))
+    (λ x. line-start o order x (freshReceiver (o .k) (marksOf code-size)) 0 zero-store cs (omega arith))))
     (λ (t : eqb c newline ≡ false).
     rw t
     (first-line (next o c (length order)) s r (nextOrder o (o .place) c order) cs (omega arith)))
@@ -247,16 +249,16 @@ periods-kept (l ∷ ls) n s r order store h = by-kind (kindOf l)
     by-kind none rest = refl
     by-kind (some kind) rest = rw (period-kept orderRoom kind s r order store h, rest kind)
 
-fresh-length : (s : Sender) (k L : ℕ) → s ≡ freshSender k L → s .setup .length ≡ L
+fresh-length : (s : Sender) (k L : ℕ) (m : Marks) → s ≡ freshSender k L m → s .setup .length ≡ L
 unfolding freshSender
-fresh-length s k L e = ap (λ (x : Sender). x .setup .length) e
+fresh-length s k L m e = ap (λ (x : Sender). x .setup .length) e
 
 keep-text : (p : Option Opening) (ls : List (List ℕ)) → openingText (keep orderRoom p) ls ≡ openingText p ls
 keep-text none ls = refl
 keep-text (some o) ls =
     let L : ℕ = o .order .bits in
     let bytes : List ℕ = o .order .bytes in
-    rw (open-kept (o .k) L bytes) (by-answer (openSender (o .k) speed loop-ms L bytes) refl)
+    rw (open-kept (o .k) L bytes) (by-answer (openSender (o .k) speed loop-ms L code-size bytes) refl)
   where
     p : Opening
     p = record { k = min (o .k) limit; order = record { bits = min (o .order .bits) limit; bytes = take orderRoom (o .order .bytes) } }
@@ -264,18 +266,18 @@ keep-text (some o) ls =
     fresh-kept : (s : Sender) (k : ℕ) → k ≡ o .k → s .setup .length ≤ 8 * orderRoom → (a : Answer (Unit {0}))
         → receiverText (record { k = k; order = p .order }) s ls a ≡ receiverText o s ls a
     fresh-kept s k e h (refused n) = refl
-    fresh-kept s k e h (done u) = rw e (periods-kept ls 0 s (freshReceiver (o .k)) (o .order .bytes) zero-store h)
+    fresh-kept s k e h (done u) = rw e (periods-kept ls 0 s (freshReceiver (o .k) (marksOf code-size)) (o .order .bytes) zero-store h)
 
-    by-answer : (a : Answer Sender) → openSender (o .k) speed loop-ms (o .order .bits) (o .order .bytes) ≡ a
+    by-answer : (a : Answer Sender) → openSender (o .k) speed loop-ms (o .order .bits) code-size (o .order .bytes) ≡ a
         → senderText p ls a ≡ senderText o ls a
     by-answer (refused n) e = refl
     by-answer (done s) e =
-        let g = opened (o .k) speed loop-ms (o .order .bits) (o .order .bytes) s e in
+        let g = opened (o .k) speed loop-ms (o .order .bits) code-size (o .order .bytes) s e in
         let f = length-facts (o .k) (g .known) in
         let v = valid-length (o .order .bits) (g .valid) in
         let m : min (o .k) limit ≡ o .k = omega arith in
-        let l : s .setup .length ≡ o .order .bits = fresh-length s (o .k) (o .order .bits) (g .state) in
-        rw m (fresh-kept s (o .k) refl (omega arith) (openReceiver (o .k)))
+        let l : s .setup .length ≡ o .order .bits = fresh-length s (o .k) (o .order .bits) _ (g .state) in
+        rw m (fresh-kept s (o .k) refl (omega arith) (openReceiver (o .k) code-size))
 
 -- ---- the whole
 
@@ -285,7 +287,7 @@ pub by-bytes : (input : List ℕ) → length input < 2 ^ 64
 unfolding fresh runText
 by-bytes input h =
     ap (λ (l : List ℕ). heading ++ l)
-    (first-line start (freshSender 0 0) (freshReceiver 0) (replicate orderRoom 0) input h
+    (first-line start (freshSender 0 0 (marksOf code-size)) (freshReceiver 0 (marksOf code-size)) (replicate orderRoom 0) input h
     ∙ ap (λ (p : Option Opening). openingText p (lines (afterLine input)))
     (line-one (firstLine input) (replicate orderRoom 0)
     ∙ ap (λ (n : ℕ). keep n (lineOne (firstLine input))) (length-replicate {A = ℕ} orderRoom 0))

@@ -17,7 +17,7 @@ use Rattle.line.specs.Order.{longestOrder}
 use Rattle.line.specs.LoopTime.{loopTime}
 use Rattle.line.specs.Sending.{unless-refused, freshSender, openSender}
 use Rattle.session.specs.LineOne.{limit}
-use Rattle.session.specs.Session.{speed, loop-ms}
+use Rattle.session.specs.Session.{speed, loop-ms, code-size}
 use Rattle.session.specs.Run.{orderRoom}
 use Rattle.line.specs.declared.sender.Sender.{Sender}
 use Rattle.session.proofs.Decimal.{below-or}
@@ -39,7 +39,8 @@ limit-loop : loopTime limit speed loop-ms ≡ refused A.block
 unfolding loopTime isLength
 limit-loop = refl
 
-k-kept : (k L : ℕ) (order : List ℕ) → openSender (min k limit) speed loop-ms L order ≡ openSender k speed loop-ms L order
+k-kept : (k L : ℕ) (order : List ℕ)
+    → openSender (min k limit) speed loop-ms L code-size order ≡ openSender k speed loop-ms L code-size order
 unfolding openSender
 k-kept k L order =
     ⊎-elim
@@ -48,7 +49,8 @@ k-kept k L order =
     rw (e, limit-loop, above-loop k h))
     (λ (h : k ≤ limit). let e : min k limit ≡ k = omega arith in rw e) (below-or limit k _ refl)
 
-length-kept : (k L : ℕ) (order : List ℕ) → openSender k speed loop-ms (min L limit) (take orderRoom order) ≡ openSender k speed loop-ms L order
+length-kept : (k L : ℕ) (order : List ℕ)
+    → openSender k speed loop-ms (min L limit) code-size (take orderRoom order) ≡ openSender k speed loop-ms L code-size order
 unfolding openSender
 length-kept k L order =
     ⊎-elim
@@ -63,5 +65,6 @@ length-kept k L order =
     (below-or longestOrder L _ refl)
 
 pub open-kept : (k L : ℕ) (order : List ℕ)
-    → openSender (min k limit) speed loop-ms (min L limit) (take orderRoom order) ≡ openSender k speed loop-ms L order
+    → openSender (min k limit) speed loop-ms (min L limit) code-size (take orderRoom order)
+    ≡ openSender k speed loop-ms L code-size order
 open-kept k L order = k-kept k (min L limit) (take orderRoom order) ∙ length-kept k L order

@@ -61,7 +61,7 @@ module _ (kind : Kind) (s : Sender) (r : Receiver) (order store : List ℕ) (rea
   unfolding period
   sent-at b block used a sb sr =
       let g : send s order reading (replicate lineBytes 0) ≡ done b = sym (kept .answers) ∙ a in
-      let bits : Bits = sentBits (s .setup .k) (s .setup .length) (orderBits (s .setup .length) order) b in
+      let bits : Bits = sentBits (s .setup .marks) (s .setup .k) (s .setup .length) (orderBits (s .setup .length) order) b in
       let o = on-line s order reading b g in
       let f = length-facts (s .setup .k) (o .known) in
       let l : line ≡ bytesOf lineBytes bits = kept .writes ∙ ap (sendBytes s order (replicate lineBytes 0)) g ∙ o .packed in

@@ -16,6 +16,7 @@ use Rattle.block.specs.Block.{cancelled}
 use Rattle.block.proofs.Lengths.{length-facts}
 use Rattle.block.proofs.Block.{length-syncBlock, length-cancelled}
 use Rattle.crc.proofs.Bytes.{bytesOf-add}
+use Rattle.line.specs.declared.marks.Marks.{Marks}
 use Rattle.line.specs.Order.{orderBits, itemBits}
 use Rattle.line.specs.Sending.{Block, synchronising, item, sentBits, send, sendBytes}
 use Rattle.line.proofs.Items.{length-orderBits, length-itemBits}
@@ -35,13 +36,14 @@ length-cond : (t : Bool) (x y : Bits) (n : ℕ) → length x ≡ n → length y 
 length-cond true x y n p q = p
 length-cond false x y n p q = q
 
-pub length-sentBits : (k L : ℕ) (content : Bits) (b : Block) → isLength k ≡ true → length content ≡ L
-    → length (sentBits k L content b) ≡ blockLength k
+pub length-sentBits : (m : Marks) (k L : ℕ) (content : Bits) (b : Block) → isLength k ≡ true → length content ≡ L
+    → length (sentBits m k L content b) ≡ blockLength k
 unfolding sentBits
-length-sentBits k L content synchronising h e = length-syncBlock k h
-length-sentBits k L content (item i end used cancel) h e =
-    let n = length-itemBits k L content h e i in
-    length-cond cancel (cancelled (itemBits k L content i)) (itemBits k L content i) (blockLength k) (length-cancelled (itemBits k L content i) ∙ n) n
+length-sentBits m k L content synchronising h e = length-syncBlock k h
+length-sentBits m k L content (item i end used cancel) h e =
+    let bits = itemBits m k L content i in
+    let n = length-itemBits k L content h e m i in
+    length-cond cancel (cancelled bits) bits (blockLength k) (length-cancelled bits ∙ n) n
 
 packed-sent : (k : ℕ) (bits : Bits) → isLength k ≡ true → length bits ≡ blockLength k
     → bytesOf (blockBytes k) bits ++ drop (blockBytes k) (replicate lineBytes 0) ≡ bytesOf lineBytes bits
@@ -60,19 +62,20 @@ pub record OnLine (s : Sender) (bits : Bits) (line : List ℕ) : Type 0 where
   pub packed : line ≡ bytesOf lineBytes bits
 
 pub on-line : (s : Sender) (order : List ℕ) (reading : Bool) (b : Block) → send s order reading (replicate lineBytes 0) ≡ done b
-    → OnLine s (sentBits (s .setup .k) (s .setup .length) (orderBits (s .setup .length) order) b)
+    → OnLine s (sentBits (s .setup .marks) (s .setup .k) (s .setup .length) (orderBits (s .setup .length) order) b)
     (sendBytes s order (replicate lineBytes 0) (done b))
 on-line s order reading b e =
     let g = sendable s order reading (replicate lineBytes 0) b e in
     let r = in-range s (g .range) in
     let n =
-    length-sentBits (s .setup .k) (s .setup .length) (orderBits (s .setup .length) order) b (r .known)
+    length-sentBits (s .setup .marks) (s .setup .k) (s .setup .length) (orderBits (s .setup .length) order) b (r .known)
     (length-orderBits (s .setup .length) order (g .lent)) in
     record {
       known = r .known;
       count = n;
       packed =
-          packed-sent (s .setup .k) (sentBits (s .setup .k) (s .setup .length) (orderBits (s .setup .length) order) b) (r .known) n;
+          packed-sent (s .setup .k)
+          (sentBits (s .setup .marks) (s .setup .k) (s .setup .length) (orderBits (s .setup .length) order) b) (r .known) n;
     }
 
 -- ---- with its first bit inverted

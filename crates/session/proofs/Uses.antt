@@ -6,7 +6,7 @@ use mathlib.Core.Logic.{⊎-elim}
 use Prim.Native.Nat.{ℕ, suc, _+_, _-_, _*_, _≤_, _<_}
 use native.Mathlib.Numerals.{add-one}
 use native.Mathlib.Omega.{arith}
-use lib.Dec.{eqb, leb, ltb}
+use lib.Dec.{eqb, ltb}
 use lib.ListN.{length, take, drop}
 use lib.Seq.{length-take-le}
 use borrow.Author.Tests.{ne-eqb, ltb-true, ltb-false, not-false}
@@ -14,13 +14,13 @@ use Rattle.crc.specs.Bits.{Bits, bitsOf}
 use Rattle.crc.proofs.Bytes.{length-bitsOf}
 use Rattle.block.specs.Answer as A
 use Rattle.block.specs.Answer.{Answer, refused, done, refuseIf}
-use Rattle.block.specs.Lengths.{isLength, blockLength}
+use Rattle.block.specs.Lengths.{blockLength}
 use Rattle.block.specs.Calls.{tooShort}
 use Rattle.block.proofs.Refusals.{passed-test}
-use Rattle.block.proofs.Truth.{either, cond-case, and-right}
-use Rattle.line.specs.Order.{mostItems}
-use Rattle.line.specs.Receiving.{Reception, latest, isSequence, search, missing, inStep, byPhase, reception, heldBits, heldInRange, receiverInRange, lastBad, meaning, receive}
+use Rattle.block.proofs.Truth.{either, cond-case}
+use Rattle.line.specs.Receiving.{Reception, latest, isSequence, search, missing, inStep, byPhase, reception, heldBits, heldInRange, receiverInRange, meaning, receive}
 use Rattle.line.specs.declared.receiver.Receiver.{Receiver}
+use Rattle.line.proofs.ReceivingCall.{in-range}
 use Rattle.line.specs.declared.receiving.Phase.{Phase}
 use Rattle.line.specs.declared.receiving.Phase.the-variants as P
 
@@ -68,7 +68,7 @@ receive-uses s line count store x e h =
     let d : done (byPhase s (s .phase) new) ≡ done x = rw z at (passed-test (meaning (reception s new count .rule) .stores && tooShort store (s .taken * s .setup .k + s .setup .k)) A.short _ x (q .1) .1) in
     let y : byPhase s (s .phase) new ≡ x = cc in
     let n : length new ≡ count = length-take-le count (bitsOf line) (rw (length-bitsOf line) (omega (arith, ltb-false (8 * length line) count (q .0)))) in
-    let t : heldInRange (s .phase) (blockLength (s .setup .k)) (s .held) ≡ true = and-right (isLength (s .setup .k) && ltb (s .«bad_row») lastBad && leb (s .taken) mostItems) _ (not-false (receiverInRange s) (p .0)) in
+    let t : heldInRange (s .phase) (blockLength (s .setup .k)) (s .held) ≡ true = in-range s (not-false (receiverInRange s) (p .0)) .held in
     let u : Uses 0 (length new) (byPhase s (s .phase) new .used) =
     phase-uses s (s .phase) new (held-in-range (s .phase) (s .setup .k) (s .held) t) (rw n h) in
     rw (← y) (rw n at u)

@@ -139,7 +139,7 @@ abbrev pub sentCourse : Kind → Sender → Receiver → Bool → List ℕ → L
 sentCourse kind s r reading order store (refused n) =
     record { period = record { sender = s; receiver = r; outcome = O.Refused n }; store = store }
 sentCourse kind s r reading order store (done b) =
-    let bits : Bits = sentBits (s .setup .k) (s .setup .length) (orderBits (s .setup .length) order) b in
+    let bits : Bits = sentBits (s .setup .marks) (s .setup .k) (s .setup .length) (orderBits (s .setup .length) order) b in
     heardCourse (sendState s reading (done b)) (shownBlock b) (shownReading b reading)
     (hear (length bits) r (arriving kind bits) store E.None)
 

@@ -6,13 +6,14 @@ use Prim.Native.Nat.{ℕ, _+_}
 use lib.Dec.{eqb}
 use lib.ListN.{replicate}
 use Rattle.block.specs.Answer.{Answer, refused, done}
+use Rattle.line.specs.Marks.{marksOf}
 use Rattle.line.specs.Sending.{openSender}
 use Rattle.line.specs.Receiving.{openReceiver, freshReceiver}
 use Rattle.line.specs.declared.sender.Sender.{Sender}
 use Rattle.line.specs.declared.receiver.Receiver.{Receiver}
 use Rattle.session.specs.LineOne.{Opening, lineOne}
 use Rattle.session.specs.Period.{Course, period}
-use Rattle.session.specs.Session.{newline, speed, loop-ms, letterKind}
+use Rattle.session.specs.Session.{newline, speed, loop-ms, code-size, letterKind}
 use Rattle.session.specs.Text.{heading, refusedText, outcomeText}
 use Rattle.session.specs.declared.period.Kind.{Kind}
 use Rattle.session.specs.declared.period.Outcome.{Outcome}
@@ -73,16 +74,16 @@ storeRoom = 33120
 -- both ends opened, the sender first, or a refusal
 abbrev pub receiverText : Opening → Sender → List (List ℕ) → Answer (Unit {0}) → List ℕ
 receiverText o s ls (refused n) = refusedText n
-receiverText o s ls (done u) = periods 0 s (freshReceiver (o .k)) (o .order .bytes) (replicate storeRoom 0) ls
+receiverText o s ls (done u) = periods 0 s (freshReceiver (o .k) (marksOf code-size)) (o .order .bytes) (replicate storeRoom 0) ls
 
 abbrev pub senderText : Opening → List (List ℕ) → Answer Sender → List ℕ
 senderText o ls (refused n) = refusedText n
-senderText o ls (done s) = receiverText o s ls (openReceiver (o .k))
+senderText o ls (done s) = receiverText o s ls (openReceiver (o .k) code-size)
 
 -- line one that cannot be read gets the heading alone
 abbrev pub openingText : Option Opening → List (List ℕ) → List ℕ
 openingText none ls = []
-openingText (some o) ls = senderText o ls (openSender (o .k) speed loop-ms (o .order .bits) (o .order .bytes))
+openingText (some o) ls = senderText o ls (openSender (o .k) speed loop-ms (o .order .bits) code-size (o .order .bytes))
 
 unfoldable pub runText : List ℕ → List ℕ
 runText input = heading ++ openingText (lineOne (firstLine input)) (lines (afterLine input))

@@ -7,8 +7,11 @@ use Prim.Native.Nat.{ℕ, _+_, _-_, _^_}
 use lib.Dec.{eqb, ltb}
 use lib.ListN.{length, take}
 use Rattle.block.specs.Answer.{Answer, refused, done}
+use Rattle.line.specs.Marks.{marksOf}
 use Rattle.line.specs.Sending.{openSender, freshSender}
 use Rattle.line.specs.Receiving.{openReceiver, openedReceiver, freshReceiver}
+use Rattle.line.specs.declared.marks.CodeSize.{CodeSize}
+use Rattle.line.specs.declared.marks.CodeSize.the-variants as C
 use Rattle.line.specs.declared.sender.Sender.{Sender}
 use Rattle.session.specs.LineOne as One
 use Rattle.session.specs.LineOne.{next, nextOrder, readable}
@@ -26,17 +29,26 @@ use Rattle.session.specs.declared.script.Written.{Written}
 abbrev pub newline : ℕ
 newline = 10
 
--- the speed and the loop of every session
+-- the speed and the loop of every session; none has marks
 abbrev pub speed : ℕ
 speed = 200
 
 abbrev pub loop-ms : ℕ
 loop-ms = 0
 
+abbrev pub code-size : CodeSize
+code-size = C.NotGiven
+
 -- before the first byte; the ends are not open yet
 unfoldable pub fresh : Session
 fresh =
-    record { place = P.LineOne; opening = One.start; sender = freshSender 0 0; receiver = freshReceiver 0; period = 0 }
+    record {
+      place = P.LineOne;
+      opening = One.start;
+      sender = freshSender 0 0 (marksOf code-size);
+      receiver = freshReceiver 0 (marksOf code-size);
+      period = 0;
+    }
 
 abbrev pub placed : Session → Place → Session
 placed s place =
@@ -67,19 +79,19 @@ receiverOpened s sender (done u) =
       place = P.LineStart;
       opening = s .opening;
       sender = sender;
-      receiver = freshReceiver (s .opening .k);
+      receiver = freshReceiver (s .opening .k) (marksOf code-size);
       period = 0;
     })
     []
 
 abbrev pub senderOpened : Session → Answer Sender → Written
 senderOpened s (refused n) = refusedAt s n
-senderOpened s (done sender) = receiverOpened s sender (openReceiver (s .opening .k))
+senderOpened s (done sender) = receiverOpened s sender (openReceiver (s .opening .k) code-size)
 
 unfoldable pub opens : Session → List ℕ → Written
 opens s order =
     cond (readable (s .opening .place))
-    (senderOpened s (openSender (s .opening .k) speed loop-ms (s .opening .length) (orderOf s order)))
+    (senderOpened s (openSender (s .opening .k) speed loop-ms (s .opening .length) code-size (orderOf s order)))
     (quiet s P.Over)
 
 -- ---- a line of a kind ends: a period; a refusal ends the run

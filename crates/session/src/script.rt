@@ -12,6 +12,8 @@ use crate::period::run_period;
 use crate::text::Text;
 use crate::text::outcome_text;
 use crate::text::refused_text;
+use line::marks::CodeSize;
+use line::marks::Marks;
 use line::receiver::Opening;
 use line::receiver::Receiver;
 use line::sender::Next;
@@ -19,7 +21,7 @@ use line::sender::Opened;
 use line::sender::Sender;
 use line::sender::Setup;
 
-// Speed and loop of every session.
+// Speed and loop of every session; none has marks.
 const SPEED: u32 = 200;
 
 const LOOP_MS: u32 = 0;
@@ -86,13 +88,20 @@ impl Session {
     pub fn new() -> Session
         ensures { λ r. ⌜ r ≡ fresh ⌝ }
     {
-        let opened = Receiver::open(0);
+        let opened = Receiver::open(0, CodeSize::NotGiven);
         let receiver = opened.state;
         Session {
             place: Place::LineOne,
             opening: LineOne::new(),
             sender: Sender {
-                setup: Setup { k: 0, length: 0 },
+                setup: Setup {
+                    k: 0,
+                    length: 0,
+                    marks: Marks {
+                        in_use: false,
+                        size: 0,
+                    },
+                },
                 newer: 1,
                 run: 0,
                 opening: true,
@@ -127,10 +136,10 @@ impl Session {
     }
 
     fn open_receiver(self, sender: Sender) -> Written
-        ensures { λ r. ⌜ r ≡ receiverOpened self sender (openReceiver (self .opening .k)) ⌝ }
+        ensures { λ r. ⌜ r ≡ receiverOpened self sender (openReceiver (self .opening .k) CodeSize.NotGiven) ⌝ }
     {
         let opening = self.opening;
-        let opened = Receiver::open(opening.k);
+        let opened = Receiver::open(opening.k, CodeSize::NotGiven);
         let receiver = opened.state;
         let answer = opened.answer;
         match answer {
@@ -157,7 +166,14 @@ impl Session {
             return self.quiet(Place::Over);
         }
         let kept = least(opening.kept, order.len());
-        let opened = Sender::open(opening.k, SPEED, LOOP_MS, opening.length, &order[..kept]);
+        let opened = Sender::open(
+            opening.k,
+            SPEED,
+            LOOP_MS,
+            opening.length,
+            CodeSize::NotGiven,
+            &order[..kept],
+        );
         match opened {
             Opened::Refused(number) => self.refused(number),
             Opened::Opened(sender) => self.open_receiver(sender),

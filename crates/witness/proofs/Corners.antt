@@ -116,6 +116,7 @@ unfolding received
 waiting =
     record {
       known = refl;
+      marks = refl;
       bad-row = omega arith;
       taken = omega arith;
       phase = refl;

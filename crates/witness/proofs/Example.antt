@@ -1,4 +1,4 @@
--- Document 01's example: k 240, L 8, the order a5; four undisturbed periods, and one call more. Assumes nothing.
+-- The run program's example in docs/PROTOCOL.md: k 240, L 8, the order a5; four undisturbed periods, and one call more. Assumes nothing.
 use mathlib.Core.Path.{_≡_, refl}
 use mathlib.Core.Bool.{true, false}
 use mathlib.Core.List.{List, [], _∷_, _++_}
@@ -9,12 +9,14 @@ use Rattle.crc.specs.Bits.{Bits}
 use Rattle.line.specs.Refusals as Refusals
 use Rattle.block.specs.Lengths.{isLength}
 use Rattle.block.specs.Block.{syncBlock}
+use Rattle.line.specs.Marks.{marksInRange}
 use Rattle.line.specs.Order.{itemCount, orderBits, itemBits}
 use Rattle.line.specs.LoopTime.{isSpeed, blockTime, hasEntry, longestLoop, loopTime}
 use Rattle.line.specs.Sending.{synchronising, item, freshSender, openSender}
 use Rattle.line.specs.Receiving.{freshReceiver, openReceiver}
 use Rattle.line.specs.Course.{sending, World, opened, course, final}
 use Rattle.line.specs.Delivery.{Assumptions, Openings, Delivered, Delivery}
+use Rattle.line.specs.declared.marks.CodeSize.the-variants as C
 use Rattle.line.specs.declared.sender.Next.the-variants.{Older, Newer}
 use Rattle.line.specs.declared.receiving.Event.the-variants as E
 use Rattle.line.specs.declared.receiver.Opened.{Opened}
@@ -22,7 +24,7 @@ use Rattle.line.specs.declared.receiver.Opening.the-variants as Opening
 use Rattle.line.proofs.Delivery.Answers.{runs}
 use Rattle.line.proofs.Delivery.Theorem.{delivery}
 use Rattle.witness.proofs.Meets.{meets}
-use Rattle.witness.proofs.PeriodRows.{refuses, Row, allCalls, trace, sender, good, between, period}
+use Rattle.witness.proofs.PeriodRows.{refuses, Row, allCalls, trace, noMarks, sender, good, between, period}
 
 abbrev order : List ℕ
 order = 0xa5 ∷ []
@@ -31,7 +33,7 @@ abbrev content : Bits
 content = orderBits 8 order
 
 abbrev block : ℕ → Bits
-block i = itemBits 240 8 content i
+block i = itemBits noMarks 240 8 content i
 
 -- the store as first lent, and with item 0 in it
 abbrev initialStore : List ℕ
@@ -41,7 +43,7 @@ abbrev stored : List ℕ
 stored = 0xa5 ∷ (replicate 29 0 ++ (7 ∷ []))
 
 abbrev pub w₀ : World
-w₀ = opened (freshSender 240 8) (freshReceiver 240) initialStore
+w₀ = opened (freshSender 240 8 noMarks) (freshReceiver 240 noMarks) initialStore
 
 abbrev rows : List Row
 rows =
@@ -74,20 +76,21 @@ example-stored = refl
 
 -- both ends opened at 200 bit/s with loop 0, and what demand 3 says of the calls as they run
 abbrev ready : Opened
-ready = record { state = freshReceiver 240; answer = Opening.Opened }
+ready = record { state = freshReceiver 240 noMarks; answer = Opening.Opened }
 
-pub example-opened : Openings 240 200 0 8 order (freshSender 240 8) ready initialStore
-unfolding openSender loopTime isSpeed hasEntry longestLoop blockTime openReceiver isLength itemCount
+pub example-opened : Openings 240 200 0 8 C.NotGiven C.NotGiven order (freshSender 240 8 noMarks) ready initialStore
+unfolding openSender loopTime isSpeed hasEntry longestLoop blockTime openReceiver isLength marksInRange itemCount
 example-opened =
     record {
       sender = record { answers = refl };
       receiver = record { answers = refl; state = refl };
+      alike = refl;
       not-refused = refl;
       room = omega arith;
     }
 
-pub example-delivered : Delivered 240 8 content initialStore (runs (freshSender 240 8) (freshReceiver 240) (allCalls rows))
+pub example-delivered : Delivered 240 8 content initialStore (runs (freshSender 240 8 noMarks) (freshReceiver 240 noMarks) (allCalls rows))
 unfolding Delivery
 example-delivered =
-    delivery 240 200 0 8 order (freshSender 240 8) ready initialStore example-opened (allCalls rows)
-    (runs (freshSender 240 8) (freshReceiver 240) (allCalls rows))
+    delivery 240 200 0 8 C.NotGiven C.NotGiven order (freshSender 240 8 noMarks) ready initialStore example-opened (allCalls rows)
+    (runs (freshSender 240 8 noMarks) (freshReceiver 240 noMarks) (allCalls rows))

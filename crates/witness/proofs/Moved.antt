@@ -16,7 +16,7 @@ use Rattle.line.specs.declared.sender.Next.the-variants.{Older, Newer}
 use Rattle.line.specs.declared.receiving.Event.the-variants as E
 use Rattle.line.proofs.Delivery.BetweenLosses.{BetweenLosses}
 use Rattle.witness.proofs.Meets.{Met, breaks}
-use Rattle.witness.proofs.PeriodRows.{Row, allCalls, trace, sender, good, bad, period, damaged}
+use Rattle.witness.proofs.PeriodRows.{Row, allCalls, trace, noMarks, sender, good, bad, period, damaged}
 
 -- five data items
 abbrev order : List ℕ
@@ -26,7 +26,7 @@ abbrev content : Bits
 content = orderBits 1200 order
 
 abbrev block : ℕ → Bits
-block i = itemBits 240 1200 content i
+block i = itemBits noMarks 240 1200 content i
 
 -- the store as first lent, and with item 0 in it
 abbrev initialStore : List ℕ
@@ -40,7 +40,7 @@ abbrev wrong : List ℕ
 wrong = replicate 30 1 ++ (replicate 30 5 ++ replicate 90 0)
 
 abbrev pub w₀ : World
-w₀ = opened (freshSender 240 1200) (freshReceiver 240) initialStore
+w₀ = opened (freshSender 240 1200 noMarks) (freshReceiver 240 noMarks) initialStore
 
 -- Item 1 is damaged, item 2 too, and its reading lost; item 3 arrives whole with its reading lost, and passes as previous.
 abbrev pub moved : List Row

@@ -8,19 +8,21 @@ use Prim.Native.Nat.{ℕ, _*_, _≤_}
 use lib.ListN.{length, take, getD, replicate}
 use Rattle.crc.specs.Bits.{Bits}
 use Rattle.block.specs.Block.{syncBlock}
+use Rattle.line.specs.Marks.{marksInRange}
 use Rattle.line.specs.Order.{itemCount, orderBits, itemBits}
 use Rattle.line.specs.LoopTime.{isSpeed, blockTime, hasEntry, longestLoop, loopTime}
 use Rattle.line.specs.Sending.{synchronising, item, freshSender, openSender, OpenSender}
 use Rattle.line.specs.Receiving.{openReceiver, OpenReceiver}
 use Rattle.line.specs.Course.{World, opened, course, final}
 use Rattle.line.specs.Delivery.{some, isLost, reportsEnd, Assumptions, Guarantees}
+use Rattle.line.specs.declared.marks.CodeSize.the-variants as C
 use Rattle.line.specs.declared.sender.Opened.the-variants as SenderOpened
 use Rattle.line.specs.declared.sender.Next.the-variants.{Older, Newer}
 use Rattle.line.specs.declared.receiver.Receiver.{Receiver}
 use Rattle.line.specs.declared.receiver.Opened.{Opened}
 use Rattle.line.specs.declared.receiving.Event.the-variants as E
 use Rattle.witness.proofs.Meets.{meets}
-use Rattle.witness.proofs.PeriodRows.{Row, allCalls, trace, sender, good, period}
+use Rattle.witness.proofs.PeriodRows.{Row, allCalls, trace, noMarks, sender, good, period}
 use Rattle.witness.proofs.TwoItems as First
 use Rattle.witness.proofs.TwoItems.{one, w₀, synchronised, accepted}
 
@@ -40,7 +42,7 @@ abbrev content : Bits
 content = orderBits 480 order
 
 abbrev block : ℕ → Bits
-block i = itemBits 240 480 content i
+block i = itemBits noMarks 240 480 content i
 
 -- the first order's item 0 and the second order's item 1
 abbrev joined : List ℕ
@@ -48,7 +50,7 @@ joined = replicate 30 1 ++ (replicate 30 4 ++ replicate 1 9)
 
 -- the sender opened anew; the receiver and the store as the first order's session left them
 abbrev pub w₁ : World
-w₁ = let w = final w₀ (allCalls broken-off) in opened (freshSender 240 480) (w .receiver) (w .store)
+w₁ = let w = final w₀ (allCalls broken-off) in opened (freshSender 240 480 noMarks) (w .receiver) (w .store)
 
 -- The second order's item 0 passes as previous, its item 1 is accepted, and its end is taken.
 abbrev pub joins : List Row
@@ -72,12 +74,12 @@ unfolding trace
 joins-meets = (meets 240 content (course w₁ (allCalls joins)) refl, refl)
 
 -- of the openings too, at 200 bit/s with loop 0; but the receiver is not one just opened
-pub joins-opened : OpenSender 240 200 0 480 order (SenderOpened.Opened (w₁ .sender)) × (itemCount 240 480 * 240 ≤ 8 * length (w₁ .store))
-unfolding trace openSender loopTime isSpeed hasEntry longestLoop blockTime
+pub joins-opened : OpenSender 240 200 0 480 C.NotGiven order (SenderOpened.Opened (w₁ .sender)) × (itemCount 240 480 * 240 ≤ 8 * length (w₁ .store))
+unfolding trace openSender marksInRange loopTime isSpeed hasEntry longestLoop blockTime
 joins-opened = (record { answers = refl }, omega arith)
 
-pub joins-not-opened : (o : Opened) → OpenReceiver 240 o → o .state ≡ w₁ .receiver → ⊥
-unfolding trace openReceiver
+pub joins-not-opened : (o : Opened) → OpenReceiver 240 C.NotGiven o → o .state ≡ w₁ .receiver → ⊥
+unfolding trace openReceiver marksInRange
 joins-not-opened o h e =
     let taken : _≡_ {A = ℕ} 0 1 = ap (λ (r : Receiver). r .taken) (sym (h .state) ∙ e) in
     omega arith

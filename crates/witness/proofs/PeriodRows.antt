@@ -9,11 +9,14 @@ use Rattle.crc.specs.Check.{remainder, passes, check}
 use Rattle.block.specs.Answer.{Answer}
 use Rattle.block.specs.Lengths.{isLength}
 use Rattle.block.specs.Block.{blockBits, verdict, syncBlock, cancelled}
-use Rattle.line.specs.Order.{validLength, itemCount, letter, isLetter, filled, endPayload, itemService, itemPayload, itemBits}
+use Rattle.line.specs.Marks.{marksOf, marksInRange, mark, isMark}
+use Rattle.line.specs.Order.{validLength, itemCount, letter, isLetter, dataService, filled, endPayload, itemService, itemPayload, itemBits}
 use Rattle.line.specs.Sending.{Block, freshSender, senderInRange, send, transmit, plainBits, sentBits}
-use Rattle.line.specs.Receiving.{freshReceiver, zeroArray, place, endRule, serviceRule, looksSync, judge, blank, Reception, inStep, reception, receiverInRange, receive, storeAt}
+use Rattle.line.specs.Receiving.{freshReceiver, zeroArray, isOf, place, endRule, markRule, serviceRule, looksSync, judge, blank, Reception, inStep, reception, receiverInRange, receive, storeAt}
 use Rattle.line.specs.Course.{Call, sending, receiving, World, Entry, send-refused, receive-refused, sent, heard, course, final}
 use Rattle.line.specs.Delivery.{eventOf}
+use Rattle.line.specs.declared.marks.CodeSize.the-variants as C
+use Rattle.line.specs.declared.marks.Marks.{Marks}
 use Rattle.line.specs.declared.sender.Sender.{Sender}
 use Rattle.line.specs.declared.sender.Next.{Next}
 use Rattle.line.specs.declared.receiver.Receiver.{Receiver}
@@ -46,25 +49,42 @@ allCalls = flatMap (λ r. r .calls)
 
 -- `receive`, and where this unfolds so does all that it computes with
 unfoldable pub received : Receiver → List ℕ → ℕ → List ℕ → Answer Reception
-unfolding receive receiverInRange reception inStep judge looksSync verdict passes remainder check blockBits syncBlock serviceRule endRule endPayload place letter isLetter validLength itemCount number binary bitsOf bytesOf zeroArray freshReceiver isLength storeAt
+unfolding receive receiverInRange marksInRange reception inStep judge looksSync verdict passes remainder check blockBits syncBlock serviceRule endRule endPayload markRule place isOf isMark letter isLetter validLength itemCount number binary bitsOf bytesOf zeroArray freshReceiver isLength storeAt
 received = receive
 
 -- The rows that these calls come to, each from the world behind the row before. Where this unfolds, so does all that both
 -- ends compute with.
 unfoldable pub trace : World → List Row → List Row
-unfolding flatMap received send senderInRange transmit plainBits sentBits freshSender itemBits itemPayload itemService filled cancelled xorBits parity
+unfolding flatMap received send senderInRange transmit plainBits sentBits freshSender itemBits itemPayload itemService dataService mark filled cancelled xorBits parity
 trace w [] = []
 trace w (r ∷ rs) =
     record { calls = r .calls; outcomes = map outcome (course w (r .calls)); world = final w (r .calls) } ∷ trace (r .world) rs
 
+-- what opening without a code size fixes
+abbrev pub noMarks : Marks
+noMarks = marksOf C.NotGiven
+
 -- a sender of an order of L bits: its newer item, the run, whether opening lasts, what is next, whether it is finished
+abbrev pub senderWith : Marks → (L newer run : ℕ) → Bool → Next → Bool → Sender
+senderWith m L newer run opening next finished =
+    record {
+      setup = record { k = 240; length = L; marks = m };
+      newer = newer;
+      run = run;
+      opening = opening;
+      next = next;
+      finished = finished;
+    }
+
 abbrev pub sender : (L newer run : ℕ) → Bool → Next → Bool → Sender
-sender L newer run opening next finished =
-    record { setup = record { k = 240; length = L }; newer = newer; run = run; opening = opening; next = next; finished = finished }
+sender = senderWith noMarks
 
 -- a receiver with nothing held: the bad row, the return bit, the items taken, whether the end is, and what it is doing
+abbrev pub receiverWith : Marks → (bad-row : ℕ) → Bool → (taken : ℕ) → Bool → Phase → Receiver
+receiverWith m bad-row back taken ended phase = blank (freshReceiver 240 m) bad-row back taken ended phase
+
 abbrev pub receiver : (bad-row : ℕ) → Bool → (taken : ℕ) → Bool → Phase → Receiver
-receiver bad-row back taken ended phase = blank (freshReceiver 240) bad-row back taken ended phase
+receiver = receiverWith noMarks
 
 -- in step with return bit 0
 abbrev pub good : (taken : ℕ) → Bool → Receiver

@@ -8,8 +8,10 @@ use lib.ListN.{replicate}
 use Rattle.block.specs.Answer.{Answer, done}
 use Rattle.block.specs.Lengths.{isLength}
 use Rattle.line.specs.LoopTime.{isSpeed, blockTime, hasEntry, longestLoop, loopTime}
+use Rattle.line.specs.Marks.{marksOf, marksInRange}
 use Rattle.line.specs.Order.{validLength, itemCount}
 use Rattle.line.specs.Sending.{freshSender, openSender, Block, synchronising, item, transmit, senderInRange, gaveUp, send, sendState}
+use Rattle.line.specs.declared.marks.CodeSize.the-variants as C
 use Rattle.line.specs.declared.sender.Sender.{Sender}
 
 abbrev order : List ℕ
@@ -19,15 +21,15 @@ abbrev slice : List ℕ
 slice = replicate 33 0
 
 abbrev fresh : Sender
-fresh = freshSender 240 8
+fresh = freshSender 240 8 (marksOf C.NotGiven)
 
-pub opens : openSender 240 200 0 8 order ≡ done fresh
-unfolding openSender loopTime isLength isSpeed hasEntry longestLoop blockTime
+pub opens : openSender 240 200 0 8 C.NotGiven order ≡ done fresh
+unfolding openSender marksInRange loopTime isLength isSpeed hasEntry longestLoop blockTime
 opens = refl
 
 -- the state after n calls on the same reading
 unfoldable pub after : ℕ → Bool → Sender → Sender
-unfolding send senderInRange isLength validLength itemCount freshSender transmit
+unfolding send senderInRange marksInRange isLength validLength itemCount freshSender transmit
 after zero reading s = s
 after (suc n) reading s = after n reading (sendState s reading (send s order reading slice))
 

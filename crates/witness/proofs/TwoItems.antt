@@ -15,7 +15,7 @@ use Rattle.line.specs.declared.sender.Next.the-variants.{Sync, Older, Newer}
 use Rattle.line.specs.declared.receiver.Receiver.{Receiver}
 use Rattle.line.specs.declared.receiving.Event.the-variants as E
 use Rattle.line.specs.declared.receiving.Phase.the-variants as P
-use Rattle.witness.proofs.PeriodRows.{Row, sender, receiver, good, bad, period, damaged}
+use Rattle.witness.proofs.PeriodRows.{Row, noMarks, sender, receiver, good, bad, period, damaged}
 
 abbrev pub order : List ℕ
 order = replicate 30 1 ++ replicate 30 2
@@ -24,7 +24,7 @@ abbrev pub content : Bits
 content = orderBits 480 order
 
 abbrev pub block : ℕ → Bits
-block i = itemBits 240 480 content i
+block i = itemBits noMarks 240 480 content i
 
 -- the store as first lent, with item 0 in it, with both items in it
 abbrev pub initialStore : List ℕ
@@ -37,7 +37,7 @@ abbrev pub two : List ℕ
 two = replicate 30 1 ++ (replicate 30 2 ++ replicate 1 9)
 
 abbrev pub w₀ : World
-w₀ = opened (freshSender 240 480) (freshReceiver 240) initialStore
+w₀ = opened (freshSender 240 480 noMarks) (freshReceiver 240 noMarks) initialStore
 
 -- the first period: a synchronising block, found; and the second: item 0, accepted
 abbrev pub synchronised : Row

@@ -1,22 +1,24 @@
 -- A block split into calls of one bit is read as it is in one call. Assumes nothing.
-use mathlib.Core.Path.{_≡_, refl, ap, ap₂, _∙_}
-use mathlib.Core.Bool.{Bool, true, false, _&&_, false≢true}
+use mathlib.Core.Path.{_≡_, refl, ap, _∙_}
+use mathlib.Core.Bool.{Bool, true, false, false≢true}
 use mathlib.Core.List.{List, [], _∷_, _++_, append-assoc}
 use native.Mathlib.Omega.{arith}
 use Prim.Native.Nat.{ℕ, suc, _+_, _*_, _≤_, _<_}
 use lib.ListN.{length, take}
-use borrow.Author.Tests.{lt-ltb, le-ltb, le-leb}
+use borrow.Author.Tests.{lt-ltb, le-ltb}
 use Rattle.crc.specs.Bits.{Bits, binary, number, bitsOf, bytesOf}
 use Rattle.crc.proofs.Bytes.{length-bytesOf}
 use Rattle.block.specs.Answer.{Answer, done}
 use Rattle.block.specs.Lengths.{isLength, blockLength}
 use Rattle.block.proofs.Lengths.{length-facts}
+use Rattle.line.specs.Marks.{marksInRange}
 use Rattle.line.specs.Order.{mostItems}
-use Rattle.line.specs.Receiving.{arrayBytes, lastBad, Rule, unfinished, standing, sequence-found, sync-block, check-fails, accepts, previous, out-of-sequence, ends, wrong-length, ends-again, anything-else, meaning, judge, after, heldBits, Reception, stops, holding, missing, inStep, reception, heldInRange, receiverInRange, judgeStore, receive, receiveState}
+use Rattle.line.specs.Receiving.{arrayBytes, lastBad, Rule, unfinished, standing, sequence-found, sync-block, check-fails, accepts, previous, out-of-sequence, ends, wrong-length, ends-again, anything-else, meaning, blockRule, after, heldBits, Reception, stops, holding, missing, inStep, reception, heldInRange, receiverInRange, judgeStore, receive, receiveState}
 use Rattle.line.specs.declared.receiver.Receiver.{Receiver}
 use Rattle.line.specs.declared.receiving.Phase.{Phase}
 use Rattle.line.specs.declared.receiving.Phase.the-variants as P
-use Rattle.line.proofs.Delivery.BlockRules.{Judged, as-sync, fails, as-data, as-other, judged}
+use Rattle.line.proofs.ReceivingCall.{range-in}
+use Rattle.line.proofs.Delivery.BlockRules.{Judged, as-sync, fails, as-data, as-other, block-judged}
 use Rattle.line.proofs.Delivery.WrittenBits.{length-holding, heldBits-holding}
 
 -- one call for each bit, each given the state that the last handed back; the last call's answer
@@ -28,6 +30,7 @@ bitByBit s store (b ∷ bs) last =
 -- in step, and so many bits of the block missing
 pub record Waiting (s : Receiver) (m : ℕ) : Type 0 where
   pub known : isLength (s .setup .k) ≡ true
+  pub marks : marksInRange (s .setup .marks) ≡ true
   pub bad-row : s .«bad_row» < lastBad
   pub taken : s .taken ≤ mostItems
   pub phase : s .phase ≡ P.InStep
@@ -35,11 +38,15 @@ pub record Waiting (s : Receiver) (m : ℕ) : Type 0 where
   pub held : s .held + m ≡ blockLength (s .setup .k)
 
 in-range : (s : Receiver) (m : ℕ) → Waiting s (suc m) → receiverInRange s ≡ true
-unfolding receiverInRange
 in-range s m w =
-    ap₂ _&&_ (ap₂ _&&_ (ap₂ _&&_ (w .known) (lt-ltb (s .«bad_row») lastBad (w .bad-row))) (le-leb (s .taken) mostItems (w .taken)))
-    (ap (λ (p : Phase). heldInRange p (blockLength (s .setup .k)) (s .held)) (w .phase)
-    ∙ lt-ltb (s .held) (blockLength (s .setup .k)) (omega (arith, w .held)))
+    range-in s (record {
+      known = w .known;
+      marks = w .marks;
+      bad-row = w .bad-row;
+      taken = w .taken;
+      held = ap (λ (p : Phase). heldInRange p (blockLength (s .setup .k)) (s .held)) (w .phase)
+          ∙ lt-ltb (s .held) (blockLength (s .setup .k)) (omega (arith, w .held));
+    })
 
 bit-lent : (b : Bool) → take 1 (bitsOf (bytesOf 1 (b ∷ []))) ≡ b ∷ []
 unfolding bitsOf bytesOf binary number
@@ -66,6 +73,7 @@ module _ (s : Receiver) (b : Bool) where
   waits-on m w =
       record {
         known = w .known;
+        marks = w .marks;
         bad-row = w .bad-row;
         taken = w .taken;
         phase = w .phase;
@@ -75,7 +83,7 @@ module _ (s : Receiver) (b : Bool) where
 
   -- the block's last
   bit-last : Waiting s 1
-      → inStep s (b ∷ []) ≡ stops s (judge (s .setup .k) (s .taken) (s .ended) (heldBits s ++ (b ∷ []))) (heldBits s ++ (b ∷ [])) 1
+      → inStep s (b ∷ []) ≡ stops s (blockRule s (heldBits s ++ (b ∷ []))) (heldBits s ++ (b ∷ [])) 1
   unfolding inStep
   bit-last w = let one : missing s ≡ 1 = omega (arith, w .held) in rw one refl
 
@@ -102,16 +110,16 @@ after-holding s new as-other = refl
 
 -- what the whole block comes to, at its last bit
 abbrev pub finished : Receiver → List ℕ → Bits → Answer Reception
-finished s store row = judgeStore s store (stops s (judge (s .setup .k) (s .taken) (s .ended) row) row 1)
+finished s store row = judgeStore s store (stops s (blockRule s row) row 1)
 
 finished-holding : (s : Receiver) (store : List ℕ) (new row row′ : Bits) → row ≡ row′ → finished (holding s new) store row ≡ finished s store row′
 finished-holding s store new row row′ e =
     ap (finished (holding s new) store) e
     ∙ ap (λ (t : Receiver). judgeStore s store (record { rule = rule; row = row′; used = 1; state = t }))
-    (after-holding s new (judged (s .setup .k) (s .taken) (s .ended) row′))
+    (after-holding s new (block-judged s row′))
   where
     rule : Rule
-    rule = judge (s .setup .k) (s .taken) (s .ended) row′
+    rule = blockRule s row′
 
 pub bit-by-bit : (s : Receiver) (store : List ℕ) (b : Bool) (row : Bits) (last : Answer Reception) → Waiting s (length (b ∷ row))
     → bitByBit s store (b ∷ row) last ≡ finished s store (heldBits s ++ (b ∷ row))

@@ -2,7 +2,7 @@
 -- check, and of a synchronising block. Assumes nothing.
 use mathlib.Core.Path.{_≡_, refl, ap, sym, _∙_}
 use mathlib.Core.Logic.{_⊎_, inl, inr, ⊎-elim}
-use mathlib.Core.Bool.{Bool, true, false, cond, _&&_}
+use mathlib.Core.Bool.{Bool, true, false, cond, not, _&&_}
 use mathlib.Core.List.{_++_, append-assoc}
 use Prim.Native.Nat.{ℕ, zero, suc, _+_, _-_, _/_, _≤_, _<_}
 use native.Mathlib.Omega.{arith}
@@ -17,9 +17,12 @@ use Rattle.block.specs.Lengths.{isLength}
 use Rattle.block.specs.Block.{serviceOf, payloadOf, Verdict, passed, failed, verdict, serviceSync, syncSequence, tens, syncBlock}
 use Rattle.block.proofs.Block.{length-syncBlock}
 use Rattle.block.proofs.Truth.{cond-case, either, bit-false}
-use Rattle.line.specs.Order.{longestOrder, mostItems, validLength, itemCount, letter, isLetter, endService, version, endPayload, itemService, itemPayload, itemBits}
-use Rattle.line.specs.Receiving.{Rule, sync-block, check-fails, accepts, previous, out-of-sequence, ends, wrong-length, ends-again, anything-else, meaning, Place, expected, last, next, other, place, letterRule, makesItems, endRule, serviceRule, verdictRule, looksSync, judge}
-use Rattle.line.proofs.ServiceBits.{letter-isLetter, letter-not-sync, place-expected, place-last, place-next}
+use Rattle.line.specs.Marks.{isMark}
+use Rattle.line.specs.Order.{longestOrder, mostItems, validLength, itemCount, isLetter, endService, dataService, version, endPayload, itemService, itemPayload, itemBits}
+use Rattle.line.specs.Receiving.{Rule, sync-block, check-fails, accepts, previous, out-of-sequence, ends, wrong-length, ends-again, anything-else, meaning, Place, expected, last, next, other, place, placeRule, makesItems, endRule, markRule, serviceRule, verdictRule, looksSync, judge, blockRule}
+use Rattle.line.specs.declared.marks.Marks.{Marks}
+use Rattle.line.specs.declared.receiver.Receiver.{Receiver}
+use Rattle.line.proofs.ServiceBits.{service-not-sync, place-expected, place-last, place-next, by-place}
 use Rattle.line.proofs.Items.{itemService-data, itemService-end, itemPayload-end, service-itemBits, payload-itemBits, passes-itemBits}
 use Rattle.line.proofs.Delivery.Ends.{Neighbour}
 
@@ -34,22 +37,22 @@ pub data Unharmed (k L r : ℕ) (ended : Bool) (i : ℕ) : Rule → Type 0 where
   end-all : itemCount k L ≤ i → ended ≡ false → r ≡ itemCount k L → Unharmed k L r ended i (ends L)
   end-short : itemCount k L ≤ i → ended ≡ false → (r ≡ itemCount k L → ⊥) → Unharmed k L r ended i wrong-length
 
-module _ (k L r i : ℕ) (h : i < itemCount k L) (few : itemCount k L ≤ mostItems) where
+module _ (m : Marks) (k L r i : ℕ) (h : i < itemCount k L) (few : itemCount k L ≤ mostItems) where
   -- by its distance d from item r - 1
-  letter-read : (d : ℕ) → i + 1 ≡ r + d → d ≤ 2 → Unharmed k L r false i (letterRule r (place r (letter i)))
-  letter-read zero e g = let q : r ≡ i + 1 = omega arith in rw (q, place-last i) (last-item h refl refl)
-  letter-read (suc zero) e g =
+  place-read : (d : ℕ) → i + 1 ≡ r + d → d ≤ 2
+      → Unharmed k L r false i (placeRule r (place (m .«in_use») r (dataService m i)))
+  place-read zero e g = let q : r ≡ i + 1 = omega arith in rw (q, place-last m i) (last-item h refl refl)
+  place-read (suc zero) e g =
       let q : i ≡ r = omega arith in
-      rw (q, place-expected r, lt-ltb r mostItems (omega arith)) (expected-item (omega arith) refl refl)
-  letter-read (suc (suc d)) e g =
+      rw (q, place-expected m r, lt-ltb r mostItems (omega arith)) (expected-item (omega arith) refl refl)
+  place-read (suc (suc d)) e g =
       let q : i ≡ r + 1 = omega arith in
-      rw (q, place-next r) (next-item (omega arith) refl refl)
+      rw (q, place-next m r) (next-item (omega arith) refl refl)
 
   data-read : (ended : Bool) (payload : Bits) → Neighbour r (bit ended) i
-      → Unharmed k L r ended i (serviceRule k r ended (letter i) payload)
-  unfolding serviceRule
+      → Unharmed k L r ended i (serviceRule (m .«in_use») k r ended (dataService m i) payload)
   data-read ended payload b =
-      rw (letter-isLetter i, bit-false ended (b .open-end)) (letter-read (i + 1 - r) (omega arith) (omega arith))
+      rw (bit-false ended (b .open-end), by-place m k r i payload) (place-read (i + 1 - r) (omega arith) (omega arith))
 
 module _ (k L : ℕ) where
   end-version : number (take 8 (endPayload k L)) ≡ version
@@ -68,59 +71,59 @@ module _ (k L : ℕ) where
       ∙ ap number (take-at (binary 32 L) (zeros (k - 40)) 32 (length-binary 32 L))
       ∙ number-binary 32 L (omega arith)
 
-  end-read : (r : ℕ) (ended : Bool) (i : ℕ) → 1 ≤ L → L ≤ longestOrder → itemCount k L ≤ i
-      → Unharmed k L r ended i (serviceRule k r ended endService (endPayload k L))
+  end-read : (in-use : Bool) (r : ℕ) (ended : Bool) (i : ℕ) → 1 ≤ L → L ≤ longestOrder → itemCount k L ≤ i
+      → Unharmed k L r ended i (serviceRule in-use k r ended endService (endPayload k L))
   unfolding serviceRule isLetter endRule validLength
-  end-read r ended i low high h =
+  end-read in-use r ended i low high h =
       cond-case (Unharmed k L r ended i) ended (end-again h)
       (λ e. rw (end-version, end-length high, le-leb 1 L low, le-leb L longestOrder high)
       (cond-case (Unharmed k L r ended i) (makesItems k L r) (λ c. end-all h e (sym (eqb-true (itemCount k L) r c)))
       (λ c. end-short h e (λ m. eqb-false (itemCount k L) r c (sym m)))))
 
-module _ (k L : ℕ) (content : Bits) (known : isLength k ≡ true) (low : 1 ≤ L) (high : L ≤ longestOrder)
+module _ (m : Marks) (k L : ℕ) (content : Bits) (known : isLength k ≡ true) (low : 1 ≤ L) (high : L ≤ longestOrder)
     (long : length content ≡ L) where
-  not-sync : (i : ℕ) → (i < itemCount k L) ⊎ (itemCount k L ≤ i) → eqb (itemService k L i) (number serviceSync) ≡ false
+  not-sync : (i : ℕ) → (i < itemCount k L) ⊎ (itemCount k L ≤ i) → eqb (itemService m k L i) (number serviceSync) ≡ false
   unfolding number
-  not-sync i (inl h) = ne-eqb (itemService k L i) 5 (λ e. letter-not-sync i (sym (itemService-data k L i h) ∙ e))
-  not-sync i (inr h) = ne-eqb (itemService k L i) 5
-      (λ e. let z : endService ≡ 5 = sym (itemService-end k L i h) ∙ e in omega arith)
+  not-sync i (inl h) = ne-eqb (itemService m k L i) 5 (λ e. service-not-sync m i (sym (itemService-data m k L i h) ∙ e))
+  not-sync i (inr h) = ne-eqb (itemService m k L i) 5
+      (λ e. let z : endService ≡ 5 = sym (itemService-end m k L i h) ∙ e in omega arith)
 
   which : (i : ℕ) → (i < itemCount k L) ⊎ (itemCount k L ≤ i)
   which i =
       ⊎-elim (λ e. inl (ltb-true i (itemCount k L) e)) (λ e. inr (ltb-false i (itemCount k L) e)) (either (ltb i (itemCount k L)))
 
   -- rule 1 never reads it
-  item-never-sync : (i : ℕ) → looksSync k (itemBits k L content i) ≡ false
+  item-never-sync : (i : ℕ) → looksSync k (itemBits m k L content i) ≡ false
   unfolding looksSync
-  item-never-sync i = rw (service-itemBits k L i content, not-sync i (which i)) refl
+  item-never-sync i = rw (service-itemBits m k L i content, not-sync i (which i)) refl
 
   -- it is read by its service bits
   pub item-read : (r : ℕ) (ended : Bool) (i : ℕ)
-      → judge k r ended (itemBits k L content i) ≡ serviceRule k r ended (itemService k L i) (itemPayload k L content i)
+      → judge (m .«in_use») k r ended (itemBits m k L content i) ≡ serviceRule (m .«in_use») k r ended (itemService m k L i) (itemPayload k L content i)
   unfolding judge verdict
   item-read r ended i =
-      rw (item-never-sync i, passes-itemBits k L content i, service-itemBits k L i content, payload-itemBits k L content known long i) refl
+      rw (item-never-sync i, passes-itemBits m k L content i, service-itemBits m k L i content, payload-itemBits k L content known long m i) refl
 
   unharmed : (r : ℕ) (ended : Bool) (i : ℕ) → itemCount k L ≤ mostItems → (i < itemCount k L → Neighbour r (bit ended) i)
       → (i < itemCount k L) ⊎ (itemCount k L ≤ i)
-      → Unharmed k L r ended i (serviceRule k r ended (itemService k L i) (itemPayload k L content i))
+      → Unharmed k L r ended i (serviceRule (m .«in_use») k r ended (itemService m k L i) (itemPayload k L content i))
   unharmed r ended i few b (inl h) =
-      rw (itemService-data k L i h) (data-read k L r i h few ended (itemPayload k L content i) (b h))
+      rw (itemService-data m k L i h) (data-read m k L r i h few ended (itemPayload k L content i) (b h))
   unharmed r ended i few b (inr h) =
-      rw (itemService-end k L i h, itemPayload-end k L i content h) (end-read k L r ended i low high h)
+      rw (itemService-end m k L i h, itemPayload-end k L i content h) (end-read k L (m .«in_use») r ended i low high h)
 
   pub judge-item : (r : ℕ) (ended : Bool) (i : ℕ) → itemCount k L ≤ mostItems
-      → (i < itemCount k L → Neighbour r (bit ended) i) → Unharmed k L r ended i (judge k r ended (itemBits k L content i))
+      → (i < itemCount k L → Neighbour r (bit ended) i) → Unharmed k L r ended i (judge (m .«in_use») k r ended (itemBits m k L content i))
   judge-item r ended i few b = rw (item-read r ended i) (unharmed r ended i few b (which i))
 
 -- ---- a block that fails the check
 
-pub judge-fails : (k r : ℕ) (ended : Bool) (row : Bits) → passes row ≡ false
-    → (judge k r ended row ≡ sync-block) ⊎ (judge k r ended row ≡ check-fails)
+pub judge-fails : (in-use : Bool) (k r : ℕ) (ended : Bool) (row : Bits) → passes row ≡ false
+    → (judge in-use k r ended row ≡ sync-block) ⊎ (judge in-use k r ended row ≡ check-fails)
 unfolding judge verdict
-judge-fails k r ended row h =
+judge-fails in-use k r ended row h =
     cond-case (λ (x : Rule). (x ≡ sync-block) ⊎ (x ≡ check-fails)) (looksSync k row) (λ e. inl refl)
-    (λ e. inr (ap (λ (b : Bool). verdictRule k r ended row (cond b (passed (number (serviceOf row))) failed)) h))
+    (λ e. inr (ap (λ (b : Bool). verdictRule in-use k r ended row (cond b (passed (number (serviceOf row))) failed)) h))
 
 -- ---- a synchronising block
 
@@ -129,9 +132,9 @@ unfolding syncBlock
 sync-front k h = omega (arith, length-syncBlock k h, length-append (serviceSync ++ tens (k / 2)) syncSequence)
 
 -- unharmed, it is read by rule 1
-pub judge-sync : (k r : ℕ) (ended : Bool) → isLength k ≡ true → judge k r ended (syncBlock k) ≡ sync-block
+pub judge-sync : (in-use : Bool) (k r : ℕ) (ended : Bool) → isLength k ≡ true → judge in-use k r ended (syncBlock k) ≡ sync-block
 unfolding judge looksSync syncBlock
-judge-sync k r ended h =
+judge-sync in-use k r ended h =
     rw (
       drop-at (serviceSync ++ tens (k / 2)) syncSequence (k + 4) (sync-front k h),
       eq-eqb (number syncSequence)
@@ -147,13 +150,13 @@ pub data Judged : Rule → Type 0 where
   as-other : Judged anything-else
 
 -- what holds of rules 3 to 7 holds of the rule by any service bits
-module _ (P : Rule → Type 0) (some : (x : Rule) → meaning x .data-or-end ≡ true → P x) (none : P anything-else) (k r : ℕ)
-    (ended : Bool) where
-  letter-case : (p : Place) → P (letterRule r p)
-  letter-case expected = cond-case P (ltb r mostItems) (λ e. some _ refl) (λ e. none)
-  letter-case last = some _ refl
-  letter-case next = some _ refl
-  letter-case other = none
+module _ (P : Rule → Type 0) (some : (x : Rule) → meaning x .data-or-end ≡ true → P x) (none : P anything-else)
+    (in-use : Bool) (k r : ℕ) (ended : Bool) where
+  place-case : (p : Place) → P (placeRule r p)
+  place-case expected = cond-case P (ltb r mostItems) (λ e. some _ refl) (λ e. none)
+  place-case last = some _ refl
+  place-case next = some _ refl
+  place-case other = none
 
   end-case : (payload : Bits) → P (endRule k r ended payload)
   unfolding endRule
@@ -164,19 +167,27 @@ module _ (P : Rule → Type 0) (some : (x : Rule) → meaning x .data-or-end ≡
       (number (take 32 (drop 8 payload))) r)
       (λ e. some _ refl) (λ e. some _ refl))
 
-  pub service-case : (service : ℕ) (payload : Bits) → P (serviceRule k r ended service payload)
+  mark-case : (service : ℕ) → P (markRule in-use r ended service)
+  unfolding markRule
+  mark-case service =
+      cond-case P (in-use && isMark service && not ended) (λ e. place-case (place in-use r service)) (λ e. none)
+
+  pub service-case : (service : ℕ) (payload : Bits) → P (serviceRule in-use k r ended service payload)
   unfolding serviceRule
   service-case service payload =
       cond-case P (isLetter service)
-      (λ a. cond-case P ended (λ e. some _ refl) (λ e. letter-case (place r service)))
-      (λ a. cond-case P (eqb service endService) (λ e. end-case payload) (λ e. none))
+      (λ a. cond-case P ended (λ e. some _ refl) (λ e. place-case (place in-use r service)))
+      (λ a. cond-case P (eqb service endService) (λ e. end-case payload) (λ e. mark-case service))
 
-verdict-judged : (k r : ℕ) (ended : Bool) (row : Bits) (v : Verdict) → Judged (verdictRule k r ended row v)
-verdict-judged k r ended row failed = fails
-verdict-judged k r ended row (passed service) =
-    service-case Judged (λ x. as-data) as-other k r ended service (payloadOf k row)
+verdict-judged : (in-use : Bool) (k r : ℕ) (ended : Bool) (row : Bits) (v : Verdict) → Judged (verdictRule in-use k r ended row v)
+verdict-judged in-use k r ended row failed = fails
+verdict-judged in-use k r ended row (passed service) =
+    service-case Judged (λ x. as-data) as-other in-use k r ended service (payloadOf k row)
 
-pub judged : (k r : ℕ) (ended : Bool) (row : Bits) → Judged (judge k r ended row)
+pub judged : (in-use : Bool) (k r : ℕ) (ended : Bool) (row : Bits) → Judged (judge in-use k r ended row)
 unfolding judge
-judged k r ended row =
-    cond-case Judged (looksSync k row) (λ e. as-sync) (λ e. verdict-judged k r ended row (verdict row))
+judged in-use k r ended row =
+    cond-case Judged (looksSync k row) (λ e. as-sync) (λ e. verdict-judged in-use k r ended row (verdict row))
+
+pub block-judged : (s : Receiver) (row : Bits) → Judged (blockRule s row)
+block-judged s = judged (s .setup .marks .«in_use») (s .setup .k) (s .taken) (s .ended)

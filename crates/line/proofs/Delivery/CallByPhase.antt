@@ -58,7 +58,7 @@ module _ (o : Session) (fit : Fit o) (w : World) (l d : ℕ) (copy : Bits) (f : 
       pass o fit w l d copy f line base lent store (ok .store) (ok .line .0) (ok .line .1) (standing e) (length lent)
       (underAlarm r) refl q
       (record {
-        k = base .k;
+        setup = base .receiver-setup;
         array = base .array;
         bad-row = omega arith;
         held = base .held;

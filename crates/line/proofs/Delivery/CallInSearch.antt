@@ -99,7 +99,7 @@ module _ (o : Session) (fit : Fit o) (w : World) (l d : ℕ) (copy : Bits) (f : 
         (0 + length lent) then (omega arith)
         (quiet-unfinished quiet)
         (record {
-          k = base .k;
+          setup = base .receiver-setup;
           array = length-searching r (latest ((earlier ++ line .used) ++ lent)) (base .array);
           bad-row = base .bad-row;
           held = in-range;

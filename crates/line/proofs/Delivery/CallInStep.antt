@@ -1,7 +1,7 @@
 -- A receiving call in step while a block is on the line: the bits are held behind those before, or a rule reads the block.
 -- Assumes nothing.
 use mathlib.Core.Path.{_≡_, refl, ap, ap₂, sym, _∙_, subst}
-use mathlib.Core.Bool.{true, false}
+use mathlib.Core.Bool.{Bool, true, false}
 use mathlib.Core.List.{List, [], _++_}
 use Prim.Native.Nat.{ℕ, _+_, _-_, _<_}
 use native.Mathlib.Omega.{arith}
@@ -13,7 +13,7 @@ use Rattle.crc.specs.Bits.{Bits}
 use Rattle.block.specs.Lengths.{blockLength}
 use Rattle.block.proofs.Lengths.{length-facts}
 use Rattle.block.proofs.Truth.{cond-case}
-use Rattle.line.specs.Receiving.{Rule, unfinished, meaning, judge, Reception, stops, search, holding, missing, finishedRow, inStep, heldInRange}
+use Rattle.line.specs.Receiving.{Rule, unfinished, meaning, judge, blockRule, Reception, stops, search, holding, missing, finishedRow, inStep, heldInRange}
 use Rattle.line.specs.Course.{World}
 use Rattle.line.specs.declared.receiver.Receiver.{Receiver}
 use Rattle.line.specs.declared.receiving.Phase.{Phase}
@@ -46,7 +46,7 @@ module _ (o : Session) (fit : Fit o) (w : World) (l d : ℕ) (copy : Bits) (f : 
         sym (length-heldBits r (base .array) (omega (arith, held-below))) ∙ ap length (line .held .step step)
 
     missing-is : missing r ≡ blockLength (o .k) - length (line .used)
-    missing-is = ap₂ (λ (k h : ℕ). blockLength k - h) (base .k) held-used
+    missing-is = ap₂ (λ (k h : ℕ). blockLength k - h) (base .receiver-setup .k) held-used
 
     step-on : ltb (length lent) (missing r) ≡ true
         → Kept (record { rule = unfinished; row = []; used = length lent; state = holding r lent })
@@ -57,7 +57,7 @@ module _ (o : Session) (fit : Fit o) (w : World) (l d : ℕ) (copy : Bits) (f : 
         (holding r lent) refl
         (quiet-unfinished (ap alarmStands step))
         (record {
-          k = base .k;
+          setup = base .receiver-setup;
           array = length-holding r lent;
           bad-row = base .bad-row;
           held = in-range;
@@ -80,7 +80,7 @@ module _ (o : Session) (fit : Fit o) (w : World) (l d : ℕ) (copy : Bits) (f : 
             (omega (arith, ltb-true (length lent) (missing r) e, missing-is, held-used))
 
     abbrev rule : Rule
-    rule = judge (r .setup .k) (r .taken) (r .ended) (finishedRow r lent)
+    rule = blockRule r (finishedRow r lent)
 
     step-end : ltb (length lent) (missing r) ≡ false
         → Kept (stops r rule (finishedRow r lent) (missing r))
@@ -91,8 +91,10 @@ module _ (o : Session) (fit : Fit o) (w : World) (l d : ℕ) (copy : Bits) (f : 
         let row : finishedRow r lent ≡ copy =
         ap₂ _++_ (line .held .step step) (take-all (missing r) lent (omega (arith, missing-is)))
         ∙ sym (whole-copy o w l d copy f line lent (ok .line .0) (ok .line .1) z) in
-        let same : rule ≡ judge (o .k) (r .taken) (r .ended) copy =
-        ap₂ (λ (k : ℕ) (y : Bits). judge k (r .taken) (r .ended) y) (base .k) row in
+        let same : rule ≡ judge (o .marks .«in_use») (o .k) (r .taken) (r .ended) copy =
+        ap (blockRule r) row
+        ∙ ap₂ (λ (m : Bool) (k : ℕ). judge m k (r .taken) (r .ended) copy) (base .receiver-setup .in-use) (base .receiver-setup .k)
+        in
         finish o fit w l d copy f line base lent store (ok .store) rule (finishedRow r lent)
         (missing r)
         (omega (arith, missing-is, ap length (ok .line .1), length-append lent (ok .line .0), ap length z)) (λ t. row)

@@ -18,7 +18,6 @@ use Rattle.line.specs.Receiving.{arrayBytes, lastBad, Rule, unfinished, 
 use Rattle.line.specs.Course.{World, receiveEntry, receiveAfter}
 use Rattle.line.specs.Delivery.{isItem}
 use Rattle.line.specs.declared.receiver.Receiver.{Receiver}
-use Rattle.line.specs.declared.receiving.Setup.{Setup}
 use Rattle.line.specs.declared.receiving.Phase.{Phase}
 use Rattle.line.specs.declared.receiving.Phase.the-variants as P
 use Rattle.line.specs.declared.receiving.Event.the-variants as E
@@ -28,7 +27,7 @@ use Rattle.line.proofs.Delivery.Progress.{ending, endingWith}
 use Rattle.line.proofs.Delivery.BlockStep.{After, after-is, none-held, held-none}
 use Rattle.line.proofs.Delivery.RuleOnLine.{Ruling}
 use Rattle.line.proofs.Delivery.StoredItem.{store-takes, store-after}
-use Rattle.line.proofs.Delivery.State.{Session, N, Fit, alarmStands, endsOf, Held, Stored, Base, BusyLine, Assumed, Guaranteed, Result}
+use Rattle.line.proofs.Delivery.State.{Session, N, Fit, ReceiverSetup, alarmStands, endsOf, Held, Stored, Base, BusyLine, Assumed, Guaranteed, Result}
 use Rattle.line.proofs.Delivery.State as S
 
 -- ---- a rule that ends no block
@@ -55,7 +54,7 @@ not-danger alarm x q good d =
 
 -- the receiver after such a call, with the bits that are then used
 pub record Still (o : Session) (r t : Receiver) : Type 0 where
-  pub k : t .setup .k ≡ o .k
+  pub setup : ReceiverSetup o (t .setup)
   pub array : length (t .bits) ≡ arrayBytes
   pub bad-row : t .«bad_row» < lastBad
   pub held : heldInRange (t .phase) (blockLength (o .k)) (t .held) ≡ true
@@ -65,7 +64,7 @@ pub record Still (o : Session) (r t : Receiver) : Type 0 where
 
 pub still-same : (o : Session) (w : World) → Base o w → Still o (w .receiver) (w .receiver)
 still-same o w b = record
-    { k = b .k; array = b .array; bad-row = b .bad-row; held = b .held; taken = refl; ended = refl; phase = refl }
+    { setup = b .receiver-setup; array = b .array; bad-row = b .bad-row; held = b .held; taken = refl; ended = refl; phase = refl }
 
 -- what such a call tells
 pub still-told : (o : Session) (w : World) → Base o w → (lent : Bits) (store : List ℕ) → store ≡ w .store
@@ -76,10 +75,9 @@ pub still-told : (o : Session) (w : World) → Base o w → (lent : Bits) (store
 still-told o w base lent store same x n t q s =
     record {
       base = record {
-        sender-k = base .sender-k;
-        sender-L = base .sender-L;
+        sender-setup = base .sender-setup;
         run = base .run;
-        k = s .k;
+        receiver-setup = s .setup;
         array = s .array;
         bad-row = s .bad-row;
         held = s .held;
@@ -177,11 +175,11 @@ module _ (o : Session) (fit : Fit o) (w : World) (l d : ℕ) (copy : Bits) (f : 
     left-state : After (w .receiver) (after (w .receiver) x) (meaning x .stores) (eventKind (meaning x .event))
     left-state = after-is (w .receiver) x (g .ends-block)
 
-    carries : (i : ℕ) → i ≡ w .receiver .taken → row ≡ itemBits (o .k) (o .L) (o .content) i
+    carries : (i : ℕ) → i ≡ w .receiver .taken → row ≡ itemBits (o .marks) (o .k) (o .L) (o .content) i
         → payloadOf (w .receiver .setup .k) row ≡ itemPayload (o .k) (o .L) (o .content) (w .receiver .taken)
     carries i e c =
-        ap₂ payloadOf (base .k) (c ∙ ap (itemBits (o .k) (o .L) (o .content)) e)
-        ∙ payload-itemBits (o .k) (o .L) (o .content) (fit .known) (fit .content) (w .receiver .taken)
+        ap₂ payloadOf (base .receiver-setup .k) (c ∙ ap (itemBits (o .marks) (o .k) (o .L) (o .content)) e)
+        ∙ payload-itemBits (o .k) (o .L) (o .content) (fit .known) (fit .content) (o .marks) (w .receiver .taken)
 
     taking : meaning x .stores ≡ true
         → Stored o (w .receiver .taken + 1)
@@ -191,7 +189,7 @@ module _ (o : Session) (fit : Fit o) (w : World) (l d : ℕ) (copy : Bits) (f : 
         let y = carries (t .0) (t .2) (is-copy e ∙ t .1) in
         let h = store-takes o fit (w .receiver .taken) (w .store) (base .stored) (omega (arith, t .2, t .3)) in
         subst (Stored o (w .receiver .taken + 1))
-        (sym (ap₂ (λ (m : ℕ) (p : Bits). storeAt (w .receiver .taken * m) p store) (base .k) y
+        (sym (ap₂ (λ (m : ℕ) (p : Bits). storeAt (w .receiver .taken * m) p store) (base .receiver-setup .k) y
         ∙ ap (storeAt (w .receiver .taken * o .k) (itemPayload (o .k) (o .L) (o .content) (w .receiver .taken))) same)) h
 
     pub finish : After-call (stops (w .receiver) x row n)
@@ -209,10 +207,9 @@ module _ (o : Session) (fit : Fit o) (w : World) (l d : ℕ) (copy : Bits) (f : 
           });
           guaranteed = record {
             base = record {
-              sender-k = base .sender-k;
-              sender-L = base .sender-L;
+              sender-setup = base .sender-setup;
               run = base .run;
-              k = ap (λ (z : Setup). z .k) (a .setup) ∙ base .k;
+              receiver-setup = subst (ReceiverSetup o) (sym (a .setup)) (base .receiver-setup);
               array = a .array;
               bad-row = a .bad-row;
               held = ap (heldInRange (after (w .receiver) x .phase) (blockLength (o .k))) (a .held)

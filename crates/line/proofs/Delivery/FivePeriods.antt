@@ -41,13 +41,13 @@ module _ (o : Session) (copy : Bits) (n : Next) (reading : Bool) where
   sync-clean c (whole z q) = absurd (let x : _≡_ {A = ℕ} 0 1 = cc in omega arith)
   sync-clean c (damaged z q) = absurd (let x : _≡_ {A = ℕ} 0 1 = cc in omega arith)
 
-  item-clean : (j : ℕ) (end used : Bool) {f : LineBlock} → copy ≡ itemBits (o .k) (o .L) (o .content) j
+  item-clean : (j : ℕ) (end used : Bool) {f : LineBlock} → copy ≡ itemBits (o .marks) (o .k) (o .L) (o .content) j
       → CopyOf o (item j end used false) copy f → Clean o copy n reading f
   item-clean j end used c (syncing z) = absurd (let x : _≡_ {A = ℕ} 0 1 = cc in omega arith)
   item-clean j end used c (whole z q) =
       (λ e. absurd (let x : _≡_ {A = ℕ} 0 1 = cc in omega arith), λ i v e h. let x : 1 ≡ v = cc in sym x)
   item-clean j end used c (damaged z q) =
-      absurd (false≢true (sym q ∙ ap passes c ∙ passes-itemBits (o .k) (o .L) (o .content) j))
+      absurd (false≢true (sym q ∙ ap passes c ∙ passes-itemBits (o .marks) (o .k) (o .L) (o .content) j))
 
   cancelled-clean : (j : ℕ) (end used : Bool) {f : LineBlock} → n ≡ Newer → reading ≡ true
       → CopyOf o (item j end used true) copy f → Clean o copy n reading f
@@ -62,7 +62,7 @@ module _ (o : Session) (copy : Bits) (n : Next) (reading : Bool) where
   )
 
 as-sent-clean : (o : Session) (s : Sender) (copy : Bits) (n : Next) (reading : Bool) {f : LineBlock}
-    → copy ≡ sentBits (o .k) (o .L) (o .content) (transmit s n reading .block)
+    → copy ≡ sentBits (o .marks) (o .k) (o .L) (o .content) (transmit s n reading .block)
     → CopyOf o (transmit s n reading .block) copy f → Clean o copy n reading f
 unfolding transmit sentBits
 as-sent-clean o s copy Sync reading c k = sync-clean o copy Sync reading c k
@@ -92,8 +92,8 @@ module _ (o : Session) (fit : Fit o) where
                 block = b;
                 reading = reading;
                 back = w .receiver .back;
-                plain = plainBits (w .sender .setup .k) (w .sender .setup .length) (orderBits (w .sender .setup .length) order) b;
-                bits = sentBits (w .sender .setup .k) (w .sender .setup .length) (orderBits (w .sender .setup .length) order) b;
+                plain = plainBits (w .sender .setup .marks) (w .sender .setup .k) (w .sender .setup .length) (orderBits (w .sender .setup .length) order) b;
+                bits = sentBits (w .sender .setup .marks) (w .sender .setup .k) (w .sender .setup .length) (orderBits (w .sender .setup .length) order) b;
                 arrives = copy;
                 unused = w .left;
                 order = orderBits (w .sender .setup .length) order;
@@ -135,8 +135,8 @@ module _ (o : Session) (fit : Fit o) where
         zero : lost′ 0 x ≡ 0
         zero = ap (λ (t : Bool). cond {A = ℕ} t 1 0) kept
 
-        bits : sentBits (w .sender .setup .k) (w .sender .setup .length) (orderBits (w .sender .setup .length) order) b ≡ sentBits (o .k) (o .L) (o .content) b
-        bits = rw (ok .order, base .sender-k, base .sender-L)
+        bits : sentBits (w .sender .setup .marks) (w .sender .setup .k) (w .sender .setup .length) (orderBits (w .sender .setup .length) order) b ≡ sentBits (o .marks) (o .k) (o .L) (o .content) b
+        bits = rw (ok .order, base .sender-setup .marks, base .sender-setup .k, base .sender-setup .L)
 
         clean : Clean o copy (w .sender .next) reading (z .line-block)
         clean = as-sent-clean o (w .sender) copy (w .sender .next) reading (u .as-sent ∙ bits) (z .line .copy-of)

@@ -7,7 +7,7 @@ use Prim.Native.Nat.{ℕ, _+_, _*_}
 use native.Mathlib.Omega.{arith}
 use lib.ListN.{length, take}
 use lib.Seq.{length-take-le}
-use borrow.Author.Tests.{ltb-false, le-leb, lt-ltb, eq-eqb}
+use borrow.Author.Tests.{ltb-false, le-leb, eq-eqb}
 use Rattle.crc.specs.Bits.{Bits, bit, bitsOf, xorBits}
 use Rattle.crc.specs.Damage.{Damage}
 use Rattle.crc.proofs.Bytes.{length-bitsOf}
@@ -17,22 +17,22 @@ use Rattle.block.specs.Answer.{Answer, refused, done}
 use Rattle.block.specs.Lengths.{isLength, blockLength}
 use Rattle.block.specs.Calls.{tooShort}
 use Rattle.block.proofs.Truth.{cond-case, or-false, or-no}
-use Rattle.line.specs.Order.{longestOrder, mostItems, validLength, itemCount, orderBits}
+use Rattle.line.specs.Order.{longestOrder, validLength, itemCount, orderBits}
 use Rattle.line.specs.Sending.{Block, transmit, gaveUp, send, senderInRange, plainBits}
-use Rattle.line.specs.Receiving.{meaning, Reception, byPhase, idleRule, idle, reception, receive, receiverInRange, lastBad, heldInRange}
+use Rattle.line.specs.Receiving.{meaning, Reception, byPhase, idleRule, idle, reception, receive, receiverInRange, heldInRange}
 use Rattle.line.specs.Course.{World, Call, sending, receiving, Heard, Entry, receive-refused, onHeard, sendEntry, sendAfter, receiveEntry, receiveAfter, entry, next}
 use Rattle.line.specs.Delivery.{OnlyRefused, isItem, isNew}
 use Rattle.line.specs.declared.sender.Sender.{Sender}
-use Rattle.line.specs.declared.sender.Setup.{Setup}
 use Rattle.line.specs.declared.receiver.Receiver.{Receiver}
 use Rattle.line.proofs.SenderRange.{range-in}
+use Rattle.line.proofs.ReceivingCall.{range-in as receiver-range-in}
 use Rattle.line.proofs.Delivery.Ends.{LineBlock, Basic, Idle, Busy}
 use Rattle.line.proofs.Delivery.Invariant.{send-keeps, read-keeps}
 use Rattle.line.proofs.Delivery.SendStep.{sends-block, setup-kept, run-kept}
 use Rattle.line.proofs.Delivery.RuleOnLine.{few}
 use Rattle.line.proofs.Delivery.CallOnBlock.{quiet-idle, not-danger, still-same, still-told}
 use Rattle.line.proofs.Delivery.CallByPhase.{reception-guaranteed}
-use Rattle.line.proofs.Delivery.State.{Session, N, Fit, alarmStands, endsOf, lost′, danger′, Base, IdleLine, BusyLine, Inv, Assumed, Guaranteed, Done, Result, Stays, Begins, Keeps}
+use Rattle.line.proofs.Delivery.State.{Session, N, Fit, SenderSetup, alarmStands, endsOf, lost′, danger′, Base, IdleLine, BusyLine, Inv, Assumed, Guaranteed, Done, Result, Stays, Begins, Keeps}
 
 -- ---- how a call is answered, its state in range
 
@@ -106,24 +106,28 @@ module _ (o : Session) (fit : Fit o) where
       let b = basic-of w l d h in
       range-in (w .sender)
       (record {
-        known = ap isLength (h .base .sender-k) ∙ fit .known;
-        valid = ap validLength (h .base .sender-L)
+        known = ap isLength (h .base .sender-setup .k) ∙ fit .known;
+        valid = ap validLength (h .base .sender-setup .L)
             ∙ ap₂ _&&_ (le-leb 1 (o .L) (fit .low)) (le-leb (o .L) longestOrder (fit .high));
+        marks = h .base .sender-setup .in-range;
         first = b .low;
-        last = omega (arith, b .high, ap₂ itemCount (h .base .sender-k) (h .base .sender-L));
+        last = omega (arith, b .high, ap₂ itemCount (h .base .sender-setup .k) (h .base .sender-setup .L));
         cancels = h .base .run;
       })
 
   pub receiver-in-range : (w : World) (l d : ℕ) → Inv o w l d → receiverInRange (w .receiver) ≡ true
-  unfolding receiverInRange
   receiver-in-range w l d h =
       let b = basic-of w l d h in
       let few′ = few o fit in
-      ap₂ _&&_
-      (ap₂ _&&_
-      (ap₂ _&&_ (ap isLength (h .base .k) ∙ fit .known) (lt-ltb (w .receiver .«bad_row») lastBad (h .base .bad-row)))
-      (le-leb (w .receiver .taken) mostItems (omega (arith, b .taken, few′))))
-      (ap (λ (k : ℕ). heldInRange (w .receiver .phase) (blockLength k) (w .receiver .held)) (h .base .k) ∙ h .base .held)
+      let s = h .base .receiver-setup in
+      receiver-range-in (w .receiver)
+      (record {
+        known = ap isLength (s .k) ∙ fit .known;
+        marks = s .in-range;
+        bad-row = h .base .bad-row;
+        taken = omega (arith, b .taken, few′);
+        held = ap (λ (k : ℕ). heldInRange (w .receiver .phase) (blockLength k) (w .receiver .held)) (s .k) ∙ h .base .held;
+      })
 
   -- ---- no block on the line
 
@@ -175,7 +179,7 @@ module _ (o : Session) (fit : Fit o) where
       Assumed o (alarmStands (w .receiver .phase)) d (sendEntry w order reading copy b)
       → Begins o w l d copy reading (sendEntry w order reading copy b) (sendAfter w reading copy b)
   idle-sends w l d g base order reading copy fin run ok =
-      let y = sends-block o fit (w .sender) (w .receiver) l d copy (ok .line .1) (base .sender-k) (base .sender-L) fin
+      let y = sends-block o fit (w .sender) (w .receiver) l d copy (ok .line .1) (base .sender-setup) fin
       (g .idle .basic) (w .sender .next) reading (
         subst (λ (p : Bits). Damage (xorBits copy p)) plain (ok .damage),
         (λ c e. ok .not-whole c (e ∙ sym plain)),
@@ -194,10 +198,9 @@ module _ (o : Session) (fit : Fit o) where
           copy-of = y .copy-of;
         };
         guaranteed = unheard-told o w _ _ (λ f. refl) (record {
-          sender-k = ap (λ (s : Setup). s .k) setup ∙ base .sender-k;
-          sender-L = ap (λ (s : Setup). s .length) setup ∙ base .sender-L;
+          sender-setup = subst (SenderSetup o) (sym setup) (base .sender-setup);
           run = run-kept (w .sender) (w .sender .next) reading (base .run) run;
-          k = base .k;
+          receiver-setup = base .receiver-setup;
           array = base .array;
           bad-row = base .bad-row;
           held = base .held;
@@ -208,14 +211,10 @@ module _ (o : Session) (fit : Fit o) where
       setup : transmit (w .sender) (w .sender .next) reading .state .setup ≡ w .sender .setup
       setup = setup-kept (w .sender) (w .sender .next) reading
 
-      plain : plainBits (w .sender .setup .k) (w .sender .setup .length) (orderBits (w .sender .setup .length) order)
-          (transmit (w .sender) (w .sender .next) reading .block)
-          ≡ plainBits (o .k) (o .L) (o .content) (transmit (w .sender) (w .sender .next) reading .block)
-      plain =
-          ap (λ (c : Bits). plainBits (w .sender .setup .k) (w .sender .setup .length) c
-          (transmit (w .sender) (w .sender .next) reading .block)) (ok .order)
-          ∙ ap₂ (λ (k L : ℕ). plainBits k L (o .content) (transmit (w .sender) (w .sender .next) reading .block))
-          (base .sender-k) (base .sender-L)
+      plain : plainBits (w .sender .setup .marks) (w .sender .setup .k) (w .sender .setup .length)
+          (orderBits (w .sender .setup .length) order) (transmit (w .sender) (w .sender .next) reading .block)
+          ≡ plainBits (o .marks) (o .k) (o .L) (o .content) (transmit (w .sender) (w .sender .next) reading .block)
+      plain = rw (ok .order, base .sender-setup .marks, base .sender-setup .k, base .sender-setup .L)
 
   -- ---- a block on the line
 

@@ -73,7 +73,7 @@ module _ (o : Session) (fit : Fit o) (w : World) (l d : ℕ) (copy : Bits) (f : 
     pub reads : ReadBy x (danger-left x) f
     pub length : (M : ℕ) → endingWith M (eventKind (meaning x .event)) ≡ true → M ≡ o .L
     pub takes : meaning x .stores ≡ true
-        → (i : ℕ) × (copy ≡ itemBits (o .k) (o .L) (o .content) i) × (i ≡ r .taken) × (i < N o)
+        → (i : ℕ) × (copy ≡ itemBits (o .marks) (o .k) (o .L) (o .content) i) × (i ≡ r .taken) × (i < N o)
     pub clean : f ≡ LineBlock.sync → copy ≡ syncBlock (o .k) → meaning x .event ≡ E.Sync
 
   during : alarmStands (r .phase) ≡ false → During (endsOf w l d) (w .sender .next)
@@ -136,12 +136,12 @@ module _ (o : Session) (fit : Fit o) (w : World) (l d : ℕ) (copy : Bits) (f : 
 
     -- the rule that reads the block
     abbrev rule : Rule
-    rule = judge (o .k) (r .taken) (r .ended) copy
+    rule = judge (o .marks .«in_use») (o .k) (r .taken) (r .ended) copy
 
     whole-sync : copy ≡ syncBlock (o .k) → rule ≡ sync-block
     whole-sync c =
-        ap (judge (o .k) (r .taken) (r .ended)) c
-        ∙ judge-sync (o .k) (r .taken) (r .ended) (fit .known)
+        ap (judge (o .marks .«in_use») (o .k) (r .taken) (r .ended)) c
+        ∙ judge-sync (o .marks .«in_use») (o .k) (r .taken) (r .ended) (fit .known)
 
     synchronising-read : {x : Rule} → Judged x → x ≡ rule → f ≡ LineBlock.sync → w .block ≡ synchronising
         → meaning x .data-or-end ≡ false → Ruling x
@@ -153,7 +153,7 @@ module _ (o : Session) (fit : Fit o) (w : World) (l d : ℕ) (copy : Bits) (f : 
         other-ruling q z (λ c. let v = whole-sync c in let y : _≡_ {A = ℕ} 0 1 = cc in omega arith)
 
     module _ (i : ℕ) (q : f ≡ LineBlock.item i 1) (good : isItem (w .block) ≡ true)
-        (c : copy ≡ itemBits (o .k) (o .L) (o .content) i) where
+        (c : copy ≡ itemBits (o .marks) (o .k) (o .L) (o .content) i) where
       unharmed-read : (x : Rule) → Unharmed (o .k) (o .L) (r .taken) (r .ended) i x → Ruling x
       unharmed-read x a =
           let u = unharmed-facts a in
@@ -174,17 +174,17 @@ module _ (o : Session) (fit : Fit o) (w : World) (l d : ℕ) (copy : Bits) (f : 
       where
         go : {g : LineBlock} → CopyOf o (w .block) copy g → f ≡ g → Ruling rule
         go (syncing z) q =
-            synchronising-read (judged (o .k) (r .taken) (r .ended) copy) refl q z (sd z)
+            synchronising-read (judged (o .marks .«in_use») (o .k) (r .taken) (r .ended) copy) refl q z (sd z)
         go (whole {i = i} z c) q =
             unharmed-read i q (ap isItem z) c rule
-            (subst (λ (y : Bits). Unharmed (o .k) (o .L) (r .taken) (r .ended) i (judge (o .k) (r .taken) (r .ended) y)) (sym c)
-            (judge-item (o .k) (o .L) (o .content) (fit .known) (fit .low) (fit .high) (fit .content) (r .taken) (r .ended) i
+            (subst (λ (y : Bits). Unharmed (o .k) (o .L) (r .taken) (r .ended) i (judge (o .marks .«in_use») (o .k) (r .taken) (r .ended) y)) (sym c)
+            (judge-item (o .marks) (o .k) (o .L) (o .content) (fit .known) (fit .low) (fit .high) (fit .content) (r .taken) (r .ended) i
             (few o fit) (neighbour (rw q at (line .busy)) (ap bit quiet))))
         go (damaged {i = i} z p) q =
             ⊎-elim
             (λ y. absurd (not-item z (so (ap (λ (x : Rule). meaning x .event) y))))
             (λ y. subst Ruling (sym y) (fails-ruling (inr (i, q)) (λ a b. not-sync q a)))
-            (judge-fails (o .k) (r .taken) (r .ended) copy p)
+            (judge-fails (o .marks .«in_use») (o .k) (r .taken) (r .ended) copy p)
 
   -- a synchronising block on the line is one at block level
   pub sync-line-block : w .block ≡ synchronising → f ≡ LineBlock.sync

@@ -23,17 +23,17 @@ use Rattle.line.specs.declared.receiver.Receiver.{Receiver}
 use Rattle.line.proofs.Items.{length-itemBits, passes-itemBits}
 use Rattle.line.proofs.Delivery.Ends.{LineBlock, Sends, SameReceiver, Basic}
 use Rattle.line.proofs.Delivery.Ends as D
-use Rattle.line.proofs.Delivery.State.{Session, N, Fit, alarmStands, ends, CopyOf, syncing, whole, damaged}
+use Rattle.line.proofs.Delivery.State.{Session, N, Fit, SenderSetup, alarmStands, ends, CopyOf, syncing, whole, damaged}
 
 -- a copy of an item is the item, or it fails the check
 pub arrival : (o : Session) → Fit o → (i : ℕ) (copy : Bits) → length copy ≡ blockLength (o .k)
-    → Damage (xorBits copy (itemBits (o .k) (o .L) (o .content) i))
-    → (copy ≡ itemBits (o .k) (o .L) (o .content) i) ⊎ (passes copy ≡ false)
+    → Damage (xorBits copy (itemBits (o .marks) (o .k) (o .L) (o .content) i))
+    → (copy ≡ itemBits (o .marks) (o .k) (o .L) (o .content) i) ⊎ (passes copy ≡ false)
 arrival o fit i copy long damage =
     ⊎-elim
-    (λ e. inl (damaged-passes copy (itemBits (o .k) (o .L) (o .content) i)
-    (long ∙ sym (length-itemBits (o .k) (o .L) (o .content) (fit .known) (fit .content) i)) damage
-    (passes-itemBits (o .k) (o .L) (o .content) i) e))
+    (λ e. inl (damaged-passes copy (itemBits (o .marks) (o .k) (o .L) (o .content) i)
+    (long ∙ sym (length-itemBits (o .k) (o .L) (o .content) (fit .known) (fit .content) (o .marks) i)) damage
+    (passes-itemBits (o .marks) (o .k) (o .L) (o .content) i) e))
     inr
     (either (passes copy))
 
@@ -73,16 +73,16 @@ pub record SendsBlock (o : Session) (s : Sender) (r : Receiver) (l d : ℕ) (n :
 
 module _ (o : Session) (fit : Fit o) (s : Sender) (r : Receiver) (l d : ℕ) (copy : Bits)
     (long : length copy ≡ blockLength (o .k))
-    (same-k : s .setup .k ≡ o .k) (same-L : s .setup .length ≡ o .L) (going : s .finished ≡ false)
+    (same : SenderSetup o (s .setup)) (going : s .finished ≡ false)
     (basic : Basic (N o) (ends s r l d)) where
   abbrev Supposed : Transmission → Bool → Type 0
   Supposed x reading =
-      Damage (xorBits copy (plainBits (o .k) (o .L) (o .content) (x .block)))
-      × (isCancelled (x .block) ≡ true → copy ≡ plainBits (o .k) (o .L) (o .content) (x .block) → ⊥)
+      Damage (xorBits copy (plainBits (o .marks) (o .k) (o .L) (o .content) (x .block)))
+      × (isCancelled (x .block) ≡ true → copy ≡ plainBits (o .marks) (o .k) (o .L) (o .content) (x .block) → ⊥)
       × (lostBy (x .block) r reading ≡ true → alarmStands (r .phase) ≡ false → d ≡ 0)
 
   items : itemCount (s .setup .k) (s .setup .length) ≡ N o
-  items = ap₂ itemCount same-k same-L
+  items = ap₂ itemCount (same .k) (same .L)
 
   -- ---- the older item
 

@@ -10,13 +10,17 @@ use Rattle.crc.specs.Bits.{Bits, bit, bitsOf}
 use Rattle.crc.specs.Check.{passes}
 use Rattle.block.specs.Lengths.{isLength, blockLength}
 use Rattle.block.specs.Block.{syncBlock}
+use Rattle.line.specs.Marks.{marksInRange}
 use Rattle.line.specs.Order.{longestOrder, itemCount, filled, itemBits}
 use Rattle.line.specs.Sending.{Block, synchronising, item, lastRun}
 use Rattle.line.specs.Receiving.{arrayBytes, lastBad, heldBits, latest, heldInRange}
 use Rattle.line.specs.Course.{World, Entry}
 use Rattle.line.specs.Delivery.{OnLine, SameOrder, SameStore, Admitted, NotWhole, SyncAtLast, SyncNotData, OnlyRefused, isNew, isEnd, isAlarm, isLost, isGood, reportsEnd}
+use Rattle.line.specs.declared.marks.Marks.{Marks}
 use Rattle.line.specs.declared.sender.Sender.{Sender}
+use Rattle.line.specs.declared.sender.Setup as S
 use Rattle.line.specs.declared.receiver.Receiver.{Receiver}
+use Rattle.line.specs.declared.receiving.Setup as R
 use Rattle.line.specs.declared.receiving.Phase.{Phase}
 use Rattle.line.specs.declared.receiving.Phase.the-variants as P
 use Rattle.line.specs.declared.receiving.Event.{Event}
@@ -24,8 +28,9 @@ use Rattle.line.specs.declared.receiving.Event.the-variants as E
 use Rattle.line.proofs.Delivery.Ends.{Ends, LineBlock, Sends, Reads, Idle, Busy}
 use Rattle.line.proofs.Delivery.Progress.{isNewOrEnd}
 
--- what a session is about: k, L, the order's bits, and the store as first lent
+-- what a session is about: the marks that the sender sends, k, L, the order's bits, and the store as first lent
 pub record Session : Type 0 where
+  pub marks : Marks
   pub k : ℕ
   pub L : ℕ
   pub content : Bits
@@ -96,12 +101,24 @@ pub record Stored (o : Session) (taken : ℕ) (store : List ℕ) : Type 0 where
   pub rest : drop (taken * o .k) (bitsOf store) ≡ drop (taken * o .k) (bitsOf (o .initialStore))
   pub size : length store ≡ length (o .initialStore)
 
+-- what opening fixed at each end
+pub record SenderSetup (o : Session) (setup : S.Setup) : Type 0 where
+  pub marks : setup .marks ≡ o .marks
+  pub in-range : marksInRange (setup .marks) ≡ true
+  pub k : setup .k ≡ o .k
+  pub L : setup .length ≡ o .L
+
+-- the receiver's code size need not be the sender's
+pub record ReceiverSetup (o : Session) (setup : R.Setup) : Type 0 where
+  pub in-use : setup .marks .«in_use» ≡ o .marks .«in_use»
+  pub in-range : marksInRange (setup .marks) ≡ true
+  pub k : setup .k ≡ o .k
+
 -- what was opened, the ranges that the numbers of the ends leave open, and the store
 pub record Base (o : Session) (w : World) : Type 0 where
-  pub sender-k : w .sender .setup .k ≡ o .k
-  pub sender-L : w .sender .setup .length ≡ o .L
+  pub sender-setup : SenderSetup o (w .sender .setup)
   pub run : w .sender .run ≤ lastRun
-  pub k : w .receiver .setup .k ≡ o .k
+  pub receiver-setup : ReceiverSetup o (w .receiver .setup)
   pub array : length (w .receiver .bits) ≡ arrayBytes
   pub bad-row : w .receiver .«bad_row» < lastBad
   pub held : heldInRange (w .receiver .phase) (blockLength (o .k)) (w .receiver .held) ≡ true
@@ -111,7 +128,7 @@ pub record Base (o : Session) (w : World) : Type 0 where
 pub data CopyOf (o : Session) (block : Block) (copy : Bits) : LineBlock → Type 0 where
   syncing : block ≡ synchronising → CopyOf o block copy LineBlock.sync
   whole : {i : ℕ} {end used cancelled : Bool} → block ≡ item i end used cancelled
-      → copy ≡ itemBits (o .k) (o .L) (o .content) i → CopyOf o block copy (LineBlock.item i 1)
+      → copy ≡ itemBits (o .marks) (o .k) (o .L) (o .content) i → CopyOf o block copy (LineBlock.item i 1)
   damaged : {i : ℕ} {end used cancelled : Bool} → block ≡ item i end used cancelled → passes copy ≡ false
       → CopyOf o block copy (LineBlock.item i 0)
 

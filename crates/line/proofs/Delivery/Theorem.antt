@@ -1,7 +1,7 @@
 -- Demand 3 holds. Assumes nothing.
 use mathlib.Core.Path.{_≡_, refl, ap, sym, _∙_, subst, subst₂}
 use mathlib.Core.Logic.{inl, ⊎-elim}
-use mathlib.Core.Bool.{Bool, true, false, _||_}
+use mathlib.Core.Bool.{Bool, true, false, not, _||_}
 use mathlib.Core.List.{List, [], _∷_, _++_}
 use mathlib.Core.Option.{Option}
 use native.Mathlib.Omega.{arith}
@@ -9,12 +9,21 @@ use native.Mathlib.Nat.{zero-mul}
 use Prim.Native.Nat.{ℕ, _*_, _≤_}
 use lib.ListN.{length, take, drop}
 use Rattle.crc.specs.Bits.{bit, bitsOf}
+use borrow.Author.Tests.{not-false}
+use Rattle.block.specs.Answer as A
+use Rattle.block.specs.Answer.{done}
+use Rattle.block.specs.Lengths.{isLength}
+use Rattle.block.proofs.Refusals.{passed-test}
 use Rattle.block.proofs.Truth.{or-true, or-yes, bit-true}
+use Rattle.line.specs.Refusals as Refusals
+use Rattle.line.specs.Marks.{marksOf, marksInRange}
 use Rattle.line.specs.Order.{filled, orderBits}
 use Rattle.line.specs.Sending.{freshSender}
-use Rattle.line.specs.Receiving.{withLength, freshReceiver, openedReceiver, openingAnswer, OpenReceiver}
+use Rattle.line.specs.Receiving.{withLength, freshReceiver, openReceiver, openedReceiver, openingAnswer, OpenReceiver}
 use Rattle.line.specs.Course.{Call, World, opened, Entry, course, final}
 use Rattle.line.specs.Delivery.{All, some, kindOf, isEnd, isLost, reportsEnd, accepted, Period, group, Undisturbed, brings, Assumptions, Guarantees, Openings, Delivery}
+use Rattle.line.specs.declared.marks.CodeSize.{CodeSize}
+use Rattle.line.specs.declared.marks.Marks.{Marks}
 use Rattle.line.specs.declared.sender.Sender.{Sender}
 use Rattle.line.specs.declared.receiver.Receiver.{Receiver}
 use Rattle.line.specs.declared.receiver.Opened as ReceiverOpened
@@ -33,23 +42,37 @@ use Rattle.line.proofs.Delivery.Answers.{answers}
 
 -- ---- the openings
 
-receiver-opens : (k : ℕ) (o : ReceiverOpened.Opened) → OpenReceiver k o → o .answer ≡ Opening.Opened → o .state ≡ freshReceiver k
-receiver-opens k o h e = h .state ∙ ap (openedReceiver k) (sym (sym (ap openingAnswer e) ∙ h .answers))
+-- what holds if a receiver is opened
+record ReceiverOpens (k : ℕ) (size : CodeSize) (r : Receiver) : Type 0 where
+  in-range : marksInRange (marksOf size) ≡ true
+  state : r ≡ freshReceiver k (marksOf size)
+
+receiver-opens : (k : ℕ) (size : CodeSize) (o : ReceiverOpened.Opened) → OpenReceiver k size o → o .answer ≡ Opening.Opened
+    → ReceiverOpens k size (o .state)
+unfolding openReceiver
+receiver-opens k size o h e =
+    let a : openReceiver k size ≡ done tt = sym (sym (ap openingAnswer e) ∙ h .answers) in
+    let p = passed-test (not (isLength k)) A.block _ tt a in
+    let q = passed-test (not (marksInRange (marksOf size))) Refusals.code-size _ tt (p .1) in
+    record {
+      in-range = not-false (marksInRange (marksOf size)) (q .0);
+      state = h .state ∙ ap (openedReceiver k size) a;
+    }
 
 -- ---- both ends just opened
 
-module _ (o : Session) where
+-- the receiver's marks are in use where the sender's are
+module _ (o : Session) (m : Marks) (in-use : m .«in_use» ≡ o .marks .«in_use») where
   abbrev start : World
-  start = opened (freshSender (o .k) (o .L)) (freshReceiver (o .k)) (o .initialStore)
+  start = opened (freshSender (o .k) (o .L) (o .marks)) (freshReceiver (o .k) m) (o .initialStore)
 
-  start-base : Base o start
+  start-base : marksInRange (o .marks) ≡ true → marksInRange m ≡ true → Base o start
   unfolding freshSender freshReceiver
-  start-base =
+  start-base sender-in-range receiver-in-range =
       record {
-        sender-k = refl;
-        sender-L = refl;
+        sender-setup = record { marks = refl; in-range = sender-in-range; k = refl; L = refl };
         run = omega arith;
-        k = refl;
+        receiver-setup = record { in-use = in-use; in-range = receiver-in-range; k = refl };
         array = length-zeroArray;
         bad-row = omega arith;
         held = refl;
@@ -68,7 +91,7 @@ module _ (o : Session) where
   start-idle =
       record {
         left = refl;
-        held = held-none (freshReceiver (o .k)) refl;
+        held = held-none (freshReceiver (o .k) m) refl;
         idle = opened-idle (N o) (endsOf start 0 0) refl refl refl refl refl refl refl refl refl refl refl refl;
       }
 
@@ -150,13 +173,16 @@ module _ (o : Session) (fit : Fit o) (calls : List Call) (w : World) (base : Bas
 
 -- ---- from the openings
 
-module _ (k speed loop-ms L : ℕ) (order : List ℕ) (s : Sender) (r : ReceiverOpened.Opened) (initialStore : List ℕ)
-    (h : Openings k speed loop-ms L order s r initialStore) where
-  pub opened-well : Openable k L order s
-  opened-well = sender-opened k speed loop-ms L order s (sym (h .sender .answers))
+module _ (k speed loop-ms L : ℕ) (senderSize receiverSize : CodeSize) (order : List ℕ) (s : Sender) (r : ReceiverOpened.Opened)
+    (initialStore : List ℕ) (h : Openings k speed loop-ms L senderSize receiverSize order s r initialStore) where
+  pub opened-well : Openable k L senderSize order s
+  opened-well = sender-opened k speed loop-ms L senderSize order s (sym (h .sender .answers))
+
+  receiver-well : ReceiverOpens k receiverSize (r .state)
+  receiver-well = receiver-opens k receiverSize r (h .receiver) (h .not-refused)
 
   abbrev session : Session
-  session = record { k = k; L = L; content = orderBits L order; initialStore = initialStore }
+  session = record { marks = marksOf senderSize; k = k; L = L; content = orderBits L order; initialStore = initialStore }
 
   fit : Fit session
   fit =
@@ -169,30 +195,39 @@ module _ (k speed loop-ms L : ℕ) (order : List ℕ) (s : Sender) (r : Receiver
       }
 
   -- the ends as opened are fresh
-  from-fresh : (P : World → Type 0) → P (start session) → P (opened s (r .state) initialStore)
+  abbrev fresh : World
+  fresh = start session (marksOf receiverSize) (sym (h .alike))
+
+  from-fresh : (P : World → Type 0) → P fresh → P (opened s (r .state) initialStore)
   from-fresh P =
-      subst₂ (λ (a : Sender) (b : Receiver). P (opened a b initialStore)) (sym (opened-well .state))
-      (sym (receiver-opens k r (h .receiver) (h .not-refused)))
+      subst₂ (λ (a : Sender) (b : Receiver). P (opened a b initialStore)) (sym (opened-well .state)) (sym (receiver-well .state))
+
+  fresh-base : Base session fresh
+  fresh-base = start-base session (marksOf receiverSize) (sym (h .alike)) (opened-well .marks) (receiver-well .in-range)
+
+  fresh-idle : IdleLine session fresh 0 0
+  fresh-idle = start-idle session (marksOf receiverSize) (sym (h .alike))
+
+  fresh-clear : (fresh .receiver .taken ≡ 0) × (fresh .receiver .ended ≡ false) × (alarmStands (fresh .receiver .phase) ≡ false)
+  fresh-clear = start-clear session (marksOf receiverSize) (sym (h .alike))
 
   pub guaranteed : (calls : List Call) → Assumptions k (orderBits L order) (course (opened s (r .state) initialStore) calls)
       → Guarantees k L (orderBits L order) initialStore (course (opened s (r .state) initialStore) calls) (final (opened s (r .state) initialStore) calls)
   guaranteed calls =
       from-fresh
       (λ w. Assumptions k (orderBits L order) (course w calls) → Guarantees k L (orderBits L order) initialStore (course w calls) (final w calls))
-      (guarantees-from session fit calls (start session) (start-base session) (start-idle session)
-      (start-clear session .0) (start-clear session .1) (start-clear session .2))
+      (guarantees-from session fit calls fresh fresh-base fresh-idle (fresh-clear .0) (fresh-clear .1) (fresh-clear .2))
 
   pub five : (calls : List Call) → Assumptions k (orderBits L order) (course (opened s (r .state) initialStore) calls)
       → FivePeriods k (course (opened s (r .state) initialStore) calls)
   five calls =
       from-fresh (λ w. Assumptions k (orderBits L order) (course w calls) → FivePeriods k (course w calls))
-      (five-from session fit calls (start session) (start-base session) (start-idle session)
-      (start-clear session .0) (start-clear session .1) (start-clear session .2))
+      (five-from session fit calls fresh fresh-base fresh-idle (fresh-clear .0) (fresh-clear .1) (fresh-clear .2))
 
 pub delivery : Delivery
 unfolding Delivery
-delivery k speed loop-ms L order s r initialStore h calls run =
+delivery k speed loop-ms L senderSize receiverSize order s r initialStore h calls run =
     record {
       answers = answers run (opened s (r .state) initialStore) refl refl;
-      guarantees = guaranteed k speed loop-ms L order s r initialStore h calls;
+      guarantees = guaranteed k speed loop-ms L senderSize receiverSize order s r initialStore h calls;
     }

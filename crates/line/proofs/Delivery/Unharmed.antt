@@ -12,25 +12,26 @@ use Rattle.block.specs.Block.{syncBlock}
 use Rattle.block.proofs.Block.{sync-fails}
 use Rattle.line.specs.Order.{longestOrder, itemService, itemPayload, itemBits}
 use Rattle.line.specs.Receiving.{Rule, sync-block, meaning, serviceRule, judge}
+use Rattle.line.specs.declared.marks.Marks.{Marks}
 use Rattle.line.proofs.Delivery.BlockRules.{item-read, judge-sync, service-case}
 
-service-not-one : (k r : ℕ) (ended : Bool) (service : ℕ) (payload : Bits)
-    → serviceRule k r ended service payload ≡ sync-block → ⊥
+service-not-one : (in-use : Bool) (k r : ℕ) (ended : Bool) (service : ℕ) (payload : Bits)
+    → serviceRule in-use k r ended service payload ≡ sync-block → ⊥
 service-not-one =
     service-case (λ (x : Rule). x ≡ sync-block → ⊥)
     (λ x d q. true≢false (sym d ∙ ap (λ (y : Rule). meaning y .data-or-end) q))
     (λ q. let v : _≡_ {A = ℕ} 0 1 = cc in omega arith)
 
 -- an item is never read by rule 1
-pub item-not-one : (k L : ℕ) (content : Bits) → isLength k ≡ true → 1 ≤ L → L ≤ longestOrder → length content ≡ L
-    → (r : ℕ) (ended : Bool) (i : ℕ) → judge k r ended (itemBits k L content i) ≡ sync-block → ⊥
-item-not-one k L content known low high long r ended i e =
-    service-not-one k r ended (itemService k L i) (itemPayload k L content i)
-    (sym (item-read k L content known low high long r ended i) ∙ e)
+pub item-not-one : (m : Marks) (k L : ℕ) (content : Bits) → isLength k ≡ true → 1 ≤ L → L ≤ longestOrder → length content ≡ L
+    → (r : ℕ) (ended : Bool) (i : ℕ) → judge (m .«in_use») k r ended (itemBits m k L content i) ≡ sync-block → ⊥
+item-not-one m k L content known low high long r ended i e =
+    service-not-one (m .«in_use») k r ended (itemService m k L i) (itemPayload k L content i)
+    (sym (item-read m k L content known low high long r ended i) ∙ e)
 
 -- a synchronising block fails the check, and is read by rule 1 alone
-pub sync-not-read : (k r : ℕ) (ended : Bool) → isLength k ≡ true
-    → (passes (syncBlock k) ≡ false) × (judge k r ended (syncBlock k) ≡ sync-block)
-    × (meaning (judge k r ended (syncBlock k)) .data-or-end ≡ false)
-sync-not-read k r ended known =
-    (sync-fails k known, judge-sync k r ended known, ap (λ (x : Rule). meaning x .data-or-end) (judge-sync k r ended known))
+pub sync-not-read : (in-use : Bool) (k r : ℕ) (ended : Bool) → isLength k ≡ true
+    → (passes (syncBlock k) ≡ false) × (judge in-use k r ended (syncBlock k) ≡ sync-block)
+    × (meaning (judge in-use k r ended (syncBlock k)) .data-or-end ≡ false)
+sync-not-read in-use k r ended known =
+    (sync-fails k known, judge-sync in-use k r ended known, ap (λ (x : Rule). meaning x .data-or-end) (judge-sync in-use k r ended known))

@@ -16,6 +16,7 @@ use Rattle.line.specs.Order.{itemCount, filled, orderBits}
 use Rattle.line.specs.Receiving.{withLength}
 use Rattle.line.specs.Course.{Call, World, opened, Entry, course, final}
 use Rattle.line.specs.Delivery.{some, kindOf, isEnd, reportsEnd, accepted, Assumptions, Guarantees, Openings}
+use Rattle.line.specs.declared.marks.CodeSize.{CodeSize}
 use Rattle.line.specs.declared.sender.Sender.{Sender}
 use Rattle.line.specs.declared.receiver.Opened as ReceiverOpened
 use Rattle.block.proofs.Lengths.{length-facts}
@@ -66,8 +67,8 @@ same-bytes m s t a b e =
 
 -- ---- from the openings
 
-module _ (k speed loop-ms L : ℕ) (order : List ℕ) (s : Sender) (r : ReceiverOpened.Opened) (initialStore : List ℕ)
-    (h : Openings k speed loop-ms L order s r initialStore) (calls : List Call) where
+module _ (k speed loop-ms L : ℕ) (senderSize receiverSize : CodeSize) (order : List ℕ) (s : Sender) (r : ReceiverOpened.Opened)
+    (initialStore : List ℕ) (h : Openings k speed loop-ms L senderSize receiverSize order s r initialStore) (calls : List Call) where
   abbrev start : World
   start = opened s (r .state) initialStore
 
@@ -75,9 +76,9 @@ module _ (k speed loop-ms L : ℕ) (order : List ℕ) (s : Sender) (r : Receiver
   pub delivered-order : Assumptions k (orderBits L order) (course start calls) → some isEnd (course start calls) ≡ true
       → take L (bitsOf (final start calls .store)) ≡ take L (bitsOf order)
   delivered-order a e =
-      let o = opened-well k speed loop-ms L order s r initialStore h in
+      let o = opened-well k speed loop-ms L senderSize receiverSize order s r initialStore h in
       all-stored k L (orderBits L order) initialStore (course start calls) (final start calls) (omega (arith, length-facts k (o .known)))
-      (length-orderBits L order (o .lent)) (guaranteed k speed loop-ms L order s r initialStore h calls a) e
+      (length-orderBits L order (o .lent)) (guaranteed k speed loop-ms L senderSize receiverSize order s r initialStore h calls a) e
 
   -- and where L is a whole number of bytes, its first bytes are the order's
   pub delivered-bytes : (m : ℕ) → L ≡ 8 * m → ((i : ℕ) → getD (final start calls .store) i 0 < 256)

@@ -1,7 +1,7 @@
 -- What a call reads is what its first bits come to and then the others, in every phase. Assumes nothing.
 use mathlib.Core.Path.{_≡_, refl, ap, ap₂, sym, _∙_, subst}
 use mathlib.Core.Logic.{_⊎_, inl, inr, ⊎-elim}
-use mathlib.Core.Bool.{Bool, true, false, _&&_}
+use mathlib.Core.Bool.{Bool, true, false}
 use mathlib.Core.List.{[], _∷_, _++_, append-nil}
 use native.Mathlib.Omega.{arith}
 use Prim.Native.Nat.{ℕ, _+_, _≤_, _<_}
@@ -10,8 +10,7 @@ use lib.ListN.{length, length-append}
 use borrow.Author.Tests.{ltb-true, ltb-false, lt-ltb, le-leb}
 use Rattle.crc.specs.Bits.{Bits}
 use Rattle.block.specs.Lengths.{blockLength}
-use Rattle.line.specs.Order.{mostItems}
-use Rattle.line.specs.Receiving.{arrayBytes, lastBad, Rule, standing, meaning, heldBits, Reception, searching, search, holding, missing, finishedRow, inStep, underAlarm, alarmReception, byPhase, idleRule, idle, reception, heldInRange, receiverInRange}
+use Rattle.line.specs.Receiving.{arrayBytes, Rule, standing, meaning, heldBits, Reception, searching, search, holding, missing, finishedRow, inStep, underAlarm, alarmReception, byPhase, idleRule, idle, reception, heldInRange, receiverInRange}
 use Rattle.line.specs.Pieces.{addUsed}
 use Rattle.line.specs.declared.receiver.Receiver.{Receiver}
 use Rattle.line.specs.declared.receiving.Phase.{Phase}
@@ -19,9 +18,9 @@ use Rattle.line.specs.declared.receiving.Phase.the-variants as P
 use Rattle.line.specs.declared.receiving.Event.{Event}
 use Rattle.line.specs.declared.receiving.Event.the-variants as E
 use Rattle.line.proofs.InStepBits.{held-on, step-on, step-done}
-use Rattle.line.proofs.ReceivingCall.{InRange, held-search, reception-some}
+use Rattle.line.proofs.ReceivingCall.{InRange, range-in, held-search, reception-some}
 use Rattle.block.proofs.Truth.{either}
-use Rattle.line.proofs.Delivery.BlockRules.{judged}
+use Rattle.line.proofs.Delivery.BlockRules.{block-judged}
 use Rattle.line.proofs.Delivery.WrittenBits.{length-heldBits, heldBits-searching}
 use Rattle.line.proofs.Pieces.Search.{Passed, Found, unfound, search-splits, search-addUsed}
 use Rattle.line.proofs.Pieces.Step.{step-addUsed, step-within, judged-event}
@@ -46,11 +45,6 @@ pub record Within (s : Receiver) (a : Bits) (x : Reception) : Type 0 where
 
 abbrev pub Splits : Receiver → Bits → Reception → Type 0
 Splits s a x = Onward s a x ⊎ Within s a x
-
-range-in : (s : Receiver) → InRange s → receiverInRange s ≡ true
-unfolding receiverInRange
-range-in s r =
-    ap₂ _&&_ (ap₂ _&&_ (ap₂ _&&_ (r .known) (lt-ltb (s .«bad_row») lastBad (r .bad-row))) (le-leb (s .taken) mostItems (r .taken))) (r .held)
 
 reads-some : (s : Receiver) (p : Phase) → s .phase ≡ p → (b : Bool) (bs : Bits) → reads s (b ∷ bs) ≡ byPhase s p (b ∷ bs)
 reads-some s p e b bs = sym (reception-some s [] (b ∷ bs) (length (b ∷ bs)) (λ z. absurd (omega arith)) p e)
@@ -107,6 +101,7 @@ module _ (s : Receiver) (r : InRange s) (array : length (s .bits) ≡ arrayBytes
               used = omega arith;
               range = range-in (searching s (p .then)) (record {
                 known = r .known;
+                marks = r .marks;
                 bad-row = r .bad-row;
                 taken = r .taken;
                 held = ap (λ (q : Phase). heldInRange q (blockLength (s .setup .k)) (length (p .then))) e
@@ -126,7 +121,7 @@ module _ (s : Receiver) (r : InRange s) (array : length (s .bits) ≡ arrayBytes
         complete h =
             record {
               event = ap (λ (x : Reception). meaning (x .rule) .uses-all) (step-done s a h)
-                  ∙ judged-event (judged (s .setup .k) (s .taken) (s .ended) (finishedRow s a));
+                  ∙ judged-event (block-judged s (finishedRow s a));
               more = λ b. reads-some s P.InStep e c (cs ++ b) ∙ step-within s a b h;
             }
 
@@ -147,6 +142,7 @@ module _ (s : Receiver) (r : InRange s) (array : length (s .bits) ≡ arrayBytes
               used = refl;
               range = range-in (holding s a) (record {
                 known = r .known;
+                marks = r .marks;
                 bad-row = r .bad-row;
                 taken = r .taken;
                 held = ap (λ (q : Phase). heldInRange q (blockLength (s .setup .k)) (s .held + length a)) e
@@ -166,6 +162,7 @@ module _ (s : Receiver) (r : InRange s) (array : length (s .bits) ≡ arrayBytes
           used = refl;
           range = range-in (underAlarm s) (record {
             known = r .known;
+            marks = r .marks;
             bad-row = omega arith;
             taken = r .taken;
             held = r .held;

@@ -13,12 +13,12 @@ use Rattle.crc.specs.Bits.{Bits, bitsOf, bytesOf}
 use Rattle.crc.proofs.Bytes.{length-bitsOf, bitsOf-bytesOf-exact}
 use Rattle.block.specs.Lengths.{isLength}
 use Rattle.block.proofs.Lengths.{length-facts}
-use Rattle.line.specs.Receiving.{arrayBytes, Rule, unfinished, standing, sequence-found, sync-block, check-fails, accepts, previous, out-of-sequence, ends, wrong-length, ends-again, anything-else, meaning, judge, heldBits, stops, overwrite, holding, missing, finishedRow, inStep}
+use Rattle.line.specs.Receiving.{arrayBytes, Rule, unfinished, standing, sequence-found, sync-block, check-fails, accepts, previous, out-of-sequence, ends, wrong-length, ends-again, anything-else, meaning, blockRule, heldBits, stops, overwrite, holding, missing, finishedRow, inStep}
 use Rattle.line.specs.Pieces.{addUsed}
 use Rattle.line.specs.declared.receiver.Receiver.{Receiver}
 use Rattle.line.proofs.InStepBits.{step-on, step-done}
 use Rattle.block.proofs.Truth.{either}
-use Rattle.line.proofs.Delivery.BlockRules.{Judged, as-sync, fails, as-data, as-other, judged}
+use Rattle.line.proofs.Delivery.BlockRules.{Judged, as-sync, fails, as-data, as-other, block-judged}
 use Rattle.line.proofs.Delivery.WrittenBits.{length-overwrite, take-overwrite, drop-overwrite, heldBits-holding}
 use Rattle.line.proofs.Delivery.BitByBit.{after-holding}
 
@@ -91,19 +91,19 @@ module _ (s : Receiver) (array : length (s .bits) ≡ arrayBytes) (known : isLen
       complete l =
           let n : missing s ≡ length a + missing (holding s a) = omega arith in
           let row : Bits = finishedRow (holding s a) b in
-          let rule : Rule = judge (s .setup .k) (s .taken) (s .ended) row in
+          let rule : Rule = blockRule s row in
           step-done s (a ++ b) (omega (arith, length-append a b))
-          ∙ ap₂ (λ (x : Bits) (m : ℕ). stops s (judge (s .setup .k) (s .taken) (s .ended) x) x m)
+          ∙ ap₂ (λ (x : Bits) (m : ℕ). stops s (blockRule s x) x m)
           (sym (finishedRow-again s array a room b (omega arith))) n
           ∙ ap (λ (t : Receiver). record { rule = rule; row = row; used = length a + missing (holding s a); state = t })
-          (sym (after-holding s a (judged (s .setup .k) (s .taken) (s .ended) row)))
+          (sym (after-holding s a (block-judged s row)))
           ∙ ap (addUsed (length a)) (sym (step-done (holding s a) b l))
 
 -- a block is complete, and bits behind it change nothing
 pub step-within : (s : Receiver) (a b : Bits) → missing s ≤ length a → inStep s (a ++ b) ≡ inStep s a
 step-within s a b h =
     step-done s (a ++ b) (omega (arith, length-append a b))
-    ∙ ap (λ (x : Bits). stops s (judge (s .setup .k) (s .taken) (s .ended) (heldBits s ++ x)) (heldBits s ++ x) (missing s))
+    ∙ ap (λ (x : Bits). stops s (blockRule s (heldBits s ++ x)) (heldBits s ++ x) (missing s))
     (take-append-le (missing s) a b h)
     ∙ sym (step-done s a h)
 

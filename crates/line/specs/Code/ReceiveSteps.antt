@@ -16,8 +16,12 @@ use Rattle.line.specs.declared.head.HeadStep.{HeadStep}
 use Rattle.line.specs.declared.window.Window.{Window}
 use Rattle.line.specs.declared.rules.Rule as D
 use Rattle.line.specs.declared.rules.Rule.the-variants as C
+use Rattle.line.specs.declared.marks.CodeSize.the-variants as Size
+use Rattle.line.specs.declared.receiver.Opened.{Opened}
+use Rattle.line.specs.declared.receiver.Opening.the-variants as O
+use Rattle.line.specs.Marks.{marksOf}
 use Rattle.line.specs.Order.{mostItems}
-use Rattle.line.specs.Receiving.{arrayBytes, lastBad, Rule, accepts, previous, out-of-sequence, ends, wrong-length, ends-again, anything-else, meaning, judge, stops, Reception, judgeStore, receivedAnswer, reported, receiveState, receiveStore}
+use Rattle.line.specs.Receiving.{arrayBytes, freshReceiver, lastBad, Rule, accepts, previous, out-of-sequence, ends, wrong-length, ends-again, anything-else, meaning, blockRule, stops, Reception, judgeStore, receivedAnswer, reported, receiveState, receiveStore}
 use Rattle.line.specs.ReceivingInPlace.{withArray}
 
 -- ---- what the private functions ask of their arguments
@@ -70,9 +74,13 @@ stepped s event used = record { state = s; answer = R.Used event used }
 abbrev pub handedBack : Reception → Step
 handedBack x = stepped (x .state) (meaning (x .rule) .event) (x .used)
 
+-- what a refused opening hands back
+abbrev pub refusedOpening : ℕ → Opened
+refusedOpening n = record { state = freshReceiver 0 (marksOf Size.NotGiven); answer = O.Refused n }
+
 -- what is read where these n bits complete a block
 abbrev pub judged : Receiver → Bits → ℕ → Reception
-judged s row used = stops s (judge (s .setup .k) (s .taken) (s .ended) row) row used
+judged s row used = stops s (blockRule s row) row used
 
 -- what a call hands back for what it read, the store judged
 pub record Handed (s : Receiver) (store : List ℕ) (x : Reception) (result : Step) (store′ : List ℕ) : Type 0 where

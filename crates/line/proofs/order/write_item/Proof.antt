@@ -8,6 +8,7 @@ use Rattle.block.specs.Lengths.{blockBytes}
 use Rattle.block.specs.Calls.{overwritten}
 use Rattle.block.proofs.Lengths.{length-facts}
 use Rattle.line.specs.Order.{itemCount, orderBits}
+use Rattle.line.proofs.ServiceBits.{service-lt16}
 use Rattle.line.proofs.Items.{valid-length, itemBits-end}
 use Rattle.line.proofs.ItemBlocks.{item-start, filled-item, unfilled-item, whole-item, last-item, data-item}
 use Rattle.line.proofs.order.write_item.Statement.{statement}
@@ -35,26 +36,30 @@ returns c =
     let n : itemCount (a .k) (a .bits) ≤ a .i = omega (arith, e .item-count .ensures, c .before .before .before .before .if1 .taken) in
     c .before .before .write-end .ensures
     ∙ ap (λ (b : Bits). overwritten (blockBytes (a .k)) b (a .block .now))
-    (sym (itemBits-end (a .k) (a .bits) (orderBits (a .bits) (a .order .now)) (a .i) n))
+    (sym (itemBits-end (a .marks) (a .k) (a .bits) (orderBits (a .bits) (a .order .now)) (a .i) n))
+
+data-service-requires : tie.Need-data-service-requires
+data-service-requires c κs = search needs
 
 div-if2 : tie.Need-div-if2
 div-if2 c =
-    let s = c .before .before .before .before in
+    let s = c .before .before .before .before .before in
     let f = length-facts (s .args .k) (s .pre .0) in
     search needs
 
 write-last-requires : tie.Need-write-last-requires
 write-last-requires c κs =
-    let s = c .before .before .before .before .before .before in
+    let d = c .before .before in
+    let s = d .before .before .before .before .before in
     let a = s .args in
     let f = length-facts (a .k) (s .pre .0) in
     let pos : 0 < a .k = omega arith in
     let n : a .i < itemCount (a .k) (a .bits) =
-    omega (arith, c .before .before .before .item-count .ensures, c .before .before .if1 .left)
+    omega (arith, d .before .before .item-count .ensures, d .before .if1 .left)
     in
     let from = item-start (a .k) (a .bits) (a .i) pos n in
     let to = unfilled-item (a .k) (a .bits) (a .i) pos (c .before .if2 .taken) in
-    (s .pre .0, omega arith, omega arith, s .pre .2, s .pre .3)
+    (s .pre .0, omega arith, omega arith, s .pre .2, s .pre .3, rw (d .data-service .ensures) (service-lt16 (a .marks) (a .i)))
 
 same-length-2 : tie.Need-same-length-2
 same-length-2 c = search needs
@@ -62,24 +67,26 @@ same-length-2 c = search needs
 returns-2 : tie.Need-returns-2
 returns-2 c =
     let t = c .before .before .before .before in
-    let e = t .before .before in
+    let d = t .before in
+    let e = d .before .before in
     let s = e .before .before .before in
     let a = s .args in
     let f = length-facts (a .k) (s .pre .0) in
     let pos : 0 < a .k = omega arith in
-    let n : a .i < itemCount (a .k) (a .bits) = omega (arith, e .item-count .ensures, t .before .if1 .left) in
+    let n : a .i < itemCount (a .k) (a .bits) = omega (arith, e .item-count .ensures, d .before .if1 .left) in
     let to = unfilled-item (a .k) (a .bits) (a .i) pos (t .if2 .taken) in
     c .before .before .write-last .ensures
     ∙ ap (λ (b : Bits). overwritten (blockBytes (a .k)) b (a .block .now))
-    (data-item (a .k) (a .bits) (orderBits (a .bits) (a .order .now)) _ (a .i) n
+    (data-item (a .marks) (a .k) (a .bits) (orderBits (a .bits) (a .order .now)) _ (a .i) _ n (d .data-service .ensures)
     (last-item (a .k) (a .bits) (a .order .now) pos (s .pre .2) (a .i) n to))
 
 write-whole-requires : tie.Need-write-whole-requires
 write-whole-requires c κs =
-    let s = c .before .before .before .before .before .before in
+    let d = c .before .before in
+    let s = d .before .before .before .before .before in
     let a = s .args in
     let w = filled-item (a .k) (a .bits) (a .i) (c .before .if2 .left) in
-    (s .pre .0, omega (arith, s .pre .2), s .pre .3)
+    (s .pre .0, omega (arith, s .pre .2), s .pre .3, rw (d .data-service .ensures) (service-lt16 (a .marks) (a .i)))
 
 same-length-3 : tie.Need-same-length-3
 same-length-3 c = search needs
@@ -87,16 +94,17 @@ same-length-3 c = search needs
 returns-3 : tie.Need-returns-3
 returns-3 c =
     let t = c .before .before .before .before in
-    let e = t .before .before in
+    let d = t .before in
+    let e = d .before .before in
     let s = e .before .before .before in
     let a = s .args in
     let f = length-facts (a .k) (s .pre .0) in
     let pos : 0 < a .k = omega arith in
-    let n : a .i < itemCount (a .k) (a .bits) = omega (arith, e .item-count .ensures, t .before .if1 .left) in
+    let n : a .i < itemCount (a .k) (a .bits) = omega (arith, e .item-count .ensures, d .before .if1 .left) in
     let w = filled-item (a .k) (a .bits) (a .i) (t .if2 .left) in
     c .before .before .write-whole .ensures
     ∙ ap (λ (b : Bits). overwritten (blockBytes (a .k)) b (a .block .now))
-    (data-item (a .k) (a .bits) (orderBits (a .bits) (a .order .now)) _ (a .i) n
+    (data-item (a .marks) (a .k) (a .bits) (orderBits (a .bits) (a .order .now)) _ (a .i) _ n (d .data-service .ensures)
     (whole-item (a .k) (a .bits) (a .order .now) pos (s .pre .2) (a .i) w))
 
 pub write-item-spec : {M : Type 1} → statement M
@@ -107,6 +115,7 @@ write-item-spec =
     write-end-requires
     same-length
     returns
+    data-service-requires
     div-if2
     write-last-requires
     same-length-2

@@ -1,16 +1,13 @@
 -- `write_last` builds item i from the order's last bits. Assumes nothing.
 use borrow.Author.Needs.{needs}
 use mathlib.Core.Path.{_≡_, ap, _∙_}
-use Prim.Native.Nat.{ℕ}
 use native.Mathlib.Omega.{arith}
-use lib.ListN.{length, take}
-use Rattle.crc.specs.Bits.{Bits, binary, bitsOf}
+use lib.ListN.{length}
+use Rattle.crc.specs.Bits.{Bits, binary}
 use Rattle.block.specs.Lengths.{blockBytes}
 use Rattle.block.specs.Block.{blockBits}
 use Rattle.block.specs.Calls.{overwritten}
 use Rattle.block.proofs.Lengths.{length-facts}
-use Rattle.line.specs.Order.{letter}
-use Rattle.line.proofs.ServiceBits.{letter-lt16}
 use Rattle.line.proofs.ItemBlocks.{built, item-byte, last-data}
 use Rattle.line.proofs.order.write_last.Statement.{statement}
 use Rattle.line.proofs.order.write_last.Tie as tie
@@ -25,9 +22,6 @@ last-data-requires c κs =
     let f = length-facts (a .args .k) (a .pre .0) in
     search needs
 
-letter-requires : tie.Need-letter-requires
-letter-requires c κs = search needs
-
 slice-aggregate-build-block : tie.Need-slice-aggregate-build-block
 slice-aggregate-build-block c = search needs
 
@@ -39,17 +33,15 @@ same-length c = search needs
 
 returns : tie.Need-returns
 returns c =
-    let start = c .before .before .before .before .before .before .before .before .before in
+    let start = c .before .before .before .before .before .before .before .before in
     let a = start .args in
     let f = length-facts (a .k) (start .pre .0) in
-    let l = c .before .before .before .before .before .letter in
-    let d = c .before .before .before .before .before .before .last-data in
+    let d = c .before .before .before .before .before .last-data in
     let n : length (d .result) ≡ 480 = search needs in
     let b = c .before .before .build-block in
-    built (a .k) (a .block .now) (b .result) (b .last .1 .1 .1 .0) (start .pre .0) (start .pre .4) (l .result) (d .result)
-    (rw (l .ensures) (letter-lt16 (a .i))) (omega arith) (b .ensures)
-    ∙ ap (λ (s : ℕ). overwritten (blockBytes (a .k)) (blockBits (binary 4 s) (take (a .k) (bitsOf (d .result)))) (a .block .now)) (l .ensures)
-    ∙ ap (λ (p : Bits). overwritten (blockBytes (a .k)) (blockBits (binary 4 (letter (a .i))) p) (a .block .now))
+    built (a .k) (a .block .now) (b .result) (b .last .1 .1 .1 .0) (start .pre .0) (start .pre .4) (a .service) (d .result)
+    (start .pre .5) (omega arith) (b .ensures)
+    ∙ ap (λ (p : Bits). overwritten (blockBytes (a .k)) (blockBits (binary 4 (a .service)) p) (a .block .now))
     (last-data (a .i) (a .k) (a .bits) (a .order .now) (d .result) (start .pre .0) (start .pre .1) (start .pre .2) (start .pre .3) (d .ensures))
 
 pub write-last-spec : {M : Type 1} → statement M
@@ -58,7 +50,6 @@ write-last-spec =
     (tie.spec
     mul-last-data
     last-data-requires
-    letter-requires
     slice-aggregate-build-block
     build-block-requires
     same-length

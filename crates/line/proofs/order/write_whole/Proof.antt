@@ -11,8 +11,6 @@ use Rattle.block.specs.Lengths.{blockBytes}
 use Rattle.block.specs.Block.{blockBits}
 use Rattle.block.specs.Calls.{overwritten}
 use Rattle.block.proofs.Lengths.{length-facts}
-use Rattle.line.specs.Order.{letter}
-use Rattle.line.proofs.ServiceBits.{letter-lt16}
 use Rattle.line.proofs.ItemBlocks.{built, item-byte, whole-data}
 use Rattle.line.proofs.order.write_whole.Statement.{statement}
 use Rattle.line.proofs.order.write_whole.Tie as tie
@@ -27,9 +25,6 @@ add-end c =
     let f = length-facts (a .args .k) (a .pre .0) in
     search needs
 
-letter-requires : tie.Need-letter-requires
-letter-requires c κs = search needs
-
 sub-build-block : tie.Need-sub-build-block
 sub-build-block c = search needs
 
@@ -38,7 +33,7 @@ part-build-block-start c = search needs
 
 part-build-block-end : tie.Need-part-build-block-end
 part-build-block-end c =
-    let a = c .before .before .before in
+    let a = c .before .before in
     let e = item-byte (a .args .i) (a .args .k) (a .pre .0) in
     let f = length-facts (a .args .k) (a .pre .0) in
     search needs
@@ -51,9 +46,8 @@ same-length c = search needs
 
 returns : tie.Need-returns
 returns c =
-    let start = c .before .before .before .before .before .before .before .before in
+    let start = c .before .before .before .before .before .before .before in
     let a = start .args in
-    let l = c .before .before .before .before .before .letter in
     let b = c .before .before .build-block in
     let f = length-facts (a .k) (start .pre .0) in
     let g = item-byte (a .i) (a .k) (start .pre .0) in
@@ -64,10 +58,9 @@ returns c =
     let n : length part ≡ m =
     length-take-le (from + m - from) (drop from (a .order .now)) (omega (arith, length-drop from (a .order .now))) ∙ e
     in
-    built (a .k) (a .block .now) (b .result) (b .last .1 .1 .1 .0) (start .pre .0) (start .pre .2) (l .result) part
-    (rw (l .ensures) (letter-lt16 (a .i))) (omega arith) (b .ensures)
-    ∙ ap (λ (s : ℕ). overwritten (blockBytes (a .k)) (blockBits (binary 4 s) (take (a .k) (bitsOf part))) (a .block .now)) (l .ensures)
-    ∙ ap (λ (p : Bits). overwritten (blockBytes (a .k)) (blockBits (binary 4 (letter (a .i))) p) (a .block .now))
+    built (a .k) (a .block .now) (b .result) (b .last .1 .1 .1 .0) (start .pre .0) (start .pre .2) (a .service) part
+    (start .pre .3) (omega arith) (b .ensures)
+    ∙ ap (λ (p : Bits). overwritten (blockBytes (a .k)) (blockBits (binary 4 (a .service)) p) (a .block .now))
     (ap (λ (j : ℕ). take (a .k) (bitsOf (take j (drop from (a .order .now))))) e
     ∙ whole-data (a .i) (a .k) (a .order .now) (start .pre .0))
 
@@ -77,7 +70,6 @@ write-whole-spec =
     (tie.spec
     mul-start
     add-end
-    letter-requires
     sub-build-block
     part-build-block-start
     part-build-block-end

@@ -23,13 +23,13 @@ returns : tie.Need-returns
 unfolding serviceRule
 returns c = sym (simp (sym (c .before .before .is-letter .ensures) ∙ c .before .if1 .taken, c .if2 .taken))
 
-letter-rule-requires : tie.Need-letter-rule-requires
-letter-rule-requires c κs = search needs
+place-rule-requires : tie.Need-place-rule-requires
+place-rule-requires c κs = search needs
 
 returns-2 : tie.Need-returns-2
 unfolding serviceRule
 returns-2 c =
-    c .letter-rule .ensures ∙ sym (simp (sym (c .before .before .before .is-letter .ensures) ∙ c .before .before .if1 .taken, c .before .if2 .left))
+    c .place-rule .ensures ∙ sym (simp (sym (c .before .before .before .is-letter .ensures) ∙ c .before .before .if1 .taken, c .before .if2 .left))
 
 slice-aggregate-move-data : tie.Need-slice-aggregate-move-data
 slice-aggregate-move-data c = search needs
@@ -61,9 +61,14 @@ returns-3 c =
     ∙ sym (end-first-bits k (a .args .taken) (a .args .ended) d (omega arith))
     ∙ sym (simp (sym (e .before .before .is-letter .ensures) ∙ e .before .if1 .left, eq-eqb _ _ (e .if3 .taken)))
 
+mark-rule-requires : tie.Need-mark-rule-requires
+mark-rule-requires c κs = search needs
+
 returns-4 : tie.Need-returns-4
 unfolding serviceRule
-returns-4 c = sym (simp (sym (c .before .before .is-letter .ensures) ∙ c .before .if1 .left, ne-eqb _ _ (c .if3 .left)))
+returns-4 c =
+    c .mark-rule .ensures
+    ∙ sym (simp (sym (c .before .before .before .is-letter .ensures) ∙ c .before .before .if1 .left, ne-eqb _ _ (c .before .if3 .left)))
 
 pub service-rule-spec : {M : Type 1} → statement M
 service-rule-spec =
@@ -71,11 +76,12 @@ service-rule-spec =
     (tie.spec
     is-letter-requires
     returns
-    letter-rule-requires
+    place-rule-requires
     returns-2
     slice-aggregate-move-data
     move-data-requires
     slice-aggregate-end-rule
     end-rule-requires
     returns-3
+    mark-rule-requires
     returns-4)

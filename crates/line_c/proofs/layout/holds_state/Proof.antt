@@ -38,15 +38,36 @@ returns-4 c =
       lt-leb _ _ (c .if4 .taken),
     )
 
+sub-if5 : tie.Need-sub-if5
+sub-if5 c = search needs
+
+shared-slice-read-if5 : tie.Need-shared-slice-read-if5
+shared-slice-read-if5 c = search needs
+
 returns-5 : tie.Need-returns-5
 unfolding holds
 returns-5 c =
-    let at-if2 = c .before .before .before .before in
+    let at-if4 = c .before .before in
+    let at-if2 = at-if4 .before .before .before .before in
     simp (
       le-leb _ _ (at-if2 .before .before .if1 .left),
       le-leb _ _ (at-if2 .if2 .left),
-      le-leb _ _ (c .before .before .if3 .left),
-      le-leb _ _ (c .if4 .left),
+      le-leb _ _ (at-if4 .before .before .if3 .left),
+      le-leb _ _ (at-if4 .if4 .left),
+      lt-leb _ _ (c .if5 .taken),
+    )
+
+returns-6 : tie.Need-returns-6
+unfolding holds
+returns-6 c =
+    let at-if4 = c .before .before in
+    let at-if2 = at-if4 .before .before .before .before in
+    simp (
+      le-leb _ _ (at-if2 .before .before .if1 .left),
+      le-leb _ _ (at-if2 .if2 .left),
+      le-leb _ _ (at-if4 .before .before .if3 .left),
+      le-leb _ _ (at-if4 .if4 .left),
+      le-leb _ _ (c .if5 .left),
     )
 
 pub holds-state-spec : {M : Type 1} → statement M
@@ -60,4 +81,7 @@ holds-state-spec =
     returns-3
     shared-slice-read-if4
     returns-4
-    returns-5)
+    sub-if5
+    shared-slice-read-if5
+    returns-5
+    returns-6)

@@ -7,6 +7,9 @@ use Rattle.line_c.proofs.receiver_bytes.load_head.Tie as tie
 load-word-requires : tie.Need-load-word-requires
 load-word-requires c κs = search needs
 
+load-marks-requires : tie.Need-load-marks-requires
+load-marks-requires c κs = search needs
+
 load-word-requires-2 : tie.Need-load-word-requires-2
 load-word-requires-2 c κs = search needs
 
@@ -16,14 +19,14 @@ shared-slice-read-wide c = search needs
 wide-requires : tie.Need-wide-requires
 wide-requires c κs = search needs
 
-shared-slice-read-t9 : tie.Need-shared-slice-read-t9
-shared-slice-read-t9 c = search needs
+shared-slice-read-t10 : tie.Need-shared-slice-read-t10
+shared-slice-read-t10 c = search needs
 
 load-word-requires-3 : tie.Need-load-word-requires-3
 load-word-requires-3 c κs = search needs
 
-shared-slice-read-t13 : tie.Need-shared-slice-read-t13
-shared-slice-read-t13 c = search needs
+shared-slice-read-t14 : tie.Need-shared-slice-read-t14
+shared-slice-read-t14 c = search needs
 
 shared-slice-read-phase-of : tie.Need-shared-slice-read-phase-of
 shared-slice-read-phase-of c = search needs
@@ -40,12 +43,13 @@ load-head-spec =
     tie.close
     (tie.spec
     load-word-requires
+    load-marks-requires
     load-word-requires-2
     shared-slice-read-wide
     wide-requires
-    shared-slice-read-t9
+    shared-slice-read-t10
     load-word-requires-3
-    shared-slice-read-t13
+    shared-slice-read-t14
     shared-slice-read-phase-of
     phase-of-requires
     returns)

@@ -2,12 +2,11 @@
 -- Assumes nothing.
 use mathlib.Core.Path.{_≡_, refl, sym, ap, _∙_}
 use mathlib.Core.Bool.{true, false}
-use mathlib.Core.List.{List, [], _++_, append-assoc}
+use mathlib.Core.List.{List}
 use Prim.Native.Nat.{ℕ, _≤_}
 use native.Mathlib.Omega.{arith}
 use borrow.Author.Tests.{not-true, not-false}
-use lib.ListN.{length, take, drop, length-append, length-drop, take-append-drop}
-use lib.Seq.{length-take-le, drop-at, drop-drop}
+use lib.ListN.{length}
 use Rattle.block.specs.Answer as A
 use Rattle.block.specs.Answer.{Answer, refused, done}
 use Rattle.line.specs.Receiving.{arrayBytes, Reception, Report, reported, receive, receiveState, receivedAnswer, Receive}
@@ -18,9 +17,10 @@ use Rattle.line.specs.declared.head.HeadStep.{HeadStep}
 use Rattle.line.specs.declared.receiver.Receiver.{Receiver}
 use Rattle.line.specs.declared.receiving.Event.{Event}
 use Rattle.line.proofs.InPlace.{by-value}
-use Rattle.line_c.specs.State.{headSize, receiverSize, holdsReceiver, receiverIn, receiverOf, receiverHead, receiverBytes}
+use Rattle.line_c.specs.State.{receiverSize, holdsReceiver, receiverIn, receiverOf}
 use Rattle.line_c.specs.ReceiverCalls.{receiverOver, eventNumber, eventLength, reportNumber, reportUsed, reportLength, receivedState, ReceiveCall}
 use Rattle.line_c.proofs.RoundTrip.{held}
+use Rattle.line_c.proofs.Arrays.{array, with-array, same-array, length-array, room, head-over}
 use borrow.Author.Needs.{needs}
 use Rattle.line_c.proofs.receiver_calls.order_line_receive.Statement.{statement}
 use Rattle.line_c.proofs.receiver_calls.order_line_receive.Tie as tie
@@ -35,40 +35,6 @@ kept-done : (state : List ℕ) (s : Receiver) (a : Answer Reception) (r : Report
     → receiverOver state (receiveState s a) ≡ receivedState state a
 kept-done state s (refused m) r e = absurd (let z : _≡_ {A = ℕ} 0 1 = cc in omega arith)
 kept-done state s (done x) r e = refl
-
-module _ (state : List ℕ) where
-  abbrev array : List ℕ
-  array = take arrayBytes (drop headSize state)
-
-  -- the state's bytes with another array
-  abbrev with-array : List ℕ → List ℕ
-  with-array array′ = take headSize state ++ (array′ ++ drop arrayBytes (drop headSize state))
-
-  same-array : (array′ : List ℕ) → array′ ≡ array → with-array array′ ≡ state
-  same-array array′ e =
-      ap with-array e ∙ ap (λ (l : List ℕ). take headSize state ++ l) (take-append-drop arrayBytes (drop headSize state))
-      ∙ take-append-drop headSize state
-
-  module _ (h : receiverSize ≤ length state) where
-    length-array : length array ≡ arrayBytes
-    length-array = length-take-le arrayBytes (drop headSize state) (omega (arith, length-drop headSize state))
-
-    head-room : (array′ : List ℕ) → headSize ≤ length (with-array array′)
-    head-room array′ =
-        let n : length (take headSize state) ≡ headSize = length-take-le headSize state (omega arith) in
-        simp length-append (omega arith)
-
-    -- and another head
-    head-over : (head : Head) (array′ state′ : List ℕ) → state′ ≡ receiverHead (withArray head []) ++ drop headSize (with-array array′)
-        → state′ ≡ receiverOver state (withArray head array′)
-    unfolding receiverBytes
-    head-over head array′ state′ e =
-        let n : length (take headSize state) ≡ headSize = length-take-le headSize state (omega arith) in
-        e
-        ∙ ap (λ (l : List ℕ). receiverHead (withArray head []) ++ l)
-        (drop-at (take headSize state) (array′ ++ drop arrayBytes (drop headSize state)) headSize n
-        ∙ ap (λ (l : List ℕ). array′ ++ l) (drop-drop arrayBytes headSize state))
-        ∙ sym (append-assoc (receiverHead (withArray head [])) array′ (drop receiverSize state))
 
 module _ (state line : List ℕ) (count : ℕ) (store : List ℕ) (used len : ℕ) where
   unheld : holdsReceiver state ≡ false → ReceiveCall state line count store used len A.spoiled state store used len
@@ -104,16 +70,16 @@ module _ (state line : List ℕ) (count : ℕ) (store : List ℕ) (used len : �
             ends = rw receiver-held (sym (ap (reportLength len) r));
           }
 
-      heard : (event : Event) (bits : ℕ) → receivedAnswer (result .answer) ≡ done (record { event = event; used = bits })
-          → (number : ℕ) (state′ : List ℕ) (len′ : ℕ) → number ≡ eventNumber event
-          → state′ ≡ receiverHead (withArray (result .head) []) ++ drop headSize (with-array state array′)
+      heard : length array′ ≡ arrayBytes → (event : Event) (bits : ℕ)
+          → receivedAnswer (result .answer) ≡ done (record { event = event; used = bits }) → (number : ℕ) (state′ : List ℕ) (len′ : ℕ)
+          → number ≡ eventNumber event → state′ ≡ receiverOver (with-array state array′) (withArray (result .head) (array (with-array state array′)))
           → len′ ≡ eventLength len event → ReceiveCall state line count store used len number state′ store′ bits len′
-      heard event bits a number state′ len′ n w l =
+      heard whole event bits a number state′ len′ n w l =
           let r = sym (call .answers) ∙ a in
           record {
             answers = rw receiver-held (n ∙ sym (ap reportNumber r));
             keeps = rw receiver-held
-                (head-over state enough (result .head) array′ state′ w ∙ ap (receiverOver state) (call .state)
+                (w ∙ head-over state enough array′ whole (result .head) ∙ ap (receiverOver state) (call .state)
                 ∙ kept-done state s (receive s line count store) _ r);
             writes = rw receiver-held (call .writes);
             uses = rw receiver-held (sym (ap (reportUsed used) r));
@@ -149,7 +115,7 @@ part-receive-start : tie.Need-part-receive-start
 part-receive-start c = search needs
 
 part-receive-end : tie.Need-part-receive-end
-part-receive-end c = size-held (c .before .before)
+part-receive-end c = omega (arith, size-held (c .before .before))
 
 receive-requires : tie.Need-receive-requires
 receive-requires c κs = search needs
@@ -164,7 +130,7 @@ put-head-requires : tie.Need-put-head-requires
 put-head-requires c κs =
     let receive = c .before .before .before .before .before .before .before .before .before in
     let tested = receive .before .before .before .before .before in
-    head-room (start tested .args .state .now) (size-held tested) (receive .receive .last .1 .0)
+    room (start tested .args .state .now) (size-held tested) (receive .receive .last .1 .0) (search needs)
 
 report-requires : tie.Need-report-requires
 report-requires c κs = search needs
@@ -193,7 +159,8 @@ returns-3 c =
     let put = c .before .before .before .before in
     let receive = c .before .before .before .before .before .before .before .before .before .before .before .before .before .before in
     let loaded = receive .before .before .before in
-    heard _ _ _ _ _ _ (bytes-held (loaded .before .before)) _ (loaded .load-head .ensures) _ _ _ (receive .receive .ensures) _ _
+    heard _ _ _ _ _ _ (bytes-held (loaded .before .before)) _ (loaded .load-head .ensures) _ _ _ (receive .receive .ensures)
+    (search needs) _ _
     (ap receivedAnswer (c .before .before .before .before .before .before .before .answer2 .given .1)) _ _ _ (c .report .ensures .0) (put .put-head .ensures) (c .report .ensures .1)
 
 pub order-line-receive-spec : {M : Type 1} → statement M

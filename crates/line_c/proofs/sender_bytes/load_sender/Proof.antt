@@ -9,6 +9,9 @@ load-word-requires c κs = search needs
 load-word-requires-2 : tie.Need-load-word-requires-2
 load-word-requires-2 c κs = search needs
 
+load-marks-requires : tie.Need-load-marks-requires
+load-marks-requires c κs = search needs
+
 load-word-requires-3 : tie.Need-load-word-requires-3
 load-word-requires-3 c κs = search needs
 
@@ -18,8 +21,8 @@ shared-slice-read-wide c = search needs
 wide-requires : tie.Need-wide-requires
 wide-requires c κs = search needs
 
-shared-slice-read-t10 : tie.Need-shared-slice-read-t10
-shared-slice-read-t10 c = search needs
+shared-slice-read-t11 : tie.Need-shared-slice-read-t11
+shared-slice-read-t11 c = search needs
 
 shared-slice-read-next-of : tie.Need-shared-slice-read-next-of
 shared-slice-read-next-of c = search needs
@@ -27,8 +30,8 @@ shared-slice-read-next-of c = search needs
 next-of-requires : tie.Need-next-of-requires
 next-of-requires c κs = search needs
 
-shared-slice-read-t16 : tie.Need-shared-slice-read-t16
-shared-slice-read-t16 c = search needs
+shared-slice-read-t17 : tie.Need-shared-slice-read-t17
+shared-slice-read-t17 c = search needs
 
 returns : tie.Need-returns
 unfolding senderIn
@@ -40,11 +43,12 @@ load-sender-spec =
     (tie.spec
     load-word-requires
     load-word-requires-2
+    load-marks-requires
     load-word-requires-3
     shared-slice-read-wide
     wide-requires
-    shared-slice-read-t10
+    shared-slice-read-t11
     shared-slice-read-next-of
     next-of-requires
-    shared-slice-read-t16
+    shared-slice-read-t17
     returns)

@@ -1,9 +1,9 @@
 -- `Head::in_range` tests each field's range. Assumes nothing.
-use mathlib.Core.Path.{_≡_, refl, sym, _∙_}
+use mathlib.Core.Path.{_≡_, refl, ap, sym, _∙_}
 use mathlib.Core.Bool.{true}
 use mathlib.Core.List.{[], _∷_}
 use mathlib.Core.Logic.{⊎-elim}
-use Prim.Native.Nat.{ℕ}
+use Prim.Native.Nat.{ℕ, _≤_, _<_}
 use native.Mathlib.Omega.{arith}
 use borrow.Author.Tests.{not-true, not-false, le-ltb, lt-ltb, le-leb, lt-leb}
 use lib.Dec.{ltb}
@@ -11,7 +11,11 @@ use types.Run.{OneOf}
 use denote.Enum.Declared.{tagOf}
 use Rattle.block.specs.Lengths.{isLength, blockLength}
 use Rattle.block.proofs.Lengths.{length-facts}
-use Rattle.line.specs.Receiving.{heldInRange, receiverInRange}
+use Rattle.line.specs.Marks.{marksInRange}
+use Rattle.line.specs.Order.{mostItems}
+use Rattle.line.specs.Receiving.{lastBad, heldInRange, receiverInRange}
+use Rattle.line.specs.ReceivingInPlace.{withArray}
+use Rattle.line.specs.declared.receiver.Receiver.{Receiver}
 use Rattle.line.specs.declared.receiving.Phase.{Phase}
 use Rattle.line.specs.declared.receiving.Phase.the-variants.{Search, InStep, SequenceAlarm, LengthAlarm}
 use Rattle.line.proofs.receiving.Phase.{the-type}
@@ -28,6 +32,13 @@ other-phase InStep n held h = refl
 other-phase SequenceAlarm n held h = refl
 other-phase LengthAlarm n held h = refl
 
+-- the last test decides once the others have passed
+last-test : (s : Receiver) → isLength (s .setup .k) ≡ true → marksInRange (s .setup .marks) ≡ true
+    → s .«bad_row» < lastBad → s .taken ≤ mostItems
+    → receiverInRange s ≡ heldInRange (s .phase) (blockLength (s .setup .k)) (s .held)
+unfolding receiverInRange
+last-test s a m b t = simp (a, m, lt-ltb (s .«bad_row») lastBad b, le-leb (s .taken) mostItems t)
+
 known-length-requires : tie.Need-known-length-requires
 known-length-requires c κs = search needs
 
@@ -35,39 +46,55 @@ returns : tie.Need-returns
 unfolding receiverInRange
 returns c = λ array. sym (simp (sym (c .before .known-length .ensures) ∙ not-true _ (c .if1 .taken)))
 
+in-range-requires : tie.Need-in-range-requires
+in-range-requires c κs = search needs
+
 returns-2 : tie.Need-returns-2
 unfolding receiverInRange
-returns-2 c = λ array. sym (simp (known (c .before .before), le-ltb _ _ (c .if2 .taken)))
+returns-2 c =
+    λ array. sym (simp (known (c .before .before), sym (c .before .in-range .ensures) ∙ not-true _ (c .if2 .taken)))
+
+sized : (c : tie.Else2) → marksInRange (c .before .before .before .before .args .self .setup .marks) ≡ true
+sized c = sym (c .before .in-range .ensures) ∙ not-false _ (c .if2 .left)
 
 returns-3 : tie.Need-returns-3
 unfolding receiverInRange
-returns-3 c = λ array. sym (simp (known (c .before .before .before .before), lt-ltb _ _ (c .before .before .if2 .left), lt-leb _ _ (c .if3 .taken)))
+returns-3 c =
+    let e = c .before .before in
+    λ array. sym (simp (known (e .before .before), sized e, le-ltb _ _ (c .if3 .taken)))
+
+returns-4 : tie.Need-returns-4
+unfolding receiverInRange
+returns-4 c =
+    let r = c .before .before in
+    let e = r .before .before in
+    λ array. sym (simp (known (e .before .before), sized e, lt-ltb _ _ (r .if3 .left), lt-leb _ _ (c .if4 .taken)))
 
 enum-told : tie.Need-enum-told
 enum-told c = search needs
 
 add-result : tie.Need-add-result
 add-result c =
-    let f = length-facts _ (known (c .before .before .before .before .before)) in
+    let f = length-facts _ (known (c .before .before .before .before .before .before .before)) in
     omega arith
 
-returns-4 : tie.Need-returns-4
-unfolding receiverInRange
-returns-4 c =
-    let e = c .before .before .before in
-    λ array. sym (simp (known (e .before .before .before .before), lt-ltb _ _ (e .before .before .if2 .left), le-leb _ _ (e .if3 .left), c .before .enum-told .given .1))
-
 returns-5 : tie.Need-returns-5
-unfolding receiverInRange
 returns-5 c =
-    let e = c .before .before in
-    let s = e .before .before .before .before .before .before .args .self in
-    λ array. sym (simp (
-      known (e .before .before .before .before),
-      lt-ltb _ _ (e .before .before .if2 .left),
-      le-leb _ _ (e .if3 .left),
-      other-phase (s .phase) (blockLength (s .setup .k)) (s .held) (c .before .match .keys2),
-    ))
+    let t = c .before .before .before in
+    let r = t .before .before in
+    let e = r .before .before in
+    let s = e .before .before .before .before .args .self in
+    λ array. sym (last-test (withArray s array) (known (e .before .before)) (sized e) (r .if3 .left) (t .if4 .left)
+    ∙ ap (λ (p : Phase). heldInRange p (blockLength (s .setup .k)) (s .held)) (c .before .enum-told .given .1))
+
+returns-6 : tie.Need-returns-6
+returns-6 c =
+    let t = c .before .before in
+    let r = t .before .before in
+    let e = r .before .before in
+    let s = e .before .before .before .before .args .self in
+    λ array. sym (last-test (withArray s array) (known (e .before .before)) (sized e) (r .if3 .left) (t .if4 .left)
+    ∙ other-phase (s .phase) (blockLength (s .setup .k)) (s .held) (c .before .match .keys2))
 
 pub in-range-spec : {M : Type 1} → statement M
 in-range-spec =
@@ -75,9 +102,11 @@ in-range-spec =
     (tie.spec
     known-length-requires
     returns
+    in-range-requires
     returns-2
     returns-3
+    returns-4
     enum-told
     add-result
-    returns-4
-    returns-5)
+    returns-5
+    returns-6)

@@ -1,14 +1,14 @@
 -- `Head::judge` meets its contract: rule 1, the check, which refuses nothing here, and the rules of what passes.
 -- Assumes nothing.
 use mathlib.Core.Path.{_≡_, refl, sym, ap, _∙_}
-use mathlib.Core.Bool.{true, false}
+use mathlib.Core.Bool.{true}
 use Prim.Native.Nat.{_+_, _*_}
 use borrow.Author.Tests.{not-true, not-false}
 use lib.ListN.{take}
 use Rattle.crc.specs.Bits.{Bits, bitsOf}
 use Rattle.block.specs.Lengths.{blockLength}
 use Rattle.block.specs.Calls.{tooShort}
-use Rattle.line.specs.Receiving.{sync-block, check-fails, judge}
+use Rattle.line.specs.Receiving.{sync-block, check-fails, blockRule}
 use Rattle.line.specs.ReceivingInPlace.{withArray}
 use Rattle.line.specs.Code.ReceiveSteps.{ruleOf, stepWith}
 use Rattle.line.specs.declared.head.HeadStep.{HeadStep}
@@ -25,13 +25,13 @@ abbrev row : tie.After-service-rule → Bits
 row c = take (blockLength (start c .args .self .setup .k)) (bitsOf (start c .args .row .now))
 
 passed-rule : (c : tie.After-service-rule)
-    → ruleOf (c .service-rule .result) ≡ judge (start c .args .self .setup .k) (start c .args .self .taken) (start c .args .self .ended) (row c)
+    → ruleOf (c .service-rule .result) ≡ blockRule (withArray (start c .args .self) (start c .args .array .now)) (row c)
 passed-rule c =
     let a = start c in
     let k = c .before .before .before .before in
     let e = sym (k .before .before .looks-sync .ensures) ∙ k .before .if1 .left in
     let v = check-passes (a .args .self .setup .k) (a .pre .ready .known) (a .args .row .now) (a .pre .held) _ (k .check-block .ensures) _ (c .before .before .answer .given .1) in
-    c .service-rule .ensures ∙ rule-passed (a .args .self .setup .k) (a .args .self .taken) (a .args .self .ended) _ _ e v
+    c .service-rule .ensures ∙ rule-passed (withArray (a .args .self) (a .args .array .now)) _ _ e v
 
 looks-sync-requires : tie.Need-looks-sync-requires
 looks-sync-requires c κs = search needs
@@ -47,7 +47,7 @@ returns c =
     let t = c .before .before .before .before in
     let a = t .before .before .before .before .before .args in
     let e = sym (t .before .looks-sync .ensures) ∙ t .if1 .taken in
-    handed-rule _ _ _ _ _ sync-block (rule-sync (a .self .setup .k) (a .self .taken) (a .self .ended) _ e) refl (c .before .before .after-good .ensures)
+    handed-rule _ _ _ _ _ sync-block (rule-sync (withArray (a .self) (a .array .now)) _ e) refl (c .before .before .after-good .ensures)
 
 check-block-requires : tie.Need-check-block-requires
 check-block-requires c κs = search needs
@@ -68,7 +68,7 @@ returns-2 c =
     let a = b .before .before .before .before .before in
     let e = sym (b .before .looks-sync .ensures) ∙ b .if1 .left in
     let v = check-not-passed (a .args .self .setup .k) (a .pre .ready .known) (a .args .row .now) (a .pre .held) _ (m .before .check-block .ensures) (m .match .keys2) in
-    handed-rule _ _ _ _ _ check-fails (rule-failed (a .args .self .setup .k) (a .args .self .taken) (a .args .self .ended) _ e v) refl
+    handed-rule _ _ _ _ _ check-fails (rule-failed (withArray (a .args .self) (a .args .array .now)) _ e v) refl
     (c .before .before .after-bad .ensures ∙ handed-bad (withArray (a .args .self) (a .args .array .now)) (a .args .used))
 
 service-rule-requires : tie.Need-service-rule-requires

@@ -7,6 +7,7 @@ use Prim.Native.Nat.{ℕ, _+_, _≤_, _<_}
 use native.Mathlib.Omega.{arith}
 use lib.Dec.{leb}
 use Rattle.block.specs.Lengths.{isLength}
+use Rattle.line.specs.Marks.{marksInRange}
 use Rattle.line.specs.Order.{longestOrder, validLength}
 use Rattle.line.specs.Sending.{senderItems, lastRun, senderInRange}
 use Rattle.line.specs.declared.sender.Sender.{Sender}
@@ -38,22 +39,27 @@ module _ (s : Sender) where
     invalid b = simp (a, b)
 
     module _ (b : validLength (s .setup .length) ≡ true) where
-      first : s .newer ≡ 0 → false ≡ senderInRange s
+      wrong-size : marksInRange (s .setup .marks) ≡ false → false ≡ senderInRange s
       unfolding senderInRange
-      first n = simp (a, b, lt-leb 1 (s .newer) (omega arith))
+      wrong-size m = simp (a, b, m)
 
-      module _ (c : s .newer ≡ 0 → ⊥) where
-        last : senderItems s + 1 < s .newer → false ≡ senderInRange s
+      module _ (m : marksInRange (s .setup .marks) ≡ true) where
+        first : s .newer ≡ 0 → false ≡ senderInRange s
         unfolding senderInRange
-        last n =
-            let one : 1 ≤ s .newer = omega arith in
-            simp (a, b, le-leb 1 (s .newer) one, lt-leb (s .newer) (senderItems s + 1) n)
+        first n = simp (a, b, m, lt-leb 1 (s .newer) (omega arith))
 
-        run : s .newer ≤ senderItems s + 1 → leb (s .run) lastRun ≡ senderInRange s
-        unfolding senderInRange
-        run n =
-            let one : 1 ≤ s .newer = omega arith in
-            simp (a, b, le-leb 1 (s .newer) one, le-leb (s .newer) (senderItems s + 1) n)
+        module _ (c : s .newer ≡ 0 → ⊥) where
+          last : senderItems s + 1 < s .newer → false ≡ senderInRange s
+          unfolding senderInRange
+          last n =
+              let one : 1 ≤ s .newer = omega arith in
+              simp (a, b, m, le-leb 1 (s .newer) one, lt-leb (s .newer) (senderItems s + 1) n)
+
+          run : s .newer ≤ senderItems s + 1 → leb (s .run) lastRun ≡ senderInRange s
+          unfolding senderInRange
+          run n =
+              let one : 1 ≤ s .newer = omega arith in
+              simp (a, b, m, le-leb 1 (s .newer) one, le-leb (s .newer) (senderItems s + 1) n)
 
 known-length-requires : tie.Need-known-length-requires
 known-length-requires c κs = search needs
@@ -74,31 +80,47 @@ returns-2 c = invalid _ (known (c .before)) (empty _ (c .if2 .taken))
 returns-3 : tie.Need-returns-3
 returns-3 c = invalid _ (known (c .before .before)) (long _ (c .before .if2 .left) (c .if3 .taken))
 
+in-range-requires : tie.Need-in-range-requires
+in-range-requires c κs = search needs
+
 returns-4 : tie.Need-returns-4
-returns-4 c = first _ (known (c .before .before .before .before)) (right (c .before .before)) (c .if4 .taken)
+returns-4 c =
+    let e = c .before .before in
+    wrong-size _ (known (e .before .before)) (right e) (sym (c .before .in-range .ensures) ∙ not-true _ (c .if4 .taken))
 
-item-count-requires : tie.Need-item-count-requires
-item-count-requires c κs = (known (c .before .before .before .before), search needs)
-
-add-if5 : tie.Need-add-if5
-add-if5 c =
-    let e = c .before in
-    let f = itemCount-fits _ _ (known (e .before .before .before .before)) (right (e .before .before)) in
-    omega (arith, c .item-count .ensures)
+sized : (c : tie.Else4) → marksInRange (c .before .before .before .before .before .before .before .args .self .setup .marks) ≡ true
+sized c = sym (c .before .in-range .ensures) ∙ not-false _ (c .if4 .left)
 
 returns-5 : tie.Need-returns-5
 returns-5 c =
-    let n = c .before .before in
-    let e = n .before in
-    last _ (known (e .before .before .before .before)) (right (e .before .before)) (e .if4 .left)
-    (rw (n .item-count .ensures) at (c .if5 .taken))
+    let m = c .before .before in
+    let e = m .before .before in
+    first _ (known (e .before .before)) (right e) (sized m) (c .if5 .taken)
+
+item-count-requires : tie.Need-item-count-requires
+item-count-requires c κs = (known (c .before .before .before .before .before .before), search needs)
+
+add-if6 : tie.Need-add-if6
+add-if6 c =
+    let e = c .before .before .before .before .before in
+    let f = itemCount-fits _ _ (known (e .before .before)) (right e) in
+    omega (arith, c .item-count .ensures)
 
 returns-6 : tie.Need-returns-6
 returns-6 c =
+    let n = c .before .before in
+    let m = n .before .before .before in
+    let e = m .before .before in
+    last _ (known (e .before .before)) (right e) (sized m) (n .before .if5 .left)
+    (rw (n .item-count .ensures) at (c .if6 .taken))
+
+returns-7 : tie.Need-returns-7
+returns-7 c =
     let n = c .before .before .before in
-    let e = n .before in
-    run _ (known (e .before .before .before .before)) (right (e .before .before)) (e .if4 .left)
-    (rw (n .item-count .ensures) at (c .before .if5 .left))
+    let m = n .before .before .before in
+    let e = m .before .before in
+    run _ (known (e .before .before)) (right e) (sized m) (n .before .if5 .left)
+    (rw (n .item-count .ensures) at (c .before .if6 .left))
 
 pub in-range-spec : {M : Type 1} → statement M
 in-range-spec =
@@ -108,8 +130,10 @@ in-range-spec =
     returns
     returns-2
     returns-3
+    in-range-requires
     returns-4
-    item-count-requires
-    add-if5
     returns-5
-    returns-6)
+    item-count-requires
+    add-if6
+    returns-6
+    returns-7)

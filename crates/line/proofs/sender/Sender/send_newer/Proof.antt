@@ -47,17 +47,17 @@ returns c =
     let L = s .setup .length in
     let r = in-range s (start .pre .ready .range) in
     let content : Bits = orderBits L (a .order .now) in
-    let row : Bits = itemBits k L content (s .newer) in
+    let row : Bits = itemBits (s .setup .marks) k L content (s .newer) in
     let n : length row ≡ blockLength k =
-    length-itemBits k L content (r .known) (length-orderBits L (a .order .now) (start .pre .order-lent)) (s .newer)
+    length-itemBits k L content (r .known) (length-orderBits L (a .order .now) (start .pre .order-lent)) (s .setup .marks) (s .newer)
     in
-    let room : blockLength k ≤ 8 * length (w .write-item .last .1 .1 .1 .1 .0) = rw (w .write-item .kept .1 .1 .1 .1 .0) (start .pre .room) in
+    let room : blockLength k ≤ 8 * length (w .write-item .last .1 .1 .1 .1 .1 .0) = rw (w .write-item .kept .1 .1 .1 .1 .1 .0) (start .pre .room) in
     rw (t .if1 .taken)
     (record {
       answers = c .item .ensures;
       state = c .before .repeated .ensures;
       writes =
-          cancels k (w .write-item .last .1 .1 .1 .1 .0) (b .result) (b .last .1 .0) (r .known) room (b .ensures)
+          cancels k (w .write-item .last .1 .1 .1 .1 .1 .0) (b .result) (b .last .1 .0) (r .known) room (b .ensures)
           ∙ ap (λ (l : List ℕ). cancelBytes k l (done tt)) (w .write-item .ensures)
           ∙ cancel-overwritten k row (a .block .now) (r .known) n (λ i. w .before .before .before .slice-known .given i .fits);
     })

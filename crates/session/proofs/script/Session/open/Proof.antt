@@ -9,7 +9,7 @@ use Rattle.block.specs.Answer.{Answer, refused, done}
 use Rattle.line.specs.Sending.{openSender, openedAnswer}
 use Rattle.line.specs.declared.sender.Sender.{Sender}
 use Rattle.session.specs.LineOne.{readable}
-use Rattle.session.specs.Session.{speed, loop-ms, orderOf, opens}
+use Rattle.session.specs.Session.{speed, loop-ms, code-size, orderOf, opens}
 use Rattle.session.proofs.Parts.{take-least}
 use borrow.Author.Needs.{needs}
 use Rattle.session.proofs.script.Session.open.Statement.{statement}
@@ -22,7 +22,7 @@ read-first c = sym (c .before .is-readable .ensures) ∙ not-false _ (c .if1 .le
 -- how the sender was opened
 opened-as : (c : tie.After-open) (a : Answer Sender) → openedAnswer (c .«open» .result) ≡ a
     → let s = c .before .before .before .before .before .before .before .args .self in
-    openSender (s .opening .k) speed loop-ms (s .opening .length) (orderOf s (c .before .before .before .before .before .before .before .args .order .now)) ≡ a
+    openSender (s .opening .k) speed loop-ms (s .opening .length) code-size (orderOf s (c .before .before .before .before .before .before .before .args .order .now)) ≡ a
 opened-as c a e =
     let s = c .before .before .before .before .before .before .before .args .self in
     let o = c .before .before .before .before .before .before .before .args .order .now in

@@ -2,6 +2,7 @@
 use mathlib.Core.Path.{_≡_, sym, ap, _∙_}
 use Rattle.block.specs.Answer.{refused, done}
 use Rattle.line.specs.Receiving.{openReceiver, openingAnswer}
+use Rattle.session.specs.Session.{code-size}
 use borrow.Author.Needs.{needs}
 use Rattle.session.proofs.script.Session.open_receiver.Statement.{statement}
 use Rattle.session.proofs.script.Session.open_receiver.Tie as tie
@@ -24,13 +25,13 @@ new-requires c κs = search needs
 returns : tie.Need-returns
 returns c =
     let o = c .before .before .before .before .before .«open» .ensures in
-    let e : openReceiver (c .before .before .before .before .before .before .before .args .self .opening .k) ≡ refused _ = sym (o .answers) ∙ ap openingAnswer (c .before .before .answer .given .1) in
+    let e : openReceiver (c .before .before .before .before .before .before .before .args .self .opening .k) code-size ≡ refused _ = sym (o .answers) ∙ ap openingAnswer (c .before .before .answer .given .1) in
     rw e (c .refused .ensures)
 
 returns-2 : tie.Need-returns-2
 returns-2 c =
     let o = c .before .before .before .before .«open» .ensures in
-    let e : openReceiver (c .before .before .before .before .before .before .args .self .opening .k) ≡ done tt = sym (o .answers) ∙ ap openingAnswer (c .before .enum-told .given .1) in
+    let e : openReceiver (c .before .before .before .before .before .before .args .self .opening .k) code-size ≡ done tt = sym (o .answers) ∙ ap openingAnswer (c .before .enum-told .given .1) in
     rw (o .state, e, c .new .ensures)
 
 pub open-receiver-spec : {M : Type 1} → statement M
