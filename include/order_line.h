@@ -35,11 +35,11 @@ extern "C" {
 /* ---- the version ---- */
 
 /*
- * Version 2.0.0: major * 65536 + minor * 256 + patch. A later version with the same major number keeps the layouts, the
+ * Version 3.0.0: major * 65536 + minor * 256 + patch. A later version with the same major number keeps the layouts, the
  * numbers, the signatures and the promises of this one (docs/VERSION.md). order_line_version returns the version of the
  * library; the two differ where a header and a library of different versions were brought together.
  */
-#define ORDER_LINE_VERSION 0x020000u
+#define ORDER_LINE_VERSION 0x030000u
 
 uint32_t order_line_version(void);
 
@@ -55,14 +55,15 @@ uint32_t order_line_version(void);
 #define ORDER_LINE_IS_REFUSED(answer) ((answer) - 1u < 63u)
 
 /* The refusals: the numbers of docs/PROTOCOL.md, "What the ends turn away". */
-#define ORDER_LINE_REFUSED_BLOCK 1   /* k is not one of the four */
-#define ORDER_LINE_REFUSED_SPEED 2   /* not one of 200, 600, 1200, 2400, 3600, 4800 bit/s */
-#define ORDER_LINE_REFUSED_LOOP 3    /* a loop above the table's entry, or no entry */
-#define ORDER_LINE_REFUSED_EMPTY 4   /* an order of 0 bits */
-#define ORDER_LINE_REFUSED_LONG 5    /* an order above ORDER_LINE_LONGEST_ORDER bits */
-#define ORDER_LINE_REFUSED_SHORT 6   /* lent bytes cannot hold what the call reads or writes */
-#define ORDER_LINE_REFUSED_SPOILED 7 /* bytes that hold no state, a field outside its range, service bits above 15 */
-#define ORDER_LINE_REFUSED_REST 8    /* a sender that is finished or gave up */
+#define ORDER_LINE_REFUSED_BLOCK 1     /* k is not one of the four */
+#define ORDER_LINE_REFUSED_SPEED 2     /* not one of 200, 600, 1200, 2400, 3600, 4800 bit/s */
+#define ORDER_LINE_REFUSED_LOOP 3      /* a loop above the table's entry, or no entry */
+#define ORDER_LINE_REFUSED_EMPTY 4     /* an order of 0 bits */
+#define ORDER_LINE_REFUSED_LONG 5      /* an order above ORDER_LINE_LONGEST_ORDER bits */
+#define ORDER_LINE_REFUSED_SHORT 6     /* lent bytes cannot hold what the call reads or writes */
+#define ORDER_LINE_REFUSED_SPOILED 7   /* bytes that hold no state, a field outside its range, service bits above 15 */
+#define ORDER_LINE_REFUSED_REST 8      /* a sender that is finished or gave up */
+#define ORDER_LINE_REFUSED_CODE_SIZE 9 /* a code size other than 5 to 8 */
 
 /* ---- sizes ---- */
 
@@ -82,12 +83,15 @@ uint32_t order_line_version(void);
  * then grow.
  *
  * A sender, numbers little-endian: k, 4 bytes; the order's length in bits, 4; the newer item, 4; the run of cancels, 1;
- * opening, 1 (0 or 1); what goes out next, 1 (0 a synchronising block, 1 the older item, 2 the newer); finished, 1.
+ * opening, 1 (0 or 1); what goes out next, 1 (0 a synchronising block, 1 the older item, 2 the newer); finished, 1;
+ * marks in use, 1 (0 or 1); the code size, 1.
  * A receiver: k, 4 bytes; held bits, 4; items taken, 4; bad blocks in a row, 1; the return bit, 1; the end was taken, 1;
- * the phase, 1 (0 search, 1 in step, 2 sequence alarm, 3 length alarm); then the held bits, 483.
+ * the phase, 1 (0 search, 1 in step, 2 sequence alarm, 3 length alarm); then the held bits, 483; marks in use, 1; the
+ * code size, 1.
+ * With marks in use, a code size other than 5 to 8 is SPOILED. Without, an opening writes 0, and no call judges it.
  */
-#define ORDER_LINE_SENDER_BYTES 16
-#define ORDER_LINE_RECEIVER_BYTES 499
+#define ORDER_LINE_SENDER_BYTES 18
+#define ORDER_LINE_RECEIVER_BYTES 501
 
 /* ---- loop times ---- */
 
@@ -121,11 +125,29 @@ uint16_t order_line_read_block(size_t k, const uint8_t *block, size_t block_byte
 #define ORDER_LINE_PASSED 0x100
 #define ORDER_LINE_FAILED 0x200
 
+/* ---- start-of-message marks ---- */
+
+/*
+ * Label texts come in five-, six-, seven- or eight-unit code. A session may be opened with the code size given, 5 to 8,
+ * by order_line_open_sender_with_marks and order_line_open_receiver_with_marks. The service bits of item 0 are then the
+ * mark of the sender's code size: 0001, 1010, 1011 or 0010 for 5 to 8, in this order. Items 1, 2, 3 carry the letters A,
+ * B, C and so on; without marks the letters begin with item 0. Nothing else in the blocks changes, and every other call
+ * is the same.
+ *
+ * OPEN BOTH ENDS ALIKE: both with marks, or both without. Their code sizes may differ: the receiver takes any of the
+ * four marks, and order_line_receive does not tell which one came. If one end alone uses marks, the order does not
+ * arrive:
+ *   - The sender alone: item 0 is BAD, and the receiver is back in search, each time it comes. Nothing is stored, and
+ *     the sender gives up after 64 cancels. If a repeat request is lost meanwhile, item 1 may be stored in the place of
+ *     item 0; the end then brings LENGTH_ALARM.
+ *   - The receiver alone: item 0 brings SEQUENCE_ALARM. Nothing is stored, and the sender gives up.
+ */
+
 /* ---- the sending end ---- */
 
 /*
- * Opens a sender for an order of length bits, 1 to ORDER_LINE_LONGEST_ORDER, on a line with this speed and loop time,
- * and writes it over the first ORDER_LINE_SENDER_BYTES bytes of state. Returns 0.
+ * Opens a sender without marks for an order of length bits, 1 to ORDER_LINE_LONGEST_ORDER, on a line with this speed and
+ * loop time, and writes it over the first ORDER_LINE_SENDER_BYTES bytes of state. Returns 0.
  *
  * A NEW ORDER NEEDS BOTH ENDS OPENED ANEW, the machine's receiver too. Nothing in the blocks tells one order from the
  * next: A MACHINE THAT IS NOT OPENED ANEW MAY JOIN THE NEW ORDER'S ITEMS TO THE OLD ONES AND REPORT THE END (see
@@ -137,16 +159,24 @@ uint8_t order_line_open_sender(size_t k, uint32_t speed, uint32_t loop_ms, size_
                                size_t order_bytes, uint8_t *state, size_t state_bytes);
 
 /*
+ * The same with marks; size is the code size.
+ * Refused: BLOCK, SPEED, LOOP, EMPTY, LONG, CODE_SIZE, SHORT, in this order.
+ */
+uint8_t order_line_open_sender_with_marks(size_t k, uint32_t speed, uint32_t loop_ms, size_t length, size_t size,
+                                          const uint8_t *order, size_t order_bytes, uint8_t *state,
+                                          size_t state_bytes);
+
+/*
  * Sends one block: writes it over the first ORDER_LINE_BLOCK_BYTES(k) bytes of block, and the sender's next state over
  * state. The order is lent whole at each call. reading is the return channel's reading for this block period: true asks
- * for a repeat. Returns ORDER_LINE_SENT with the marks below.
+ * for a repeat. Returns ORDER_LINE_SENT with the flags below.
  * Refused: SPOILED (also a state that is too short), REST, SHORT (order or block), in this order.
  */
 uint32_t order_line_send(uint8_t *state, size_t state_bytes, const uint8_t *order, size_t order_bytes, bool reading,
                          uint8_t *block, size_t block_bytes);
 
 #define ORDER_LINE_SENT 0x100u           /* a block was sent; set in every word that is no refusal */
-#define ORDER_LINE_SENT_ITEM 0x200u      /* an item; without this mark, a synchronising block */
+#define ORDER_LINE_SENT_ITEM 0x200u      /* an item; without this flag, a synchronising block */
 #define ORDER_LINE_SENT_END 0x400u       /* the item is an end block */
 #define ORDER_LINE_SENT_USED 0x800u      /* its reading was used */
 #define ORDER_LINE_SENT_CANCELLED 0x1000u /* it was cancelled: its last bit is inverted */
@@ -166,7 +196,8 @@ uint8_t order_line_sender_rest(const uint8_t *state, size_t state_bytes);
 /* ---- the receiving end ---- */
 
 /*
- * Opens a receiver, in search with return bit 1, over the first ORDER_LINE_RECEIVER_BYTES bytes of state. Returns 0.
+ * Opens a receiver without marks, in search with return bit 1, over the first ORDER_LINE_RECEIVER_BYTES bytes of state.
+ * Returns 0.
  *
  * A NEW ORDER NEEDS BOTH ENDS OPENED ANEW, the office's sender too, also after a session that broke off. Nothing in the
  * blocks tells one order from the next. A MACHINE THAT IS NOT OPENED ANEW MAY JOIN THE NEW ORDER'S ITEMS TO THE OLD ONES
@@ -176,6 +207,12 @@ uint8_t order_line_sender_rest(const uint8_t *state, size_t state_bytes);
  * Refused: BLOCK, SHORT (state is too short).
  */
 uint8_t order_line_open_receiver(size_t k, uint8_t *state, size_t state_bytes);
+
+/*
+ * The same with marks; size is the code size.
+ * Refused: BLOCK, CODE_SIZE, SHORT, in this order.
+ */
+uint8_t order_line_open_receiver_with_marks(size_t k, size_t size, uint8_t *state, size_t state_bytes);
 
 /*
  * Takes bits from the line, the first `bits` bits of line, up to the next event or to the last, and returns the event.

@@ -28,7 +28,7 @@ AS_IT_IS = "as it is"
 # A place, the declaration there and the message, which may go on in lines that begin with blanks.
 ERROR = re.compile(r"^(\S+): error[^:]*: (?:`([^`]*)`: )?(.*(?:\n  .*)*)", re.MULTILINE)
 OPEN_NEED = re.compile(r"^note: (\S+): it is not proved that ", re.MULTILINE)
-NO_PROOF = re.compile(r"^fn \S+: no proof: expected `[^`]*` in (\S+)/Proof\.antt", re.MULTILINE)
+NO_PROOF = re.compile(r"^fn \S+: no proof: expected `[^`]*` in (\S+)/Proof\.antt; `search` does not close", re.MULTILINE)
 CONTRACT = re.compile(r"^ *(?:requires|ensures) .*", re.MULTILINE)
 
 # The declaration names one that was refused: nothing new.

@@ -12,6 +12,9 @@ static_assert(ORDER_LINE_STORE_BYTES(960) == 32880, "274 items of 120 bytes");
 static_assert(ORDER_LINE_STORE_BYTES(3840) == 33120, "69 items of 480 bytes");
 static_assert(ORDER_LINE_STORE_BYTES(240) == ORDER_LINE_MOST_ITEMS * ORDER_LINE_PAYLOAD_BYTES(240), "the most items");
 
+static_assert(ORDER_LINE_SENDER_BYTES == 16 + 2, "a head and the marks");
+static_assert(ORDER_LINE_RECEIVER_BYTES == 16 + ORDER_LINE_BLOCK_BYTES(3840) + 2, "a head, a block and the marks");
+
 #define REFUSED(number)                                                                                                \
     (ORDER_LINE_IS_REFUSED((uint8_t)(number)) && ORDER_LINE_IS_REFUSED((uint16_t)(number)) &&                          \
      ORDER_LINE_IS_REFUSED((uint32_t)(number)) && !ORDER_LINE_IS_EVENT((uint8_t)(number)))
@@ -21,7 +24,7 @@ static_assert(ORDER_LINE_STORE_BYTES(240) == ORDER_LINE_MOST_ITEMS * ORDER_LINE_
 #define WORD(number) (!ORDER_LINE_IS_REFUSED((uint16_t)(number)) && !ORDER_LINE_IS_REFUSED((uint32_t)(number)))
 
 static_assert(NEITHER(0) && WORD(0), "done");
-static_assert(REFUSED(ORDER_LINE_REFUSED_BLOCK) && REFUSED(ORDER_LINE_REFUSED_REST) && REFUSED(63), "refusals");
+static_assert(REFUSED(ORDER_LINE_REFUSED_BLOCK) && REFUSED(ORDER_LINE_REFUSED_CODE_SIZE) && REFUSED(63), "refusals");
 static_assert(EVENT(ORDER_LINE_EVENT_NONE) && EVENT(ORDER_LINE_EVENT_ENDED) && EVENT(79), "events");
 static_assert(NEITHER(ORDER_LINE_GOING_ON) && NEITHER(ORDER_LINE_FINISHED) && NEITHER(ORDER_LINE_GAVE_UP), "rest");
 static_assert(NEITHER(ORDER_LINE_RETURN_0) && NEITHER(ORDER_LINE_RETURN_1), "return bit");

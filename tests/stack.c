@@ -24,12 +24,20 @@ static void open_sender(void)
 {
     answer = order_line_open_sender(k, 200, 0, ITEMS * k, order, sizeof order, sender, sizeof sender);
 }
+static void open_marked_sender(void)
+{
+    answer = order_line_open_sender_with_marks(k, 200, 0, ITEMS * k, 5, order, sizeof order, sender, sizeof sender);
+}
 static void send(void)
 {
     answer = order_line_send(sender, sizeof sender, order, sizeof order, false, block, sizeof block);
 }
 static void rest(void) { answer = order_line_sender_rest(sender, sizeof sender); }
 static void open_receiver(void) { answer = order_line_open_receiver(k, receiver, sizeof receiver); }
+static void open_marked_receiver(void)
+{
+    answer = order_line_open_receiver_with_marks(k, 8, receiver, sizeof receiver);
+}
 static void receive(void)
 {
     answer = order_line_receive(receiver, sizeof receiver, line, sizeof line, bits, store, sizeof store, &used, &length);
@@ -77,12 +85,14 @@ static void deepen(size_t *deepest, void (*call)(void))
 }
 
 /* A whole order from end to end in calls of at most so many bits; the deepest of sending and receiving. */
-static bool session(size_t most, size_t *sending, size_t *receiving)
+static bool session(bool marks, size_t most, size_t *sending, size_t *receiving)
 {
-    open_sender();
-    open_receiver();
+    (marks ? open_marked_sender : open_sender)();
+    (marks ? open_marked_receiver : open_receiver)();
     length = 0;
-    for (int period = 0; period < ITEMS + 4 && order_line_sender_rest(sender, sizeof sender) == ORDER_LINE_GOING_ON; period++) {
+    for (int period = 0; period < ITEMS + 4; period++) {
+        if (order_line_sender_rest(sender, sizeof sender) != ORDER_LINE_GOING_ON)
+            break;
         deepen(sending, send);
         size_t n = k + 20;
         for (size_t at = 0; at < n; at += bits) {
@@ -98,27 +108,44 @@ static bool session(size_t most, size_t *sending, size_t *receiving)
     return length == ITEMS * k && memcmp(store, order, ITEMS * k / 8) == 0;
 }
 
+/* The calls that a session does not measure. */
+static struct {
+    const char *name;
+    void (*call)(void);
+    size_t deepest;
+} others[] = {
+    {"loop_time", loop_time, 0},
+    {"build_block", build, 0},
+    {"read_block", read, 0},
+    {"open_sender", open_sender, 0},
+    {"open_sender_with_marks", open_marked_sender, 0},
+    {"sender_rest", rest, 0},
+    {"open_receiver", open_receiver, 0},
+    {"open_receiver_with_marks", open_marked_receiver, 0},
+    {"return_bit", return_bit, 0},
+    {"version", version, 0},
+};
+
+#define OTHERS (sizeof others / sizeof others[0])
+
 int main(void)
 {
     static const size_t lengths[] = {240, 480, 960, 3840}, pieces[] = {3860, 64, 1};
-    size_t sending = 0, receiving = 0, others[8] = {0};
-    static void (*const calls[8])(void) = {loop_time, build, read, open_sender, rest, open_receiver, return_bit, version};
-    static const char *const names[8] = {"loop_time",   "build_block",   "read_block", "open_sender",
-                                         "sender_rest", "open_receiver", "return_bit", "version"};
+    size_t sending = 0, receiving = 0;
     for (size_t i = 0; i < sizeof order; i++)
         order[i] = (uint8_t)(i * 89 + 7);
     for (size_t i = 0; i < 4; i++) {
         k = lengths[i];
-        for (size_t j = 0; j < 3; j++)
-            if (!session(pieces[j], &sending, &receiving)) {
-                printf("the order did not arrive: k %zu, %zu bits a call\n", k, pieces[j]);
+        for (size_t j = 0; j < 6; j++)
+            if (!session(j >= 3, pieces[j % 3], &sending, &receiving)) {
+                printf("the order did not arrive: k %zu, %zu bits a call\n", k, pieces[j % 3]);
                 return 1;
             }
-        for (size_t j = 0; j < 8; j++)
-            deepen(&others[j], calls[j]);
+        for (size_t j = 0; j < OTHERS; j++)
+            deepen(&others[j].deepest, others[j].call);
     }
-    for (size_t j = 0; j < 8; j++)
-        printf("%-14s %5zu\n", names[j], others[j]);
-    printf("%-14s %5zu\n%-14s %5zu\n", "send", sending, "receive", receiving);
+    for (size_t j = 0; j < OTHERS; j++)
+        printf("%-24s %5zu\n", others[j].name, others[j].deepest);
+    printf("%-24s %5zu\n%-24s %5zu\n", "send", sending, "receive", receiving);
     return 0;
 }

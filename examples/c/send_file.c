@@ -2,10 +2,11 @@
  * An office and a machine in one program: a file goes through the order line's library over a noisy line, and what
  * arrived is compared with what was sent.
  *
- *     send_file [FILE [K]]
+ *     send_file [FILE [K [SIZE]]]
  *
- * FILE has 1 to 32,768 bytes; K is 240 (as without it), 480, 960 or 3840 data bits a block. Exit status 0 means that the
- * file arrived whole, 1 that it did not, 2 that it could not be read or the line was refused.
+ * FILE has 1 to 32,768 bytes; K is 240 (as without it), 480, 960 or 3840 data bits a block. With SIZE, a code size of 5 to
+ * 8, both ends use start-of-message marks. Exit status 0 means that the file arrived whole, 1 that it did not, 2 that it
+ * could not be read or the line was refused.
  *
  * The office and the machine are what firmware would take over: each has its own memory and meets the other only in the
  * bits of the line and in the return bit. The noise and main() stand for the modems and the clock.
@@ -37,6 +38,18 @@ struct office {
     unsigned long synchronising, cancelled, repeats;
     unsigned long items_begun; /* items sent at least once */
 };
+
+/* For each order anew; size is the code size, or NULL for a session without marks. */
+static uint8_t office_open(struct office *office, size_t k, const size_t *size)
+{
+    size_t length = 8 * office->order_bytes;
+
+    if (size != NULL)
+        return order_line_open_sender_with_marks(k, SPEED, LOOP_MS, length, *size, office->order, office->order_bytes,
+                                                 office->state, ORDER_LINE_SENDER_BYTES);
+    return order_line_open_sender(k, SPEED, LOOP_MS, length, office->order, office->order_bytes, office->state,
+                                  ORDER_LINE_SENDER_BYTES);
+}
 
 /*
  * At the start of a block period: the block's bits but the last do not depend on the reading, which is not there yet. So
@@ -95,13 +108,16 @@ static void machine_set_return_bit(struct machine *machine)
     machine->return_bit = ORDER_LINE_RETURN_BIT(order_line_return_bit(machine->state, ORDER_LINE_RECEIVER_BYTES));
 }
 
-/* For each order anew. */
-static uint8_t machine_open(struct machine *machine, size_t k)
+/* For each order anew, with a size if the office has one: the two need not be the same. */
+static uint8_t machine_open(struct machine *machine, size_t k, const size_t *size)
 {
     uint8_t answer;
 
     memset(machine, 0, sizeof *machine);
-    answer = order_line_open_receiver(k, machine->state, ORDER_LINE_RECEIVER_BYTES);
+    if (size != NULL)
+        answer = order_line_open_receiver_with_marks(k, *size, machine->state, ORDER_LINE_RECEIVER_BYTES);
+    else
+        answer = order_line_open_receiver(k, machine->state, ORDER_LINE_RECEIVER_BYTES);
     machine_set_return_bit(machine);
     return answer;
 }
@@ -266,15 +282,14 @@ static bool arrived_whole(const struct office *office, const struct machine *mac
     return machine->length == 8 * office->order_bytes && memcmp(machine->store, office->order, office->order_bytes) == 0;
 }
 
-static int run_session(struct office *office, struct machine *machine, size_t k)
+static int run_session(struct office *office, struct machine *machine, size_t k, const size_t *size)
 {
     struct noise noise = {1968, 0, 0, 0};
     uint8_t rest = ORDER_LINE_GOING_ON;
-    uint8_t refusal = order_line_open_sender(k, SPEED, LOOP_MS, 8 * office->order_bytes, office->order,
-                                             office->order_bytes, office->state, ORDER_LINE_SENDER_BYTES);
+    uint8_t refusal = office_open(office, k, size);
 
     if (refusal == 0)
-        refusal = machine_open(machine, k);
+        refusal = machine_open(machine, k, size);
     while (refusal == 0 && rest == ORDER_LINE_GOING_ON) {
         refusal = run_period(office, machine, &noise, k);
         rest = order_line_sender_rest(office->state, ORDER_LINE_SENDER_BYTES);
@@ -299,6 +314,7 @@ int main(int argc, char **argv)
     static struct machine machine;
     const char *path = argc > 1 ? argv[1] : "README.md";
     size_t k = argc > 2 ? (size_t)strtoul(argv[2], NULL, 10) : 240;
+    size_t size = argc > 3 ? (size_t)strtoul(argv[3], NULL, 10) : 0;
     FILE *file;
 
     if (order_line_version() != ORDER_LINE_VERSION) {
@@ -317,5 +333,5 @@ int main(int argc, char **argv)
         return 2;
     }
     fclose(file);
-    return run_session(&office, &machine, k);
+    return run_session(&office, &machine, k, argc > 3 ? &size : NULL);
 }

@@ -34,6 +34,8 @@ pub struct Opening {
     pub speed: u32,
     pub loop_ms: u32,
     pub length: usize,
+    /// With a code size the session uses marks.
+    pub code_size: Option<usize>,
 }
 
 /// "Sending".
@@ -57,8 +59,8 @@ pub struct Line<'a> {
 
 /// "Receiving".
 pub trait ReceivingEnd {
-    /// 0 or the refusal's number.
-    fn open_receiver(&self, k: usize, state: &mut [u8]) -> u8;
+    /// 0 or the refusal's number. With a code size the session uses marks.
+    fn open_receiver(&self, k: usize, code_size: Option<usize>, state: &mut [u8]) -> u8;
 
     /// The event's number or the refusal's.
     fn receive(&self, state: &mut [u8], line: Line, store: &mut [u8], counts: &mut Counts) -> u8;
@@ -95,8 +97,22 @@ impl LoopTimes for Reference {
 
 impl SendingEnd for Reference {
     fn open_sender(&self, opening: Opening, order: &[u8], state: &mut [u8]) -> u8 {
-        let (speed, loop_ms) = (opening.speed as usize, opening.loop_ms as usize);
-        match sender::open(opening.k, speed, loop_ms, opening.length, order) {
+        let Opening {
+            k,
+            speed,
+            loop_ms,
+            length,
+            code_size,
+        } = opening;
+        let opened = sender::open(
+            k,
+            speed as usize,
+            loop_ms as usize,
+            length,
+            code_size,
+            order,
+        );
+        match opened {
             Err(refusal) => refusal,
             Ok(_) if state.len() < SENDER_BYTES => SHORT,
             Ok(sender) => {
@@ -122,8 +138,8 @@ impl SendingEnd for Reference {
 }
 
 impl ReceivingEnd for Reference {
-    fn open_receiver(&self, k: usize, state: &mut [u8]) -> u8 {
-        match receiver::open(k) {
+    fn open_receiver(&self, k: usize, code_size: Option<usize>, state: &mut [u8]) -> u8 {
+        match receiver::open(k, code_size) {
             Err(refusal) => refusal,
             Ok(_) if state.len() < RECEIVER_BYTES => SHORT,
             Ok(receiver) => {
@@ -193,8 +209,8 @@ impl SendingEnd for TableDriven {
 }
 
 impl ReceivingEnd for TableDriven {
-    fn open_receiver(&self, k: usize, state: &mut [u8]) -> u8 {
-        Reference.open_receiver(k, state)
+    fn open_receiver(&self, k: usize, code_size: Option<usize>, state: &mut [u8]) -> u8 {
+        Reference.open_receiver(k, code_size, state)
     }
 
     fn receive(&self, state: &mut [u8], line: Line, store: &mut [u8], counts: &mut Counts) -> u8 {

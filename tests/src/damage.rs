@@ -86,7 +86,7 @@ fn span(pattern: &[bool]) -> usize {
     }
 }
 
-/// Inverts the bits that the pattern marks.
+/// Inverts the bits that the pattern sets.
 pub fn invert(bits: &mut [bool], pattern: &[bool]) {
     for (bit, &inverted) in bits.iter_mut().zip(pattern) {
         *bit ^= inverted;

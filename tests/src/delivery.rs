@@ -91,8 +91,12 @@ pub struct Delivery {
 }
 
 impl Delivery {
-    /// Both ends have just been opened, with the same k.
-    pub fn new(k: usize, length: usize, order: &[u8], store: &[u8]) -> Delivery {
+    /// Both ends have just been opened, and alike: with the same k, and with marks at both or at
+    /// neither. The code sizes need not agree.
+    pub fn new(sender: &Sender, receiver: &Receiver, order: &[u8], store: &[u8]) -> Delivery {
+        assert_eq!(sender.k, receiver.k);
+        assert_eq!(sender.marks.in_use, receiver.marks.in_use);
+        let (k, length) = (sender.k, sender.length);
         let filled_order: Bits = (0..items(k, length))
             .flat_map(|item| item_payload(k, length, order, item))
             .collect();

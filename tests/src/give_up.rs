@@ -37,6 +37,7 @@ fn periods(tested: &impl SendingEnd, k: usize, confirmed: usize) -> usize {
         speed: 200,
         loop_ms: 0,
         length: 8 * order.len(),
+        code_size: None,
     };
     assert_eq!(tested.open_sender(opening, &order, &mut state), 0);
     let mut block = vec![0; block_bytes(k)];

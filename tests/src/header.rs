@@ -105,7 +105,7 @@ fn header_functions() -> Vec<Function> {
 #[test]
 fn the_header_and_the_wrapper_have_the_same_numbers() {
     let header = header_numbers();
-    assert_eq!(header.len(), 33);
+    assert_eq!(header.len(), 34);
     assert_eq!(header, constants("examples/rust/src/numbers.rs"));
 }
 
@@ -140,7 +140,7 @@ fn the_header_has_the_numbers_that_are_compared_with_the_library() {
 #[test]
 fn the_header_the_wrapper_and_the_library_have_the_same_functions() {
     let header = header_functions();
-    assert_eq!(header.len(), 10);
+    assert_eq!(header.len(), 12);
     assert_eq!(header, functions("examples/rust/src/c.rs"));
     let files = ["version", "block_calls", "sender_calls", "receiver_calls"];
     let paths = files.map(|file| format!("crates/line_c/src/{file}.rt"));

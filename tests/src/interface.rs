@@ -2,17 +2,20 @@
 //! numbers. The layouts and the numbers are those that `include/order_line.h` gives.
 
 use crate::reference::block::Read;
+use crate::reference::marks::Marks;
 use crate::reference::receiver::{Alarm, Event, Received, Receiver, HELD_BYTES};
 use crate::reference::refusal::{Refusal, SPOILED};
 use crate::reference::sender::{Next, Sender, Sent};
 
 /// Both layouts begin with three numbers of four bytes, the lowest first, and four bytes.
-const HEAD_BYTES: usize = 16;
-pub const SENDER_BYTES: usize = HEAD_BYTES;
-pub const RECEIVER_BYTES: usize = HEAD_BYTES + HELD_BYTES;
+pub const HEAD_BYTES: usize = 16;
+/// Both end with whether marks are in use, and the code size.
+pub const MARKS_BYTES: usize = 2;
+pub const SENDER_BYTES: usize = HEAD_BYTES + MARKS_BYTES;
+pub const RECEIVER_BYTES: usize = HEAD_BYTES + HELD_BYTES + MARKS_BYTES;
 
-/// 2.0.0.
-pub const VERSION: u32 = 0x02_00_00;
+/// 3.0.0.
+pub const VERSION: u32 = 0x03_00_00;
 
 /// What `sender_rest` answers besides 7.
 pub const GOING_ON: u8 = 80;
@@ -26,10 +29,10 @@ pub const RETURN_1: u8 = 97;
 /// The events' numbers; those of the refusals stay below them.
 pub const EVENT_NONE: u8 = 64;
 const EVENT_SYNC: u8 = 65;
-const EVENT_BAD: u8 = 66;
+pub const EVENT_BAD: u8 = 66;
 pub const EVENT_ACCEPTED: u8 = 67;
-const EVENT_PREVIOUS: u8 = 68;
-const EVENT_SEQUENCE_ALARM: u8 = 69;
+pub const EVENT_PREVIOUS: u8 = 68;
+pub const EVENT_SEQUENCE_ALARM: u8 = 69;
 const EVENT_LENGTH_ALARM: u8 = 70;
 const EVENT_ENDED: u8 = 71;
 
@@ -37,7 +40,7 @@ const EVENT_ENDED: u8 = 71;
 const PASSED: u16 = 0x100;
 const FAILED: u16 = 0x200;
 
-/// The marks of a sending call's answer; an item's number stands above them.
+/// The flags of a sending call's answer; an item's number stands above them.
 const SENT: u32 = 0x100;
 const SENT_ITEM: u32 = 0x200;
 const SENT_END: u32 = 0x400;
@@ -75,7 +78,19 @@ fn load_flag(byte: u8) -> Option<bool> {
     }
 }
 
-/// k, L, newer; cancel run, opening, next, finished. `None` if the bytes hold no sender.
+fn load_marks(bytes: &[u8]) -> Option<Marks> {
+    Some(Marks {
+        in_use: load_flag(bytes[0])?,
+        size: usize::from(bytes[1]),
+    })
+}
+
+fn store_marks(marks: Marks, bytes: &mut [u8]) {
+    bytes[0] = u8::from(marks.in_use);
+    bytes[1] = marks.size as u8;
+}
+
+/// k, L, newer; cancel run, opening, next, finished; the marks. `None` if the bytes hold no sender.
 pub fn load_sender(bytes: &[u8]) -> Option<Sender> {
     let bytes = bytes.get(..SENDER_BYTES)?;
     let [k, length, newer] = load_words(bytes);
@@ -87,6 +102,7 @@ pub fn load_sender(bytes: &[u8]) -> Option<Sender> {
         opening: load_flag(bytes[13])?,
         next: *NEXT.get(usize::from(bytes[14]))?,
         finished: load_flag(bytes[15])?,
+        marks: load_marks(&bytes[HEAD_BYTES..])?,
     })
 }
 
@@ -100,10 +116,11 @@ pub fn store_sender(sender: &Sender, bytes: &mut [u8]) {
         Next::Newer => 2,
     };
     bytes[15] = u8::from(sender.finished);
+    store_marks(sender.marks, &mut bytes[HEAD_BYTES..SENDER_BYTES]);
 }
 
-/// k, held, taken; bad row, return bit, end taken, phase; the array. `None` if the bytes hold no
-/// receiver.
+/// k, held, taken; bad row, return bit, end taken, phase; the array; the marks. `None` if the bytes
+/// hold no receiver.
 pub fn load_receiver(bytes: &[u8]) -> Option<Receiver> {
     let bytes = bytes.get(..RECEIVER_BYTES)?;
     let (search, alarm) = match bytes[15] {
@@ -113,8 +130,9 @@ pub fn load_receiver(bytes: &[u8]) -> Option<Receiver> {
         3 => (false, Some(Alarm::Length)),
         _ => return None,
     };
+    let (held_bytes, marks) = bytes[HEAD_BYTES..].split_at(HELD_BYTES);
     let mut array = [0; HELD_BYTES];
-    array.copy_from_slice(&bytes[HEAD_BYTES..]);
+    array.copy_from_slice(held_bytes);
     let [k, held, taken] = load_words(bytes);
     Some(Receiver {
         k,
@@ -126,6 +144,7 @@ pub fn load_receiver(bytes: &[u8]) -> Option<Receiver> {
         search,
         alarm,
         array,
+        marks: load_marks(marks)?,
     })
 }
 
@@ -140,7 +159,9 @@ pub fn store_receiver(receiver: &Receiver, bytes: &mut [u8]) {
         (Some(Alarm::Sequence), _) => 2,
         (Some(Alarm::Length), _) => 3,
     };
-    bytes[HEAD_BYTES..RECEIVER_BYTES].copy_from_slice(&receiver.array);
+    let (array, marks) = bytes[HEAD_BYTES..RECEIVER_BYTES].split_at_mut(HELD_BYTES);
+    array.copy_from_slice(&receiver.array);
+    store_marks(receiver.marks, marks);
 }
 
 /// What an answer of `read_block` says.
@@ -156,7 +177,7 @@ pub fn decode_read(number: u16) -> Read {
 
 /// The answer of a sending call.
 pub fn encode_sent(sent: Sent) -> u32 {
-    let mark = |set, value| if set { value } else { 0 };
+    let flag = |set, value| if set { value } else { 0 };
     match sent {
         Sent::Refused(number) => u32::from(number),
         Sent::Synchronising => SENT,
@@ -166,9 +187,9 @@ pub fn encode_sent(sent: Sent) -> u32 {
             used,
             cancelled,
         } => {
-            let marks =
-                mark(end, SENT_END) | mark(used, SENT_USED) | mark(cancelled, SENT_CANCELLED);
-            SENT | SENT_ITEM | marks | (item as u32) << NUMBER_SHIFT
+            let flags =
+                flag(end, SENT_END) | flag(used, SENT_USED) | flag(cancelled, SENT_CANCELLED);
+            SENT | SENT_ITEM | flags | (item as u32) << NUMBER_SHIFT
         }
     }
 }
@@ -281,14 +302,18 @@ mod tests {
             for byte in &mut bytes[13..HEAD_BYTES] {
                 *byte = rng.below(5) as u8;
             }
+            let marks_in_use = rng.below(3) as u8;
+            for place in [SENDER_BYTES, RECEIVER_BYTES] {
+                bytes[place - MARKS_BYTES] = marks_in_use;
+            }
             let mut stored = vec![0xEE; RECEIVER_BYTES];
             let loaded = load_sender(&bytes).map(|sender| store_sender(&sender, &mut stored));
-            let in_range = bytes[13] < 2 && bytes[14] < 3 && bytes[15] < 2;
+            let in_range = bytes[13] < 2 && bytes[14] < 3 && bytes[15] < 2 && marks_in_use < 2;
             assert_eq!(loaded.is_some(), in_range);
             assert!(loaded.is_none() || stored[..SENDER_BYTES] == bytes[..SENDER_BYTES]);
             let loaded =
                 load_receiver(&bytes).map(|receiver| store_receiver(&receiver, &mut stored));
-            let in_range = bytes[13] < 2 && bytes[14] < 2 && bytes[15] < 4;
+            let in_range = bytes[13] < 2 && bytes[14] < 2 && bytes[15] < 4 && marks_in_use < 2;
             assert_eq!(loaded.is_some(), in_range);
             assert!(loaded.is_none() || stored == bytes);
             assert_eq!(load_sender(&bytes[..SENDER_BYTES - 1]), None);
@@ -298,13 +323,13 @@ mod tests {
 
     #[test]
     fn answers_are_decoded_as_they_were_encoded() {
-        let item = |item, marks: usize| Sent::Item {
+        let item = |item, flags: usize| Sent::Item {
             item,
-            end: marks & 1 == 1,
-            used: marks & 2 == 2,
-            cancelled: marks & 4 == 4,
+            end: flags & 1 == 1,
+            used: flags & 2 == 2,
+            cancelled: flags & 4 == 4,
         };
-        let items = (0..8).flat_map(|marks| [item(0, marks), item(1094, marks)]);
+        let items = (0..8).flat_map(|flags| [item(0, flags), item(1094, flags)]);
         for answer in items.chain([Sent::Synchronising, Sent::Refused(8)]) {
             assert_eq!(decode_sent(encode_sent(answer)), answer);
         }

@@ -58,17 +58,41 @@ impl Blocks for Library {
 
 impl SendingEnd for Library {
     fn open_sender(&self, opening: Opening, order: &[u8], state: &mut [u8]) -> u8 {
-        unsafe {
-            c::order_line_open_sender(
-                opening.k,
-                opening.speed,
-                opening.loop_ms,
-                opening.length,
-                order.as_ptr(),
-                order.len(),
-                state.as_mut_ptr(),
-                state.len(),
-            )
+        let Opening {
+            k,
+            speed,
+            loop_ms,
+            length,
+            code_size,
+        } = opening;
+        let (order, order_bytes) = (order.as_ptr(), order.len());
+        let (state, state_bytes) = (state.as_mut_ptr(), state.len());
+        match code_size {
+            None => unsafe {
+                c::order_line_open_sender(
+                    k,
+                    speed,
+                    loop_ms,
+                    length,
+                    order,
+                    order_bytes,
+                    state,
+                    state_bytes,
+                )
+            },
+            Some(size) => unsafe {
+                c::order_line_open_sender_with_marks(
+                    k,
+                    speed,
+                    loop_ms,
+                    length,
+                    size,
+                    order,
+                    order_bytes,
+                    state,
+                    state_bytes,
+                )
+            },
         }
     }
 
@@ -93,8 +117,12 @@ impl SendingEnd for Library {
 }
 
 impl ReceivingEnd for Library {
-    fn open_receiver(&self, k: usize, state: &mut [u8]) -> u8 {
-        unsafe { c::order_line_open_receiver(k, state.as_mut_ptr(), state.len()) }
+    fn open_receiver(&self, k: usize, code_size: Option<usize>, state: &mut [u8]) -> u8 {
+        let (state, bytes) = (state.as_mut_ptr(), state.len());
+        match code_size {
+            None => unsafe { c::order_line_open_receiver(k, state, bytes) },
+            Some(size) => unsafe { c::order_line_open_receiver_with_marks(k, size, state, bytes) },
+        }
     }
 
     #[inline]

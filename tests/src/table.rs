@@ -5,14 +5,18 @@ pub mod receiver;
 pub mod sender;
 
 use crate::reference::block::Read;
+use crate::reference::marks::Marks;
 
 const BLOCK: u8 = 1;
 const SHORT: u8 = 6;
 const SPOILED: u8 = 7;
 
-/// The service bits of items 0, 1 and 2, and so on in threes, and of an end block.
+/// The service bits of the data items in turn, and of an end block.
 const LETTERS: [u8; 3] = [0b0011, 0b1001, 0b1100];
 const END: u8 = 0b1000;
+/// The marks of the code sizes from this one on.
+const MARKS: [u8; 4] = [0b0001, 0b1010, 0b1011, 0b0010];
+const FIRST_SIZE: usize = 5;
 /// The version of an end block, and the longest order in bits.
 const VERSION: u8 = 1;
 const LONGEST: usize = 262_144;
@@ -45,6 +49,11 @@ fn update_register(register: u16, byte: u8) -> u16 {
 #[inline]
 fn is_length(k: usize) -> bool {
     matches!(k, 240 | 480 | 960 | 3840)
+}
+
+#[inline]
+fn are_spoiled(marks: Marks) -> bool {
+    marks.in_use && marks.size.wrapping_sub(FIRST_SIZE) >= MARKS.len()
 }
 
 /// Builds one block; refusals in the order 1, 7, 6.

@@ -36,6 +36,18 @@ unsafe extern "C" {
         state_bytes: usize,
     ) -> u8;
 
+    pub fn order_line_open_sender_with_marks(
+        k: usize,
+        speed: u32,
+        loop_ms: u32,
+        length: usize,
+        size: usize,
+        order: *const u8,
+        order_bytes: usize,
+        state: *mut u8,
+        state_bytes: usize,
+    ) -> u8;
+
     pub fn order_line_send(
         state: *mut u8,
         state_bytes: usize,
@@ -49,6 +61,13 @@ unsafe extern "C" {
     pub fn order_line_sender_rest(state: *const u8, state_bytes: usize) -> u8;
 
     pub fn order_line_open_receiver(k: usize, state: *mut u8, state_bytes: usize) -> u8;
+
+    pub fn order_line_open_receiver_with_marks(
+        k: usize,
+        size: usize,
+        state: *mut u8,
+        state_bytes: usize,
+    ) -> u8;
 
     pub fn order_line_receive(
         state: *mut u8,

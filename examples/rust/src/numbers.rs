@@ -1,7 +1,7 @@
 //! The numbers of `include/order_line.h`, by its names without `ORDER_LINE_`. The order line's tests compare the two files.
 
-/// 2.0.0: major * 65536 + minor * 256 + patch.
-pub const VERSION: u32 = 0x020000;
+/// 3.0.0: major * 65536 + minor * 256 + patch.
+pub const VERSION: u32 = 0x030000;
 
 pub const REFUSED_BLOCK: u32 = 1;
 pub const REFUSED_SPEED: u32 = 2;
@@ -11,15 +11,16 @@ pub const REFUSED_LONG: u32 = 5;
 pub const REFUSED_SHORT: u32 = 6;
 pub const REFUSED_SPOILED: u32 = 7;
 pub const REFUSED_REST: u32 = 8;
+pub const REFUSED_CODE_SIZE: u32 = 9;
 
 /// Bits of the longest order.
 pub const LONGEST_ORDER: usize = 262144;
 /// Data items of the longest order in the shortest blocks.
 pub const MOST_ITEMS: usize = 1093;
 /// Bytes of a sender's state.
-pub const SENDER_BYTES: usize = 16;
+pub const SENDER_BYTES: usize = 18;
 /// Bytes of a receiver's state.
-pub const RECEIVER_BYTES: usize = 499;
+pub const RECEIVER_BYTES: usize = 501;
 
 pub const PASSED: u16 = 0x100;
 pub const FAILED: u16 = 0x200;

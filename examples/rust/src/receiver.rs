@@ -32,13 +32,25 @@ pub struct Receiver {
 }
 
 impl Receiver {
-    /// In search, with return bit 1.
+    /// Without marks, in search, with return bit 1.
     ///
     /// **A new order needs both ends opened anew.** Nothing in the blocks tells one order from the next. A machine that is
     /// not opened anew after a session that broke off may join the new order's items to the old ones and report the end.
     pub fn open(k: usize) -> Result<Receiver, Refusal> {
         let mut state = [0; RECEIVER_BYTES];
         done(unsafe { c::order_line_open_receiver(k, state.as_mut_ptr(), state.len()) })?;
+        Ok(Receiver { state })
+    }
+
+    /// With start-of-message marks: item 0 carries the mark of the sender's code size, 5 to 8.
+    ///
+    /// **Open both ends alike**, both with marks or both without: otherwise the order does not arrive. The sizes may
+    /// differ: a receiver takes any mark.
+    pub fn open_with_marks(k: usize, size: usize) -> Result<Receiver, Refusal> {
+        let mut state = [0; RECEIVER_BYTES];
+        done(unsafe {
+            c::order_line_open_receiver_with_marks(k, size, state.as_mut_ptr(), state.len())
+        })?;
         Ok(Receiver { state })
     }
 

@@ -23,6 +23,8 @@ pub enum Refusal {
     Spoiled,
     /// 8: the sender is finished or gave up.
     Rest,
+    /// 9: a code size other than 5 to 8.
+    CodeSize,
     /// A number that [`VERSION`](crate::VERSION) does not have: the library is of another version.
     Unknown(u32),
 }
@@ -38,11 +40,12 @@ impl Refusal {
             REFUSED_SHORT => Refusal::Short,
             REFUSED_SPOILED => Refusal::Spoiled,
             REFUSED_REST => Refusal::Rest,
+            REFUSED_CODE_SIZE => Refusal::CodeSize,
             _ => Refusal::Unknown(number),
         }
     }
 
-    /// The number of the paper, "What the ends turn away".
+    /// Its number: docs/PROTOCOL.md, "What the ends turn away".
     pub fn number(self) -> u32 {
         match self {
             Refusal::Block => REFUSED_BLOCK,
@@ -53,6 +56,7 @@ impl Refusal {
             Refusal::Short => REFUSED_SHORT,
             Refusal::Spoiled => REFUSED_SPOILED,
             Refusal::Rest => REFUSED_REST,
+            Refusal::CodeSize => REFUSED_CODE_SIZE,
             Refusal::Unknown(number) => number,
         }
     }
@@ -69,6 +73,7 @@ impl fmt::Display for Refusal {
             Refusal::Short => "a slice is too short",
             Refusal::Spoiled => "the state is spoiled, or service bits are above 15",
             Refusal::Rest => "the sender is finished or gave up",
+            Refusal::CodeSize => "the code size is 5, 6, 7 or 8",
             Refusal::Unknown(_) => "the library is of another version",
         };
         write!(f, "refused {}: {reason}", self.number())

@@ -40,7 +40,7 @@ pub struct Sender {
 }
 
 impl Sender {
-    /// For an order of `length` bits. **A new order needs both ends opened anew**: see
+    /// Without marks, for an order of `length` bits. **A new order needs both ends opened anew**: see
     /// [`Receiver::open`](crate::Receiver::open).
     pub fn open(
         k: usize,
@@ -56,6 +56,33 @@ impl Sender {
                 speed,
                 loop_ms,
                 length,
+                order.as_ptr(),
+                order.len(),
+                state.as_mut_ptr(),
+                state.len(),
+            )
+        })?;
+        Ok(Sender { state })
+    }
+
+    /// With start-of-message marks of this code size, 5 to 8: see
+    /// [`Receiver::open_with_marks`](crate::Receiver::open_with_marks).
+    pub fn open_with_marks(
+        k: usize,
+        speed: u32,
+        loop_ms: u32,
+        length: usize,
+        size: usize,
+        order: &[u8],
+    ) -> Result<Sender, Refusal> {
+        let mut state = [0; SENDER_BYTES];
+        done(unsafe {
+            c::order_line_open_sender_with_marks(
+                k,
+                speed,
+                loop_ms,
+                length,
+                size,
                 order.as_ptr(),
                 order.len(),
                 state.as_mut_ptr(),

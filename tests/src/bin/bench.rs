@@ -85,7 +85,7 @@ impl Buffers {
     /// Sends the order's items from item 1 on, each with a reading of 0 that is used.
     fn send<S: BenchSender>(&mut self, tested: &S) {
         let length = 8 * self.order.len();
-        let opened = sender::open(self.k, 200, 0, length, &self.order);
+        let opened = sender::open(self.k, 200, 0, length, None, &self.order);
         let mut state = tested.state(Sender {
             next: Next::Newer,
             ..opened.expect("an opening that the rules accept")
@@ -102,7 +102,7 @@ impl Buffers {
         let mut state = tested.state(Receiver {
             search: false,
             return_bit: false,
-            ..receiver::open(self.k).expect("one of the four")
+            ..receiver::open(self.k, None).expect("one of the four")
         });
         for block in &lines.blocks {
             for (call, bytes) in block.chunks(lines.stride).enumerate() {

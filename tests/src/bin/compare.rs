@@ -5,7 +5,7 @@
 //! library built, for `crc_hqx.py`. The last line is the verdict in words; a failure is one line
 //! that says what is wrong, and the case where there is one.
 
-use order_line_tests::comparison::{block, both_ends, idle, loop_time, receiver, sender};
+use order_line_tests::comparison::{block, both_ends, idle, loop_time, marks, receiver, sender};
 use order_line_tests::comparison::{same, session, two_orders, Difference, Tally};
 use order_line_tests::interface::VERSION;
 use order_line_tests::link::{self, Library};
@@ -24,7 +24,7 @@ const BLOCKS_WRITTEN: usize = 800;
 /// A group's name and the run of all its cases.
 type Group = (&'static str, fn() -> Result<Tally, Difference>);
 
-const GROUPS: [Group; 7] = [
+const GROUPS: [Group; 8] = [
     ("loop_time", || loop_time::compare(&Library)),
     ("block", || block::compare(&Library, SEED, BLOCK_CASES)),
     ("sender", || {
@@ -38,6 +38,7 @@ const GROUPS: [Group; 7] = [
     }),
     ("two_orders", || two_orders::compare(&Library, &Library)),
     ("idle", || idle::compare(&Library, &Library)),
+    ("marks", || marks::compare(&Library, &Library)),
 ];
 
 const USAGE: &str = "usage: compare [GROUP | program PATH | blocks FILE]";

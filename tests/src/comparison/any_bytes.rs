@@ -2,18 +2,21 @@
 //! arguments, and calls on a state follow while bytes are left and the state is not refused.
 
 use super::lockstep::{BufferPair, Lockstep};
+use super::receiver::received_name;
 use super::sender::refusal_name;
 use super::{block, loop_time, Difference, GuardedBuffer, Tally};
 use crate::calls::{Blocks, LoopTimes, Opening, ReceivingEnd, SendingEnd};
 use crate::damage::invert;
-use crate::interface::{store_receiver, store_sender, RECEIVER_BYTES, SENDER_BYTES};
+use crate::interface::{store_receiver, store_sender};
+use crate::interface::{HEAD_BYTES, MARKS_BYTES, RECEIVER_BYTES, SENDER_BYTES};
 use crate::reference::bits::{bits_of, pack, unpack, Bits};
 use crate::reference::block::{assemble, block_bits, block_bytes, synchronising_block};
 use crate::reference::block::{payload_bytes, CHECK_BITS, END, LENGTHS, SEQUENCE};
 use crate::reference::loop_time::{longest_loop, SPEEDS};
+use crate::reference::marks::{Marks, CODE_SIZES, MARKS};
 use crate::reference::order::{end_payload, items, letter, LONGEST, MOST_ITEMS};
 use crate::reference::receiver::{Alarm, Received, Receiver, BAD_ROW_LIMIT, HELD_BYTES};
-use crate::reference::refusal::{REST, SPOILED};
+use crate::reference::refusal::{CODE_SIZE, REST, SPOILED};
 use crate::reference::sender::{Next, Sender, Sent, GIVE_UP};
 use crate::rng::Rng;
 
@@ -69,16 +72,13 @@ fn send<S: SendingEnd, R>(
     let order = input.pattern(length.min(LONGEST + 8).div_ceil(8));
     let mut state = BufferPair::new(GuardedBuffer::around(&mut Rng::new(2), &bytes));
     if input.byte() % 2 == 0 {
-        let (k, speed, loop_ms) = input.loop_arguments();
-        let opening = Opening {
-            k,
-            speed,
-            loop_ms,
-            length,
-        };
+        let opening = input.opening(length);
         let lent = &order[..input.near(order.len()).min(order.len())];
-        tally.count(match ends.open_sender(opening, lent, &mut state)? {
-            0 => "sender opened",
+        let answer = ends.open_sender(opening, lent, &mut state)?;
+        tally.count(match (answer, opening.code_size) {
+            (0, None) => "sender opened",
+            (0, Some(_)) => "sender opened with marks",
+            (CODE_SIZE, _) => "code size refused",
             _ => "sender not opened",
         });
     }
@@ -92,20 +92,24 @@ fn send<S: SendingEnd, R>(
             input.near(block_bytes(k)),
         ));
         let sent = ends.send(&mut state, lent, reading, &mut place)?;
-        tally.count(match sent {
-            Sent::Synchronising => "sent synchronising",
-            Sent::Item { end: true, .. } => "sent end",
-            Sent::Item {
-                cancelled: true, ..
-            } => "sent cancelled",
-            Sent::Item { .. } => "sent item",
-            Sent::Refused(number) => refusal_name(number),
-        });
+        tally.count(sent_name(sent));
         if input.bytes.is_empty() || matches!(sent, Sent::Refused(SPOILED | REST)) {
             break;
         }
     }
     Ok(())
+}
+
+fn sent_name(sent: Sent) -> &'static str {
+    match sent {
+        Sent::Synchronising => "sent synchronising",
+        Sent::Item { end: true, .. } => "sent end",
+        Sent::Item {
+            cancelled: true, ..
+        } => "sent cancelled",
+        Sent::Item { .. } => "sent item",
+        Sent::Refused(number) => refusal_name(number),
+    }
 }
 
 /// A receiver, opened or out of the bytes, and calls on it with the line cut anywhere.
@@ -117,9 +121,12 @@ fn receive<S, R: ReceivingEnd>(
     let bytes = input.receiver();
     let mut state = BufferPair::new(GuardedBuffer::around(&mut Rng::new(3), &bytes));
     if input.byte() % 4 == 0 {
-        let k = input.length();
-        tally.count(match ends.open_receiver(k, &mut state)? {
-            0 => "receiver opened",
+        let (k, code_size) = (input.length(), input.code_size());
+        let answer = ends.open_receiver(k, code_size, &mut state)?;
+        tally.count(match (answer, code_size) {
+            (0, None) => "receiver opened",
+            (0, Some(_)) => "receiver opened with marks",
+            (CODE_SIZE, _) => "code size refused",
             _ => "receiver not opened",
         });
     }
@@ -132,24 +139,16 @@ fn receive<S, R: ReceivingEnd>(
         if pending.is_empty() {
             pending = input.line_bits(k, taken);
         }
-        let bits = match input.byte() {
-            byte @ 0..=63 => usize::from(byte),
-            64..=127 => input.below(pending.len() + 2),
-            255 => input.any(),
-            _ => pending.len(),
-        };
+        let bits = input.bits(pending.len());
         let mut line = pack(&pending);
         line.resize(input.near(line.len()), 0xA5);
         let lent = input.near(whole);
         let mut store = BufferPair::new(GuardedBuffer::filled(input.byte(), lent.max(whole)));
         let received = ends.receive(&mut state, &line, bits, &mut store, lent)?;
-        tally.count(match received {
-            Received::Reported { event, used } => {
-                pending.drain(..used.min(pending.len()));
-                event.name()
-            }
-            Received::Refused(number) => refusal_name(number),
-        });
+        if let Received::Reported { used, .. } = received {
+            pending.drain(..used.min(pending.len()));
+        }
+        tally.count(received_name(received));
         if input.bytes.is_empty() || received == Received::Refused(SPOILED) {
             break;
         }
@@ -229,12 +228,44 @@ impl Input<'_> {
         self.pattern(count)
     }
 
+    /// A number of line bits to lend, of so many that are there.
+    fn bits(&mut self, pending: usize) -> usize {
+        match self.byte() {
+            byte @ 0..=63 => usize::from(byte),
+            64..=127 => self.below(pending + 2),
+            255 => self.any(),
+            _ => pending,
+        }
+    }
+
     /// Mostly one of the four, the short ones more often since they take less time, or any number.
     fn length(&mut self) -> usize {
         match self.byte() {
             byte @ 0..=239 => LENGTHS[[0, 0, 0, 0, 1, 1, 2, 3][usize::from(byte) % 8]],
             byte @ 240..=250 => LENGTHS[usize::from(byte) % 4] - 5 + usize::from(byte - 240),
             _ => self.any(),
+        }
+    }
+
+    /// None, one of the four, one near them, one with a lowest byte near them, or any number.
+    fn code_size(&mut self) -> Option<usize> {
+        match self.byte() {
+            0..=99 => None,
+            byte @ 100..=239 => Some(CODE_SIZES[usize::from(byte) % 4]),
+            byte @ 240..=249 => Some(usize::from(byte) - 240),
+            byte @ 250..=253 => Some(256 * usize::from(byte) + self.below(10)),
+            _ => Some(self.any()),
+        }
+    }
+
+    /// What a state says of marks, the size mostly one of the four.
+    fn marks(&mut self) -> Marks {
+        Marks {
+            in_use: self.flag(),
+            size: match self.byte() {
+                byte @ 0..=219 => CODE_SIZES[usize::from(byte) % 4],
+                byte => usize::from(byte) - 220,
+            },
         }
     }
 
@@ -255,6 +286,17 @@ impl Input<'_> {
         (k, speed as u32, loop_ms as u32)
     }
 
+    fn opening(&mut self, length: usize) -> Opening {
+        let (k, speed, loop_ms) = self.loop_arguments();
+        Opening {
+            k,
+            speed,
+            loop_ms,
+            length,
+            code_size: self.code_size(),
+        }
+    }
+
     /// A sender's bytes, and the order's length.
     fn sender(&mut self) -> (Vec<u8>, usize) {
         let kind = self.byte();
@@ -272,6 +314,7 @@ impl Input<'_> {
             opening: self.flag(),
             next: [Next::Synchronising, Next::Older, Next::Newer][self.below(3)],
             finished: self.byte() % 8 == 7,
+            marks: self.marks(),
         };
         let mut bytes = vec![0; SENDER_BYTES];
         store_sender(&sender, &mut bytes);
@@ -308,6 +351,7 @@ impl Input<'_> {
                 255 => Some(Alarm::Length),
                 _ => None,
             },
+            marks: self.marks(),
         };
         receiver.array.copy_from_slice(&self.pattern(HELD_BYTES));
         let mut bytes = vec![0; RECEIVER_BYTES];
@@ -320,7 +364,10 @@ impl Input<'_> {
         match kind {
             0..=179 => {}
             180..=219 => {
-                let place = self.below(16);
+                // In the head, or in what follows all else, the marks.
+                let place = self.below(HEAD_BYTES + MARKS_BYTES);
+                let marks = bytes.len() - MARKS_BYTES;
+                let place = place.checked_sub(HEAD_BYTES).map_or(place, |i| marks + i);
                 bytes[place] = self.byte();
             }
             220..=239 => {
@@ -341,7 +388,8 @@ impl Input<'_> {
                 let service = letter(taken + 2 + usize::from(self.byte()));
                 assemble(service, &self.payload(k))
             }
-            140..=159 => assemble(self.byte() % 16, &self.payload(k)),
+            140..=149 => assemble(self.byte() % 16, &self.payload(k)),
+            150..=159 => assemble(MARKS[usize::from(self.byte()) % 4], &self.payload(k)),
             160..=199 => {
                 let length = (taken * k + 8).saturating_sub(usize::from(self.byte()));
                 assemble(END, &end_payload(k, length))
@@ -398,11 +446,14 @@ mod tests {
             "read failed",
             "read refused",
             "sender opened",
+            "sender opened with marks",
             "sent synchronising",
             "sent item",
             "sent end",
             "sent cancelled",
             "receiver opened",
+            "receiver opened with marks",
+            "code size refused",
             "refused 6",
             "refused 7",
             "refused 8",

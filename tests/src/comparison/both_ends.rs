@@ -1,7 +1,9 @@
-//! Random sessions of both ends over a line with errors. Along those that meet the suppositions of
-//! demand 3, its claims are checked too.
+//! Random sessions of both ends over a line with errors, with marks and without. Along those that
+//! meet the suppositions of demand 3, its claims are checked too.
 
+use super::channel::{ChannelModel, ErrorRates};
 use super::lockstep::{BufferPair, Lockstep};
+use super::marks::CodeSizes;
 use super::orders::Order;
 use super::sender::refusal_name;
 use super::{spoil, Difference, GuardedBuffer, Tally};
@@ -11,7 +13,7 @@ use crate::delivery::{Delivery, Receiving, Sending};
 use crate::interface::{load_receiver, load_sender, RECEIVER_BYTES, SENDER_BYTES};
 use crate::reference::bits::{bits_of, pack, unpack, Bits};
 use crate::reference::block::{assemble, block_bits, block_bytes, cancel, synchronising_block};
-use crate::reference::order::{letter, LONGEST};
+use crate::reference::order::{data_service, LONGEST};
 use crate::reference::receiver::{Received, Receiver};
 use crate::reference::sender::{Sender, Sent};
 use crate::rng::Rng;
@@ -38,56 +40,6 @@ pub fn compare<S: SendingEnd, R: ReceivingEnd>(
     Ok(tally)
 }
 
-/// The error rates of the line and its return channel for a while, in percent.
-#[derive(Clone, Copy)]
-struct ErrorRates {
-    damaged: usize,
-    /// Of the damaged, those that demand 3 does not admit.
-    not_admitted: usize,
-    /// Cancelled blocks that arrive whole.
-    cancelled_whole: usize,
-    /// Return bits of 1 read as 0.
-    lost_requests: usize,
-    /// Return bits of 0 read as 1.
-    false_requests: usize,
-}
-
-/// Which errors the channel of a session has at all.
-#[derive(Clone, Copy)]
-struct ChannelModel {
-    /// Requests may be lost.
-    loses_requests: bool,
-    /// Damage may be of any kind.
-    any_damage: bool,
-    /// Every return bit of 0 is read as 1.
-    stuck_at_1: bool,
-}
-
-impl ChannelModel {
-    fn random(rng: &mut Rng) -> ChannelModel {
-        ChannelModel {
-            loses_requests: rng.chance(40),
-            any_damage: rng.chance(20),
-            stuck_at_1: rng.chance(2),
-        }
-    }
-
-    fn rates(self, rng: &mut Rng) -> ErrorRates {
-        let false_requests = rng.pick(&[0, 0, 0, 10, 30, 100]);
-        ErrorRates {
-            damaged: rng.pick(&[0, 0, 5, 20, 20, 50, 90]),
-            not_admitted: if self.any_damage { 40 } else { 0 },
-            cancelled_whole: if self.any_damage { 20 } else { 0 },
-            lost_requests: if self.loses_requests {
-                rng.pick(&[5, 20, 60])
-            } else {
-                0
-            },
-            false_requests: if self.stuck_at_1 { 100 } else { false_requests },
-        }
-    }
-}
-
 struct Session<'a, S, R> {
     ends: &'a Lockstep<'a, S, R>,
     rng: Rng,
@@ -96,7 +48,8 @@ struct Session<'a, S, R> {
     sender: BufferPair,
     receiver: BufferPair,
     store: BufferPair,
-    delivery: Delivery,
+    /// Of ends that were opened alike.
+    delivery: Option<Delivery>,
     channel: ChannelModel,
     rates: ErrorRates,
 }
@@ -110,22 +63,23 @@ impl<'a, S: SendingEnd, R: ReceivingEnd> Session<'a, S, R> {
     ) -> Result<Session<'a, S, R>, Difference> {
         let mut sender = BufferPair::random(&mut rng, SENDER_BYTES);
         let mut receiver = BufferPair::random(&mut rng, RECEIVER_BYTES);
+        let sizes = CodeSizes::random(&mut rng);
         let opening = Opening {
             k: order.k,
             speed: 200,
             loop_ms: 0,
             length: order.length,
+            code_size: sizes.sender,
         };
         let refused = ends.open_sender(opening, &order.bytes, &mut sender)?;
         assert_eq!(refused, 0, "an opening that the rules accept");
-        let refused = ends.open_receiver(order.k, &mut receiver)?;
+        let refused = ends.open_receiver(order.k, sizes.receiver, &mut receiver)?;
         assert_eq!(refused, 0, "the same k");
         let further = rng.pick(&[0, 0, 1, 40]);
         let store = BufferPair::random(&mut rng, order.items() * order.k / 8 + further);
-        let delivery = Delivery::new(order.k, order.length, &order.bytes, store.slice());
         let channel = ChannelModel::random(&mut rng);
         let rates = channel.rates(&mut rng);
-        Ok(Session {
+        let mut session = Session {
             ends,
             rng,
             tally,
@@ -133,14 +87,24 @@ impl<'a, S: SendingEnd, R: ReceivingEnd> Session<'a, S, R> {
             sender,
             receiver,
             store,
-            delivery,
+            delivery: None,
             channel,
             rates,
-        })
+        };
+        if sizes.are_alike() {
+            session.delivery = Some(session.new_delivery());
+        }
+        Ok(session)
+    }
+
+    fn new_delivery(&self) -> Delivery {
+        let (order, store) = (&self.order.bytes, self.store.slice());
+        Delivery::new(&self.sender(), &self.receiver(), order, store)
     }
 
     fn run(mut self) -> Result<(), Difference> {
-        let most = 3 * self.order.items() + if self.channel.stuck_at_1 { 400 } else { 40 };
+        let may_give_up = self.channel.stuck_at_1 || self.delivery.is_none();
+        let most = 3 * self.order.items() + if may_give_up { 400 } else { 40 };
         for _ in 0..self.rng.between(most / 4, most) {
             if self.rng.chance(4) {
                 self.rates = self.channel.rates(&mut self.rng);
@@ -189,17 +153,20 @@ impl<'a, S: SendingEnd, R: ReceivingEnd> Session<'a, S, R> {
             block = unpack(place.slice(), 0, block_bits(self.order.k));
             arrives = self.arriving(&block, sent);
         }
-        self.delivery.after_sending(&Sending {
-            before: &before,
-            after: &self.sender(),
-            sent,
-            order_bytes: order,
-            block_bytes: bytes,
-            reading,
-            receiver: &self.receiver(),
-            block: &block,
-            arrives: &arrives,
-        })?;
+        let (after, receiver) = (self.sender(), self.receiver());
+        if let Some(delivery) = &mut self.delivery {
+            delivery.after_sending(&Sending {
+                before: &before,
+                after: &after,
+                sent,
+                order_bytes: order,
+                block_bytes: bytes,
+                reading,
+                receiver: &receiver,
+                block: &block,
+                arrives: &arrives,
+            })?;
+        }
         Ok(arrives)
     }
 
@@ -282,12 +249,14 @@ impl<'a, S: SendingEnd, R: ReceivingEnd> Session<'a, S, R> {
         let received =
             self.ends
                 .receive(&mut self.receiver, &line, bits.len(), &mut self.store, lent)?;
-        self.delivery.after_receiving(&Receiving {
-            received,
-            bits: bits.len(),
-            line_bytes: line.len(),
-            store: self.store.slice(),
-        })?;
+        if let Some(delivery) = &mut self.delivery {
+            delivery.after_receiving(&Receiving {
+                received,
+                bits: bits.len(),
+                line_bytes: line.len(),
+                store: self.store.slice(),
+            })?;
+        }
         match received {
             Received::Reported { event, used } => {
                 let kind = if alarm_stood {
@@ -298,7 +267,7 @@ impl<'a, S: SendingEnd, R: ReceivingEnd> Session<'a, S, R> {
                 self.tally.count(kind);
                 Ok(used)
             }
-            // Only where a supposition of demand 3 broke: an item that the store has no room for.
+            // Only where demand 3 claims nothing: an item that the store has no room for.
             Received::Refused(number) => {
                 self.tally.count(refusal_name(number));
                 Ok(bits.len())
@@ -343,8 +312,10 @@ impl<'a, S: SendingEnd, R: ReceivingEnd> Session<'a, S, R> {
 
     /// The line is shorter than its number of bits, or the store too short for the next item.
     fn short_receiving(&mut self) -> Result<(), Difference> {
-        let (k, taken) = (self.order.k, self.receiver().taken);
-        let mut line = pack(&assemble(letter(taken), &vec![false; k]));
+        let Receiver {
+            k, taken, marks, ..
+        } = self.receiver();
+        let mut line = pack(&assemble(data_service(marks, taken), &vec![false; k]));
         if self.rng.bit() {
             line.pop();
         }
@@ -357,12 +328,15 @@ impl<'a, S: SendingEnd, R: ReceivingEnd> Session<'a, S, R> {
             return Ok(());
         };
         self.tally.count(refusal_name(number));
-        self.delivery.after_receiving(&Receiving {
-            received,
-            bits: block_bits(k),
-            line_bytes: line.len(),
-            store: &store.slice()[..lent],
-        })
+        match &mut self.delivery {
+            None => Ok(()),
+            Some(delivery) => delivery.after_receiving(&Receiving {
+                received,
+                bits: block_bits(k),
+                line_bytes: line.len(),
+                store: &store.slice()[..lent],
+            }),
+        }
     }
 
     fn spoiled_sending(&mut self) -> Result<(), Difference> {
@@ -395,22 +369,49 @@ impl<'a, S: SendingEnd, R: ReceivingEnd> Session<'a, S, R> {
     }
 
     fn count_session(&mut self) {
-        self.tally.count("sessions");
-        if self.delivery.broken().is_none() {
-            self.tally.count("within demand 3");
-            if self.delivery.lost_requests() > 0 {
-                self.tally.count("within demand 3 with a loss");
-            }
-            if self.delivery.ended() {
-                self.tally.count("within demand 3 to the end");
-            }
-        }
         let sender = self.sender();
+        match (&self.delivery, sender.marks.in_use) {
+            (None, _) => self.tally.count("sessions not opened alike"),
+            (Some(delivery), true) => count_delivery(delivery, &WITH_MARKS, self.tally),
+            (Some(delivery), false) => count_delivery(delivery, &WITHOUT_MARKS, self.tally),
+        }
         if sender.finished {
             self.tally.count("finished");
         } else if sender.gave_up() {
             self.tally.count("gave up");
         }
+    }
+}
+
+/// The names under which sessions are counted: all, those within demand 3 along the whole list, and
+/// of these those with a lost request and those to the end.
+type Names = [&'static str; 4];
+
+const WITHOUT_MARKS: Names = [
+    "sessions without marks",
+    "within demand 3",
+    "within demand 3 with a loss",
+    "within demand 3 to the end",
+];
+const WITH_MARKS: Names = [
+    "sessions with marks",
+    "with marks within demand 3",
+    "with marks within demand 3 with a loss",
+    "with marks within demand 3 to the end",
+];
+
+fn count_delivery(delivery: &Delivery, names: &Names, tally: &mut Tally) {
+    let [session, within, with_loss, to_end] = names;
+    tally.count(session);
+    if delivery.broken().is_some() {
+        return;
+    }
+    tally.count(within);
+    if delivery.lost_requests() > 0 {
+        tally.count(with_loss);
+    }
+    if delivery.ended() {
+        tally.count(to_end);
     }
 }
 
@@ -427,13 +428,13 @@ mod tests {
         let kinds = [
             "finished",
             "gave up",
-            "within demand 3",
-            "within demand 3 with a loss",
-            "within demand 3 to the end",
+            "sessions not opened alike",
             "refused 6",
             "refused 7",
         ];
         tally.assert_above(20, &kinds);
+        tally.assert_above(20, &WITHOUT_MARKS);
+        tally.assert_above(20, &WITH_MARKS);
     }
 
     #[test]

@@ -5,7 +5,8 @@
 //! byte for each item.
 
 use super::lockstep::{BufferPair, Lockstep};
-use super::{same, Difference, GuardedBuffer};
+use super::marks::CodeSizes;
+use super::{same, Difference, GuardedBuffer, Tally};
 use crate::calls::{Opening, ReceivingEnd, SendingEnd};
 use crate::interface::{load_receiver, load_sender, RECEIVER_BYTES, SENDER_BYTES};
 use crate::reference::bits::{pack, unpack, Bits};
@@ -23,6 +24,34 @@ const MOST_PERIODS: usize = 1_000;
 /// A step's, or a difference between what is expected and what came.
 pub type Outcome = Result<(), Difference>;
 
+pub type Course<'a, S, R> = fn(&mut Ends<'a, S, R>) -> Outcome;
+/// A case: its name and its course.
+pub type Case<'a, S, R> = (&'static str, Course<'a, S, R>);
+
+/// Cases with the names of their functions.
+macro_rules! cases {
+    ($($case:ident),* $(,)?) => {
+        [$((stringify!($case), Ends::$case as $crate::comparison::ends::Course<S, R>)),*]
+    };
+}
+pub(super) use cases;
+
+/// Runs each case on two ends of its own.
+pub fn run_cases<'a, S: SendingEnd, R: ReceivingEnd>(
+    calls: &'a Lockstep<'a, S, R>,
+    k: usize,
+    sizes: CodeSizes,
+    cases: &[Case<'a, S, R>],
+    tally: &mut Tally,
+) -> Outcome {
+    for (name, course) in cases {
+        let run = Ends::new(calls, k, sizes).and_then(|mut ends| course(&mut ends));
+        run.map_err(|difference| format!("{name}, k {k}, {sizes:?}: {difference}"))?;
+        tally.count(name);
+    }
+    Ok(())
+}
+
 #[derive(Clone, Copy, Debug, PartialEq, Eq)]
 pub enum Office {
     GoingOn,
@@ -38,11 +67,15 @@ pub enum Period {
     Damaged,
     /// The reading is 0 whatever the return bit is.
     Reads0,
+    /// The reading is 1 whatever the return bit is.
+    Reads1,
 }
 
 pub struct Ends<'a, S, R> {
     calls: &'a Lockstep<'a, S, R>,
     pub k: usize,
+    /// The office is the sender, the machine the receiver.
+    sizes: CodeSizes,
     order: Vec<u8>,
     sender: BufferPair,
     receiver: BufferPair,
@@ -53,11 +86,16 @@ pub struct Ends<'a, S, R> {
 
 impl<'a, S: SendingEnd, R: ReceivingEnd> Ends<'a, S, R> {
     /// The machine is opened, the office is not yet.
-    pub fn new(calls: &'a Lockstep<'a, S, R>, k: usize) -> Result<Ends<'a, S, R>, Difference> {
+    pub fn new(
+        calls: &'a Lockstep<'a, S, R>,
+        k: usize,
+        sizes: CodeSizes,
+    ) -> Result<Ends<'a, S, R>, Difference> {
         let bytes = |length| BufferPair::new(GuardedBuffer::filled(EMPTY, length));
         let mut ends = Ends {
             calls,
             k,
+            sizes,
             order: Vec::new(),
             sender: bytes(SENDER_BYTES),
             receiver: bytes(RECEIVER_BYTES),
@@ -83,6 +121,7 @@ impl<'a, S: SendingEnd, R: ReceivingEnd> Ends<'a, S, R> {
             speed: 200,
             loop_ms: 0,
             length: 8 * self.order.len(),
+            code_size: self.sizes.sender,
         };
         let refused = self
             .calls
@@ -92,7 +131,8 @@ impl<'a, S: SendingEnd, R: ReceivingEnd> Ends<'a, S, R> {
 
     /// The machine is opened, the store stays as it is.
     pub fn open_machine(&mut self) -> Outcome {
-        let refused = self.calls.open_receiver(self.k, &mut self.receiver)?;
+        let size = self.sizes.receiver;
+        let refused = self.calls.open_receiver(self.k, size, &mut self.receiver)?;
         same(&|| String::from("opening the machine"), &0, &refused)
     }
 
@@ -106,7 +146,11 @@ impl<'a, S: SendingEnd, R: ReceivingEnd> Ends<'a, S, R> {
 
     /// A sending call, and receiving calls until all bits of its block are used.
     pub fn period(&mut self, period: Period) -> Outcome {
-        let reading = self.receiver().return_bit && period != Period::Reads0;
+        let reading = match period {
+            Period::Reads0 => false,
+            Period::Reads1 => true,
+            Period::Undisturbed | Period::Damaged => self.receiver().return_bit,
+        };
         let mut place = BufferPair::new(GuardedBuffer::filled(EMPTY, block_bytes(self.k)));
         let sent = self
             .calls

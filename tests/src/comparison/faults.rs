@@ -1,13 +1,16 @@
 //! That the groups find faults: the second implementation with one fault at a time.
 
+mod marks;
+
 use super::{any_bytes, receiver, sender, Tally};
 use crate::calls::{Blocks, Line, LoopTimes, Opening, ReceivingEnd, Reference, SendingEnd};
 use crate::interface::{decode_sent, is_event, Counts, EVENT_ACCEPTED, EVENT_NONE};
-use crate::interface::{FINISHED, GAVE_UP, RECEIVER_BYTES, SENDER_BYTES};
+use crate::interface::{FINISHED, GAVE_UP, MARKS_BYTES, RECEIVER_BYTES, SENDER_BYTES};
 use crate::reference::block::Read;
 use crate::reference::refusal::SHORT;
 use crate::reference::sender::Sent;
 use crate::rng::Rng;
+use marks::OfMarks;
 
 #[derive(Clone, Copy, Debug, PartialEq, Eq)]
 enum Fault {
@@ -30,18 +33,44 @@ enum Fault {
     LengthAlways,
     /// A search leaves the return bit as it was.
     ReturnBit,
+    /// A code size is judged after the lent slices.
+    SizeAfterShort,
+    /// Only the lowest byte of a code size is judged.
+    SizeInByte,
+    /// Without marks a state's code size other than 0 is refused 7.
+    SizeJudged,
+    /// Without marks a state's code size becomes 0.
+    SizeLost,
+    /// Code sizes 6 and 7 have each other's mark.
+    MarksExchanged,
+    /// A mark is the previous item at r 2 too.
+    MarkAtTwo,
+    /// A mark after the end brings the alarm, as a letter does.
+    MarkAfterEnd,
+    /// Only the mark of the receiver's own code size is taken.
+    OwnMarkAlone,
 }
 
-const FAULTS_OF_EITHER_END: [Fault; 5] = [
+const FAULTS_OF_EITHER_END: [Fault; 9] = [
     Fault::RefusedState,
     Fault::BehindState,
     Fault::LastByte,
     Fault::NonzeroFlags,
     Fault::ShortState,
+    Fault::SizeAfterShort,
+    Fault::SizeInByte,
+    Fault::SizeJudged,
+    Fault::SizeLost,
 ];
-const FAULTS_OF_A_SENDER: [Fault; 1] = [Fault::GaveUpAsFinished];
-const FAULTS_OF_A_RECEIVER: [Fault; 3] =
-    [Fault::RefusedCount, Fault::LengthAlways, Fault::ReturnBit];
+const FAULTS_OF_A_SENDER: [Fault; 2] = [Fault::GaveUpAsFinished, Fault::MarksExchanged];
+const FAULTS_OF_A_RECEIVER: [Fault; 6] = [
+    Fault::RefusedCount,
+    Fault::LengthAlways,
+    Fault::ReturnBit,
+    Fault::MarkAtTwo,
+    Fault::MarkAfterEnd,
+    Fault::OwnMarkAlone,
+];
 
 /// The second implementation with this fault.
 struct Faulty(Fault);
@@ -89,15 +118,15 @@ impl Blocks for Faulty {
 
 impl SendingEnd for Faulty {
     fn open_sender(&self, opening: Opening, order: &[u8], state: &mut [u8]) -> u8 {
-        Reference.open_sender(opening, order, state)
+        OfMarks(self.0).open_sender(opening, order, state)
     }
 
     fn send(&self, state: &mut [u8], order: &[u8], reading: bool, block: &mut [u8]) -> u32 {
         if self.0 == Fault::ShortState && state.len() < SENDER_BYTES {
             return u32::from(SHORT);
         }
-        self.limit_flags(&[13, 15], state);
-        let word = Reference.send(state, order, reading, block);
+        self.limit_flags(&[13, 15, SENDER_BYTES - MARKS_BYTES], state);
+        let word = OfMarks(self.0).send(state, order, reading, block);
         let refused = matches!(decode_sent(word), Sent::Refused(_));
         self.spoil_state(refused, SENDER_BYTES, state);
         self.spoil_data(refused, block);
@@ -113,18 +142,18 @@ impl SendingEnd for Faulty {
 }
 
 impl ReceivingEnd for Faulty {
-    fn open_receiver(&self, k: usize, state: &mut [u8]) -> u8 {
-        Reference.open_receiver(k, state)
+    fn open_receiver(&self, k: usize, code_size: Option<usize>, state: &mut [u8]) -> u8 {
+        OfMarks(self.0).open_receiver(k, code_size, state)
     }
 
     fn receive(&self, state: &mut [u8], line: Line, store: &mut [u8], counts: &mut Counts) -> u8 {
         if self.0 == Fault::ShortState && state.len() < RECEIVER_BYTES {
             return SHORT;
         }
-        self.limit_flags(&[13, 14], state);
+        self.limit_flags(&[13, 14, RECEIVER_BYTES - MARKS_BYTES], state);
         let searching = state.get(15) == Some(&0);
         let return_bit = state.get(13).copied();
-        let number = Reference.receive(state, line, store, counts);
+        let number = OfMarks(self.0).receive(state, line, store, counts);
         let refused = !is_event(number);
         self.spoil_state(refused, RECEIVER_BYTES, state);
         self.spoil_data(number != EVENT_ACCEPTED, store);

@@ -1,8 +1,9 @@
 //! Bits that are no blocks: idle bits, lent to a machine in search and in step, and an order's data
 //! that hold the sequence that a search looks for.
 
-use super::ends::{Ends, Office, Outcome, Period};
+use super::ends::{run_cases, Case, Ends, Office, Outcome, Period};
 use super::lockstep::Lockstep;
+use super::marks::KINDS;
 use super::{same, Difference, Tally};
 use crate::calls::{ReceivingEnd, SendingEnd};
 use crate::reference::bits::{bits_of, Bits};
@@ -26,7 +27,7 @@ enum Idle {
     ReversalsFrom0,
 }
 
-const KINDS: [Idle; 4] = [
+const IDLE_KINDS: [Idle; 4] = [
     Idle::Zeros,
     Idle::Ones,
     Idle::ReversalsFrom1,
@@ -46,10 +47,9 @@ impl Idle {
     }
 }
 
-type Case<'a, S, R> = fn(&mut Ends<'a, S, R>) -> Outcome;
 type IdleCase<'a, S, R> = fn(&mut Ends<'a, S, R>, Idle) -> Outcome;
 
-/// Runs each case at each k, those of idle bits with each kind.
+/// Runs each case at each k, without marks and with them, those of idle bits with each kind.
 pub fn compare<S: SendingEnd, R: ReceivingEnd>(
     sending: &S,
     receiving: &R,
@@ -65,23 +65,24 @@ pub fn compare<S: SendingEnd, R: ReceivingEnd>(
         ("in step after the end", Ends::idle_after_end),
         ("opened while idle", Ends::opened_while_idle),
     ];
-    let cases: [(&str, Case<S, R>); 2] = [
+    let cases: [Case<S, R>; 2] = [
         ("sequence in the older item", Ends::sequence_in_older),
         ("sequence in the newer item", Ends::sequence_in_newer),
     ];
-    for k in LENGTHS {
+    for (k, sizes) in LENGTHS
+        .into_iter()
+        .flat_map(|k| KINDS.map(|sizes| (k, sizes)))
+    {
         for (name, case) in idle_cases {
-            for idle in KINDS {
-                let run = Ends::new(&calls, k).and_then(|mut ends| case(&mut ends, idle));
-                run.map_err(|difference| format!("{name}, {idle:?}, k {k}: {difference}"))?;
+            for idle in IDLE_KINDS {
+                let run = Ends::new(&calls, k, sizes).and_then(|mut ends| case(&mut ends, idle));
+                run.map_err(|difference| {
+                    format!("{name}, {idle:?}, k {k}, {sizes:?}: {difference}")
+                })?;
                 tally.count(name);
             }
         }
-        for (name, case) in cases {
-            let run = Ends::new(&calls, k).and_then(|mut ends| case(&mut ends));
-            run.map_err(|difference| format!("{name}, k {k}: {difference}"))?;
-            tally.count(name);
-        }
+        run_cases(&calls, k, sizes, &cases, &mut tally)?;
     }
     Ok(tally)
 }
@@ -193,7 +194,6 @@ impl<S: SendingEnd, R: ReceivingEnd> Ends<'_, S, R> {
     fn idle_in_mid_block(&mut self, idle: Idle) -> Outcome {
         let n = self.n();
         let order = ITEMS.map(|byte| vec![byte; self.k / 8]).concat();
-        let block = item_block(self.k, 8 * order.len(), &order, 1);
         for held in [
             1,
             3,
@@ -210,6 +210,8 @@ impl<S: SendingEnd, R: ReceivingEnd> Ends<'_, S, R> {
         ] {
             self.open_machine()?;
             self.begin(2)?;
+            let marks = self.sender().marks;
+            let block = item_block(marks, self.k, 8 * order.len(), &order, 1);
             self.receive_all(block[..held].to_vec())?;
             let bits = self.idle_until_search(idle)?;
             let completed = block[held..] == idle.bits(0, n - held);
@@ -225,7 +227,8 @@ impl<S: SendingEnd, R: ReceivingEnd> Ends<'_, S, R> {
         Ok(())
     }
 
-    /// The search that follows is no opening: the end stays taken, and a new order is an alarm.
+    /// The search that follows is no opening: the end stays taken, and item 0 of a new order is an
+    /// alarm, with marks bad.
     fn idle_after_end(&mut self, idle: Idle) -> Outcome {
         self.begin(0)?;
         self.until_rest()?;
@@ -235,7 +238,11 @@ impl<S: SendingEnd, R: ReceivingEnd> Ends<'_, S, R> {
         same(&|| String::from("idle bits"), &expected, &bits)?;
         self.expect(&["bad"; BAD_ROW_LIMIT], Finished, &ITEMS)?;
         self.begin(2)?;
-        self.expect(&["sync", "sequence alarm"], GoingOn, &ITEMS)
+        let answer = match self.sender().marks.in_use {
+            true => "bad",
+            false => "sequence alarm",
+        };
+        self.expect(&["sync", answer], GoingOn, &ITEMS)
     }
 
     /// An order of two items, one of which holds the sequence in its middle, behind a damaged
@@ -276,6 +283,7 @@ mod tests {
     use super::*;
     use crate::calls::{Reference, TableDriven};
     use crate::reference::block::{cancel, synchronising_block};
+    use crate::reference::marks::{Marks, CODE_SIZES};
 
     #[test]
     fn each_case_ends_as_it_says() {
@@ -291,7 +299,12 @@ mod tests {
     fn steady_bits_of_a_session_are_fewer_than_a_block_and_three() {
         for (k, byte) in LENGTHS.into_iter().flat_map(|k| [(k, 0x00), (k, 0xFF)]) {
             let order = vec![byte; 4 * k / 8];
-            let items = (0..6).map(|item| item_block(k, 4 * k, &order, item));
+            let of_size = |size| Marks::open(Some(size)).unwrap();
+            let with_marks = CODE_SIZES.map(|size| (of_size(size), 0));
+            let items = (0..6)
+                .map(|item| (Marks::NOT_IN_USE, item))
+                .chain(with_marks);
+            let items = items.map(|(marks, item)| item_block(marks, k, 4 * k, &order, item));
             let mut blocks = vec![synchronising_block(k)];
             for item in items {
                 let mut cancelled = item.clone();

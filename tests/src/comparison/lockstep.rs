@@ -129,11 +129,21 @@ impl<S: SendingEnd, R> Lockstep<'_, S, R> {
 
 impl<S, R: ReceivingEnd> Lockstep<'_, S, R> {
     /// 0 or the refusal's number.
-    pub fn open_receiver(&self, k: usize, state: &mut BufferPair) -> Result<u8, Difference> {
+    pub fn open_receiver(
+        &self,
+        k: usize,
+        code_size: Option<usize>,
+        state: &mut BufferPair,
+    ) -> Result<u8, Difference> {
         let before = state.clone();
-        let case = || format!("open receiver: k {k}, {} bytes", before.slice().len());
-        let expected = Reference.open_receiver(k, state.expected.slice_mut());
-        let got = self.receiving.open_receiver(k, state.got.slice_mut());
+        let case = || {
+            let bytes = before.slice().len();
+            format!("open receiver: k {k}, code size {code_size:?}, {bytes} bytes for the state")
+        };
+        let expected = Reference.open_receiver(k, code_size, state.expected.slice_mut());
+        let got = self
+            .receiving
+            .open_receiver(k, code_size, state.got.slice_mut());
         same_opening(&case, (expected, got), &before, state)
     }
 

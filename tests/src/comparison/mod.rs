@@ -6,13 +6,17 @@
 pub mod any_bytes;
 pub mod block;
 pub mod both_ends;
+mod channel;
 mod ends;
 pub mod idle;
 pub mod lockstep;
 pub mod loop_time;
+pub mod marks;
+mod openings;
 pub mod orders;
 pub mod receiver;
 pub mod sender;
+mod services;
 pub mod session;
 mod spoil;
 pub mod two_orders;

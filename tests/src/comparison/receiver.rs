@@ -3,7 +3,10 @@
 
 use super::block::REFUSED_LENGTHS;
 use super::lockstep::{BufferPair, Lockstep};
+use super::marks::REFUSED_SIZES;
+use super::openings::opening_name;
 use super::sender::refusal_name;
+use super::services::{receive_every_service, receive_with_every_marks};
 use super::{spoil, Difference, GuardedBuffer, Tally};
 use crate::calls::ReceivingEnd;
 use crate::damage::{invert, Damage};
@@ -11,6 +14,7 @@ use crate::interface::{load_receiver, store_receiver, RECEIVER_BYTES};
 use crate::reference::bits::{bits_of, pack, set_bit, unpack, Bits};
 use crate::reference::block::{assemble, block_bits, cancel, synchronising_block};
 use crate::reference::block::{END, LENGTHS, SEQUENCE};
+use crate::reference::marks::{Marks, CODE_SIZES, MARKS};
 use crate::reference::order::{end_payload, letter, LONGEST, MOST_ITEMS};
 use crate::reference::receiver::{self, Alarm, Received, Receiver};
 use crate::rng::Rng;
@@ -22,34 +26,44 @@ pub fn compare(tested: &impl ReceivingEnd, seed: u64, cases: usize) -> Result<Ta
         receiving: tested,
     };
     let mut tally = Tally::default();
-    open(&ends, &mut Rng::new(seed), &mut tally)?;
+    let rng = &mut Rng::new(seed);
+    open(&ends, rng, &mut tally)?;
+    receive_every_service(&ends, rng, &mut tally)?;
+    receive_with_every_marks(&ends, rng, &mut tally)?;
     for number in 0..cases {
         let mut case = Case::random(Rng::for_case(seed, number));
         tally.count(case.kind());
         let received = case.call(&ends);
         let received = received.map_err(|difference| format!("case {number}: {difference}"))?;
-        tally.count(match received {
-            Received::Reported { event, .. } => event.name(),
-            Received::Refused(number) => refusal_name(number),
-        });
+        tally.count(received_name(received));
     }
     Ok(tally)
 }
 
-/// Every k, good and refused, into slices that are empty, short by one, right and long.
+/// The name under which a receiving call is counted.
+pub fn received_name(received: Received) -> &'static str {
+    match received {
+        Received::Reported { event, .. } => event.name(),
+        Received::Refused(number) => refusal_name(number),
+    }
+}
+
+/// Every k and code size, good and refused, into slices that are empty, short by one, right and
+/// long.
 fn open<R: ReceivingEnd>(
     ends: &Lockstep<(), R>,
     rng: &mut Rng,
     tally: &mut Tally,
 ) -> Result<(), Difference> {
+    let given = CODE_SIZES.into_iter().chain(REFUSED_SIZES).map(Some);
+    let sizes: Vec<Option<usize>> = given.chain([None]).collect();
     for k in LENGTHS.into_iter().chain(REFUSED_LENGTHS) {
-        for length in [0, RECEIVER_BYTES - 1, RECEIVER_BYTES, RECEIVER_BYTES + 5] {
-            let mut state = BufferPair::random(rng, length);
-            tally.count(match ends.open_receiver(k, &mut state)? {
-                0 => "opened",
-                1 => "opening refused 1",
-                _ => "opening refused 6",
-            });
+        for &size in &sizes {
+            for length in [0, RECEIVER_BYTES - 1, RECEIVER_BYTES, RECEIVER_BYTES + 5] {
+                let mut state = BufferPair::random(rng, length);
+                let answer = ends.open_receiver(k, size, &mut state)?;
+                tally.count(opening_name(answer));
+            }
         }
     }
     Ok(())
@@ -69,7 +83,8 @@ struct Case {
 impl Case {
     fn random(mut rng: Rng) -> Case {
         let k = rng.pick(&[240, 240, 240, 480, 480, 960, 3840]);
-        let mut state = receiver::open(k).expect("one of the four");
+        let mut state = receiver::open(k, None).expect("one of the four");
+        state.marks = marks(&mut rng);
         state.taken = taken(&mut rng);
         state.bad_row = rng.pick(&[0, 0, 1, 6, 7, 7]);
         state.return_bit = rng.bit();
@@ -142,6 +157,16 @@ impl Case {
     }
 }
 
+/// In use, with any of the sizes; or not, with any size at all.
+fn marks(rng: &mut Rng) -> Marks {
+    let in_use = rng.bit();
+    let size = match in_use {
+        true => rng.pick(&CODE_SIZES),
+        false => rng.pick(&[0, 0, 4, 5, 8, 9, 255]),
+    };
+    Marks { in_use, size }
+}
+
 /// r: small, near the most, or between. Seldom large, since the store is as long.
 fn taken(rng: &mut Rng) -> usize {
     match rng.below(10) {
@@ -195,6 +220,7 @@ fn block(rng: &mut Rng, state: &Receiver) -> Bits {
         0 => synchronising_block(k),
         1 => assemble(rng.below(16) as u8, &payload),
         2..=4 => assemble(END, &end_data(rng, k, taken)),
+        5 => assemble(rng.pick(&MARKS), &payload),
         _ => assemble(letter(rng.between(taken, taken + 2)), &payload),
     };
     match rng.below(10) {
@@ -245,6 +271,12 @@ mod tests {
     #[test]
     fn the_table_driven_receiver_agrees() {
         let tally = agreed(compare(&TableDriven, 8, 20_000));
+        let openings = [
+            "opened",
+            "opening refused 1",
+            "opening refused 6",
+            "opening refused 9",
+        ];
         let kinds = [
             "refused 6",
             "refused 7",
@@ -254,5 +286,11 @@ mod tests {
         ];
         tally.assert_above(100, &EVENTS);
         tally.assert_above(100, &kinds);
+        tally.assert_above(20, &openings);
+        // Four k, five kinds of marks, r 0 to 3, before the end and after it.
+        assert_eq!(tally.number_of("service values"), 4 * 5 * 4 * 2 * 16);
+        // Four marks and A, for each size byte without marks, and for 5 to 8 with them.
+        assert_eq!(tally.number_of("marks not refused"), 5 * (8 + 4));
+        assert_eq!(tally.number_of("marks refused"), 5 * (4 + 8 + 8));
     }
 }

@@ -1,15 +1,14 @@
 //! Opening a sender, and random sessions of sending calls on state bytes of every kind.
 
-use super::block::REFUSED_LENGTHS;
 use super::lockstep::{BufferPair, Lockstep};
-use super::loop_time::REFUSED_SPEEDS;
+use super::marks::state_bytes;
+use super::openings::{open_refused, open_with_every_size, opening};
 use super::orders::Order;
 use super::{spoil, Difference, GuardedBuffer, Tally};
-use crate::calls::{Opening, SendingEnd};
-use crate::interface::{load_sender, store_word, SENDER_BYTES};
+use crate::calls::SendingEnd;
+use crate::interface::{load_sender, store_word, MARKS_BYTES, SENDER_BYTES};
 use crate::reference::bits::bit_at;
 use crate::reference::block::block_bytes;
-use crate::reference::loop_time::{longest_loop, SPEEDS};
 use crate::reference::order::LONGEST;
 use crate::reference::refusal::Refusal;
 use crate::reference::sender::{Sender, Sent};
@@ -26,6 +25,8 @@ pub fn compare(tested: &impl SendingEnd, seed: u64, sessions: usize) -> Result<T
         receiving: &(),
     };
     let mut tally = Tally::default();
+    open_with_every_size(&ends, &mut Rng::new(seed), &mut tally)?;
+    send_with_every_marks(&ends, &mut Rng::new(seed), &mut tally)?;
     for session in 0..sessions {
         let rng = Rng::for_case(seed, session);
         let run = Session::open(&ends, rng, &mut tally).and_then(Session::run);
@@ -54,10 +55,10 @@ impl<'a, S: SendingEnd> Session<'a, S> {
     ) -> Result<Session<'a, S>, Difference> {
         let order = Order::random(&mut rng);
         count_order(&order, tally);
-        refused_opening(ends, &mut rng, &order, tally)?;
+        open_refused(ends, &mut rng, &order, tally)?;
         let further = rng.below(4);
         let mut state = BufferPair::random(&mut rng, SENDER_BYTES + further);
-        let opening = good_opening(&mut rng, &order);
+        let opening = opening(&mut rng, &order);
         let refused = ends.open_sender(opening, &order.bytes, &mut state)?;
         assert_eq!(refused, 0, "an opening that the rules accept");
         let request_percent = rng.pick(&[0, 5, 20, 50, 90, 100]);
@@ -193,51 +194,28 @@ fn count_order(order: &Order, tally: &mut Tally) {
     }
 }
 
-/// An opening that the rules accept, its loop often the longest.
-fn good_opening(rng: &mut Rng, order: &Order) -> Opening {
-    let entry = |speed| longest_loop(order.k, speed).map(|longest| (speed, longest));
-    let entries: Vec<_> = SPEEDS.into_iter().filter_map(entry).collect();
-    let (speed, longest) = rng.pick(&entries);
-    let loop_ms = rng.pick(&[0, longest]);
-    Opening {
-        k: order.k,
-        speed: speed as u32,
-        loop_ms: loop_ms as u32,
-        length: order.length,
-    }
-}
-
-/// An opening with one or two arguments changed, most often to refused ones.
-fn refused_opening<S: SendingEnd>(
+/// A session's first three blocks with each pair of bytes that says whether marks are in use and
+/// which code size was given.
+fn send_with_every_marks<S: SendingEnd>(
     ends: &Lockstep<S, ()>,
     rng: &mut Rng,
-    order: &Order,
     tally: &mut Tally,
 ) -> Result<(), Difference> {
-    let mut opening = good_opening(rng, order);
-    let (mut bytes, mut state) = (order.bytes.len(), SENDER_BYTES);
-    for _ in 0..rng.between(1, 2) {
-        match rng.below(7) {
-            0 => opening.k = rng.pick(&REFUSED_LENGTHS),
-            1 => opening.speed = rng.pick(&REFUSED_SPEEDS) as u32,
-            2 => opening.loop_ms += 1,
-            3 => opening.loop_ms = rng.below(20_000) as u32,
-            4 => opening.length = rng.pick(&[0, LONGEST + 1, usize::MAX, bytes * 8 + 1]),
-            5 => bytes = rng.pick(&[0, order.length.div_ceil(8) - 1]),
-            _ => state = rng.pick(&[0, SENDER_BYTES - 1]),
+    let order = Order::with_length(rng, 240, 500);
+    for marks in state_bytes() {
+        let mut state = BufferPair::random(rng, SENDER_BYTES);
+        let refused = ends.open_sender(opening(rng, &order), &order.bytes, &mut state)?;
+        assert_eq!(refused, 0, "an opening that the rules accept");
+        state.write(SENDER_BYTES - MARKS_BYTES, &marks);
+        for _ in 0..3 {
+            let mut block = BufferPair::random(rng, block_bytes(order.k));
+            let sent = ends.send(&mut state, &order.bytes, false, &mut block)?;
+            tally.count(match sent {
+                Sent::Refused(_) => "marks refused",
+                _ => "marks not refused",
+            });
         }
     }
-    let mut state = BufferPair::random(rng, state);
-    let answer = ends.open_sender(opening, &order.bytes[..bytes], &mut state)?;
-    tally.count(match answer {
-        0 => "opened",
-        1 => "opening refused 1",
-        2 => "opening refused 2",
-        3 => "opening refused 3",
-        4 => "opening refused 4",
-        5 => "opening refused 5",
-        _ => "opening refused 6",
-    });
     Ok(())
 }
 
@@ -276,6 +254,7 @@ mod tests {
             "opening refused 4",
             "opening refused 5",
             "opening refused 6",
+            "opening refused 9",
             "opened",
             "states too short",
             "flags and enums out of range",
@@ -285,5 +264,8 @@ mod tests {
             "orders with ones behind L",
         ];
         tally.assert_above(10, &kinds);
+        // Three calls for each size byte without marks, and for 5 to 8 with them.
+        assert_eq!(tally.number_of("marks not refused"), 3 * (8 + 4));
+        assert_eq!(tally.number_of("marks refused"), 3 * (4 + 8 + 8));
     }
 }

@@ -6,7 +6,7 @@ use crate::calls::{Reference, RunProgram};
 use crate::reference::order::LONGEST;
 use crate::rng::Rng;
 
-/// Document 01's two worked sessions.
+/// The two worked sessions of docs/PROTOCOL.md.
 const WORKED: [&str; 2] = [
     "240 8 a5\nt\nt\nt\nt\n",
     "240 241 00000000000000000000000000000000000000000000000000000000000000\nt\nd\nf\n",

@@ -2,7 +2,9 @@
 //! within it, any bytes at all, and slices of another length.
 
 use super::block::REFUSED_LENGTHS;
-use crate::interface::{load_receiver, load_sender, store_word, RECEIVER_BYTES, SENDER_BYTES};
+use super::marks::{FLAG_BYTES, SIZE_BYTES};
+use crate::interface::{load_receiver, load_sender, store_word};
+use crate::interface::{MARKS_BYTES, RECEIVER_BYTES, SENDER_BYTES};
 use crate::reference::block::{block_bits, LENGTHS};
 use crate::reference::order::{LONGEST, MOST_ITEMS};
 use crate::rng::Rng;
@@ -38,7 +40,7 @@ pub fn sender(rng: &mut Rng, state: &[u8]) -> Vec<u8> {
 
 fn spoil_sender(rng: &mut Rng, bytes: &mut [u8]) {
     let items = load_sender(bytes).map_or(1, |sender| sender.length.div_ceil(sender.k.max(1)));
-    match rng.below(8) {
+    match rng.below(9) {
         0 => store_word(bytes, 0, any_length(rng)),
         1 => {
             let near = rng.between(1, LONGEST);
@@ -50,6 +52,7 @@ fn spoil_sender(rng: &mut Rng, bytes: &mut [u8]) {
             store_word(bytes, 8, newer);
         }
         3 => bytes[COUNT] = rng.pick(&[0, 3, 4, 62, 63, 64, 65, 255]),
+        4 => spoil_marks(rng, bytes),
         _ => spoil_flags(rng, bytes),
     }
 }
@@ -61,7 +64,7 @@ pub fn receiver(rng: &mut Rng, state: &[u8]) -> Vec<u8> {
 
 fn spoil_receiver(rng: &mut Rng, bytes: &mut [u8]) {
     let n = load_receiver(bytes).map_or(260, |receiver| block_bits(receiver.k));
-    match rng.below(8) {
+    match rng.below(9) {
         0 => store_word(bytes, 0, any_length(rng)),
         1 => {
             let held = rng.pick(&[0, 1, 15, 16, 17, n - 1, n, n + 1, 3859, 3860, LARGEST]);
@@ -73,7 +76,17 @@ fn spoil_receiver(rng: &mut Rng, bytes: &mut [u8]) {
             store_word(bytes, 8, taken);
         }
         3 => bytes[COUNT] = rng.pick(&[0, 6, 7, 8, 9, 255]),
+        4 => spoil_marks(rng, bytes),
         _ => spoil_flags(rng, bytes),
+    }
+}
+
+/// Changes whether marks are in use, or the code size.
+fn spoil_marks(rng: &mut Rng, bytes: &mut [u8]) {
+    let place = bytes.len() - MARKS_BYTES;
+    match rng.bit() {
+        true => bytes[place] = rng.pick(&FLAG_BYTES),
+        false => bytes[place + 1] = rng.pick(&SIZE_BYTES),
     }
 }
 

@@ -2,8 +2,9 @@
 //! speaks of two ends that were opened together; most cases here are outside it, and each shows
 //! what then becomes of the orders.
 
-use super::ends::{Ends, Office, Outcome, Period};
+use super::ends::{cases, run_cases, Ends, Office, Outcome, Period};
 use super::lockstep::Lockstep;
+use super::marks::KINDS;
 use super::{Difference, Tally};
 use crate::calls::{ReceivingEnd, SendingEnd};
 use crate::reference::block::LENGTHS;
@@ -20,39 +21,42 @@ const DELIVERED: [&str; 5] = ["sync", "accepted", "accepted", "ended", "previous
 const SEQUENCE: &str = "sequence alarm";
 const LENGTH: &str = "length alarm";
 
-type Case<'a, S, R> = fn(&mut Ends<'a, S, R>) -> Outcome;
-
-/// The list of cases, each with its name.
-macro_rules! cases {
-    ($($case:ident),* $(,)?) => { [$((stringify!($case), Ends::$case as Case<S, R>)),*] };
-}
-
-/// Runs each case at each k.
+/// Runs each case at each k, those that end alike in both kinds with marks and without.
 pub fn compare<S: SendingEnd, R: ReceivingEnd>(
     sending: &S,
     receiving: &R,
 ) -> Result<Tally, Difference> {
     let calls = Lockstep { sending, receiving };
     let mut tally = Tally::default();
-    let cases = cases![
+    let in_both_kinds = cases![
         both_opened_anew_both_orders_arrive,
-        never_opened_anew_the_second_order_is_not_taken,
         opened_at_ended_the_office_gives_up_on_a_delivered_order,
-        opened_at_an_alarm_after_ended_both_orders_arrive,
         opened_after_one_lost_request_the_alarm_comes_again,
         opened_after_two_lost_requests_each_item_is_bad,
-        opened_after_three_lost_requests_item_3_is_taken_as_item_0,
-        opened_at_an_alarm_in_mid_order_item_6_is_taken_as_item_0,
         not_opened_after_item_0_the_end_is_reported_of_two_mixed_orders,
         not_opened_after_item_0_the_end_is_reported_of_an_order_never_taken,
+    ];
+    let without_marks = cases![
+        never_opened_anew_the_second_order_is_not_taken,
+        opened_at_an_alarm_after_ended_both_orders_arrive,
+        opened_after_three_lost_requests_item_3_is_taken_as_item_0,
+        opened_at_an_alarm_in_mid_order_item_6_is_taken_as_item_0,
         not_opened_after_item_2_the_length_alarm_comes_behind_mixed_items,
     ];
+    let with_marks = cases![
+        with_marks_never_opened_anew_no_alarm_comes,
+        with_marks_opened_at_bad_after_ended_both_orders_arrive,
+        with_marks_opened_after_three_lost_requests_each_item_is_bad,
+        with_marks_opened_at_an_alarm_in_mid_order_nothing_more_is_taken,
+        with_marks_not_opened_after_item_2_the_second_order_is_not_taken,
+    ];
+    let [without, with] = KINDS;
     for k in LENGTHS {
-        for (name, case) in cases {
-            let run = Ends::new(&calls, k).and_then(|mut ends| case(&mut ends));
-            run.map_err(|difference| format!("{name}, k {k}: {difference}"))?;
-            tally.count(name);
-        }
+        let mut run = |sizes, cases| run_cases(&calls, k, sizes, cases, &mut tally);
+        run(without, &in_both_kinds)?;
+        run(without, &without_marks)?;
+        run(with, &in_both_kinds)?;
+        run(with, &with_marks)?;
     }
     Ok(tally)
 }
@@ -80,6 +84,14 @@ impl<S: SendingEnd, R: ReceivingEnd> Ends<'_, S, R> {
         self.expect(&["sync", SEQUENCE], GaveUp, &OLD)
     }
 
+    /// Item 0 is bad, and so is item 1, which is cancelled.
+    fn with_marks_never_opened_anew_no_alarm_comes(&mut self) -> Outcome {
+        self.deliver_old()?;
+        self.open_office(&NEW)?;
+        self.until_rest()?;
+        self.expect(&["sync", "bad", "bad"].repeat(64), GaveUp, &OLD)
+    }
+
     /// The second end block is not confirmed any more: the machine is in search, and takes the end
     /// block that follows a synchronising block for the end of an order of no items.
     fn opened_at_ended_the_office_gives_up_on_a_delivered_order(&mut self) -> Outcome {
@@ -102,27 +114,44 @@ impl<S: SendingEnd, R: ReceivingEnd> Ends<'_, S, R> {
         self.expect(&events, Finished, &NEW)
     }
 
-    /// The alarm after *ended*, and the office reads so many requests as 0 before the machine is
-    /// opened: its opening is over, and it repeats from item `lost` on.
+    fn with_marks_opened_at_bad_after_ended_both_orders_arrive(&mut self) -> Outcome {
+        self.deliver_old()?;
+        self.open_office(&NEW)?;
+        self.until("bad")?;
+        self.open_machine()?;
+        self.until_rest()?;
+        let events = [&["sync", "bad"], &DELIVERED[..]].concat();
+        self.expect(&events, Finished, &NEW)
+    }
+
+    /// After *ended* item 0 is an alarm, and with marks it is bad and item 1 the alarm. The office
+    /// reads so many requests as 0 before the machine is opened: its opening is over, and it
+    /// repeats from item `lost` on.
     fn open_after_lost_requests(&mut self, lost: usize) -> Outcome {
         self.deliver_old()?;
         self.open_office(&LONG)?;
-        self.until(SEQUENCE)?;
+        self.period(Undisturbed)?;
+        self.period(Undisturbed)?;
         for _ in 0..lost {
             self.period(Reads0)?;
         }
-        self.expect(&["sync", SEQUENCE], GoingOn, &OLD)?;
+        let events: &[&str] = match self.sender().marks.in_use {
+            true => &["sync", "bad", SEQUENCE],
+            false => &["sync", SEQUENCE],
+        };
+        self.expect(events, GoingOn, &OLD)?;
         self.open_machine()?;
         self.until_rest()
     }
 
-    /// Item 1 carries B, as the item behind the one that is awaited.
+    /// Item 1 is the one behind the one that is awaited.
     fn opened_after_one_lost_request_the_alarm_comes_again(&mut self) -> Outcome {
         self.open_after_lost_requests(1)?;
         self.expect(&["sync", SEQUENCE], GaveUp, &OLD)
     }
 
-    /// Item 2 carries C, which at r 0 starts a search, after each of the 60 synchronising blocks.
+    /// Item 2 carries C, with marks B, which at r 0 starts a search, after each of the 60
+    /// synchronising blocks.
     fn opened_after_two_lost_requests_each_item_is_bad(&mut self) -> Outcome {
         self.open_after_lost_requests(2)?;
         self.expect(&["sync", "bad"].repeat(60), GaveUp, &OLD)
@@ -135,9 +164,15 @@ impl<S: SendingEnd, R: ReceivingEnd> Ends<'_, S, R> {
         self.expect(&events, GaveUp, &LONG[3..])
     }
 
+    /// Only a mark is taken as item 0.
+    fn with_marks_opened_after_three_lost_requests_each_item_is_bad(&mut self) -> Outcome {
+        self.open_after_lost_requests(3)?;
+        self.expect(&["sync", "bad"].repeat(60), GaveUp, &OLD)
+    }
+
     /// Item 5 is damaged and its request lost, item 6 brings the alarm, and the machine is opened
-    /// while the office goes on. What was stored before is overwritten.
-    fn opened_at_an_alarm_in_mid_order_item_6_is_taken_as_item_0(&mut self) -> Outcome {
+    /// while the office goes on.
+    fn open_at_an_alarm_in_mid_order(&mut self) -> Outcome {
         self.open_office(&LONG)?;
         for _ in 0..6 {
             self.period(Undisturbed)?;
@@ -147,10 +182,20 @@ impl<S: SendingEnd, R: ReceivingEnd> Ends<'_, S, R> {
         let events = [vec!["sync"], vec!["accepted"; 5], vec!["bad", SEQUENCE]].concat();
         self.expect(&events, GoingOn, &LONG[..5])?;
         self.open_machine()?;
-        self.until_rest()?;
+        self.until_rest()
+    }
+
+    /// What was stored before is overwritten.
+    fn opened_at_an_alarm_in_mid_order_item_6_is_taken_as_item_0(&mut self) -> Outcome {
+        self.open_at_an_alarm_in_mid_order()?;
         let events = [vec!["sync"], vec!["accepted"; 3], vec![LENGTH]].concat();
         let items = [&LONG[6..], &LONG[3..5]].concat();
         self.expect(&events, GaveUp, &items)
+    }
+
+    fn with_marks_opened_at_an_alarm_in_mid_order_nothing_more_is_taken(&mut self) -> Outcome {
+        self.open_at_an_alarm_in_mid_order()?;
+        self.expect(&["sync", "bad"].repeat(60), GaveUp, &LONG[..5])
     }
 
     /// The first order breaks off behind so many of its items.
@@ -189,6 +234,14 @@ impl<S: SendingEnd, R: ReceivingEnd> Ends<'_, S, R> {
         self.until_rest()?;
         let items = [&LONG[..3], &OLD[..]].concat();
         self.expect(&["sync", "accepted", "accepted", LENGTH], GaveUp, &items)
+    }
+
+    /// Item 0 of the new order carries a mark, which is bad where three items are taken.
+    fn with_marks_not_opened_after_item_2_the_second_order_is_not_taken(&mut self) -> Outcome {
+        self.break_off(&LONG, 3)?;
+        self.open_office(&OLD)?;
+        self.until_rest()?;
+        self.expect(&["sync", "bad", "bad"].repeat(64), GaveUp, &LONG[..3])
     }
 }
 

@@ -17,14 +17,22 @@ struct Ends {
     list: Delivery,
 }
 
+/// The code sizes of the sender and of the receiver.
+type Kind = (Option<usize>, Option<usize>);
+
+/// Without marks, and with marks of two sizes.
+const KINDS: [Kind; 2] = [(None, None), (Some(7), Some(5))];
+
 impl Ends {
-    fn open(items: usize) -> Ends {
+    fn open(kind: Kind, items: usize) -> Ends {
         let order: Vec<u8> = (0..items * K / 8).map(|i| i as u8).collect();
         let store = vec![0xEE; order.len()];
+        let sender = sender::open(K, 200, 0, 8 * order.len(), kind.0, &order).unwrap();
+        let receiver = receiver::open(K, kind.1).unwrap();
         Ends {
-            sender: sender::open(K, 200, 0, 8 * order.len(), &order).unwrap(),
-            receiver: receiver::open(K).unwrap(),
-            list: Delivery::new(K, 8 * order.len(), &order, &store),
+            list: Delivery::new(&sender, &receiver, &order, &store),
+            sender,
+            receiver,
             order,
             store,
         }
@@ -84,92 +92,114 @@ impl Ends {
 
 #[test]
 fn two_losses_with_no_good_block_between_break_that_clause() {
-    let mut ends = Ends::open(5);
-    let script: [(u8, &[usize]); 4] = [(1, &[]), (0, &[]), (0, &[0]), (0, &[0])];
-    for (reading, damage) in script {
-        ends.period(reading, damage).unwrap();
-        assert_eq!(ends.list.broken(), None);
+    for kind in KINDS {
+        let mut ends = Ends::open(kind, 5);
+        let script: [(u8, &[usize]); 4] = [(1, &[]), (0, &[]), (0, &[0]), (0, &[0])];
+        for (reading, damage) in script {
+            ends.period(reading, damage).unwrap();
+            assert_eq!(ends.list.broken(), None);
+        }
+        ends.period(0, &[]).unwrap();
+        assert_eq!(ends.list.broken(), Some(Supposition::GoodBlock));
+        assert_eq!(ends.list.lost_requests(), 2);
     }
-    ends.period(0, &[]).unwrap();
-    assert_eq!(ends.list.broken(), Some(Supposition::GoodBlock));
-    assert_eq!(ends.list.lost_requests(), 2);
 }
 
 #[test]
 fn suppositions_on_damage() {
-    let broken = |reading, damage: &[usize]| {
-        let mut ends = Ends::open(5);
-        ends.period(1, &[]).unwrap();
-        ends.period(0, &[]).unwrap();
-        ends.send(reading, damage).1.unwrap();
-        ends.list.broken()
-    };
-    assert_eq!((broken(0, &[]), broken(1, &[])), (None, None));
-    assert_eq!(broken(0, &[3, 18]), None);
-    assert_eq!(broken(0, &[3, 19]), Some(Supposition::Damage));
-    assert_eq!(broken(1, &[N - 1]), Some(Supposition::CancelledWhole));
-    assert_eq!(broken(1, &[N - 16]), None);
-    assert_eq!(broken(1, &[N - 17]), Some(Supposition::Damage));
+    for kind in KINDS {
+        let broken = |reading, damage: &[usize]| {
+            let mut ends = Ends::open(kind, 5);
+            ends.period(1, &[]).unwrap();
+            ends.period(0, &[]).unwrap();
+            ends.send(reading, damage).1.unwrap();
+            ends.list.broken()
+        };
+        assert_eq!((broken(0, &[]), broken(1, &[])), (None, None));
+        assert_eq!(broken(0, &[3, 18]), None);
+        assert_eq!(broken(0, &[3, 19]), Some(Supposition::Damage));
+        assert_eq!(broken(1, &[N - 1]), Some(Supposition::CancelledWhole));
+        assert_eq!(broken(1, &[N - 16]), None);
+        assert_eq!(broken(1, &[N - 17]), Some(Supposition::Damage));
+    }
 }
 
 #[test]
 fn false_reports_fail_their_claims() {
-    let fails = |event| {
-        let mut ends = Ends::open(2);
-        ends.period(1, &[]).unwrap();
-        ends.false_report(0, event).unwrap_err()
-    };
-    assert!(fails(Event::Accepted).contains("beginning of the order"));
-    assert!(fails(Event::Ended(480)).contains("r is N"));
-    assert!(fails(Event::SequenceAlarm).contains("request was lost"));
-    assert!(fails(Event::LengthAlarm).contains("request was lost"));
+    for kind in KINDS {
+        let fails = |event| {
+            let mut ends = Ends::open(kind, 2);
+            ends.period(1, &[]).unwrap();
+            ends.false_report(0, event).unwrap_err()
+        };
+        assert!(fails(Event::Accepted).contains("beginning of the order"));
+        assert!(fails(Event::Ended(480)).contains("r is N"));
+        assert!(fails(Event::SequenceAlarm).contains("request was lost"));
+        assert!(fails(Event::LengthAlarm).contains("request was lost"));
+    }
 }
 
 #[test]
 fn a_changed_store_fails_its_claim() {
-    let mut ends = Ends::open(2);
-    ends.period(1, &[]).unwrap();
-    ends.store[59] = 0;
-    let failure = ends.period(0, &[]).unwrap_err();
-    assert!(failure.contains("as first lent"), "{failure}");
+    for kind in KINDS {
+        let mut ends = Ends::open(kind, 2);
+        ends.period(1, &[]).unwrap();
+        ends.store[59] = 0;
+        let failure = ends.period(0, &[]).unwrap_err();
+        assert!(failure.contains("as first lent"), "{failure}");
+    }
 }
 
 #[test]
 fn a_machine_that_never_accepts_fails_after_six_periods() {
-    let mut ends = Ends::open(2);
-    for _ in 0..5 {
-        ends.false_report(1, Event::None).unwrap();
+    for kind in KINDS {
+        let mut ends = Ends::open(kind, 2);
+        for _ in 0..5 {
+            ends.false_report(1, Event::None).unwrap();
+        }
+        let failure = ends.false_report(1, Event::None).unwrap_err();
+        assert!(failure.contains("six undisturbed"), "{failure}");
     }
-    let failure = ends.false_report(1, Event::None).unwrap_err();
-    assert!(failure.contains("six undisturbed"), "{failure}");
 }
 
 #[test]
 fn a_finished_sender_without_the_end_fails() {
-    let mut ends = Ends::open(1);
-    ends.period(1, &[]).unwrap();
-    ends.period(0, &[]).unwrap();
-    ends.false_report(0, Event::Bad).unwrap();
-    let failure = ends.false_report(0, Event::Bad).unwrap_err();
-    assert!(failure.contains("reported the end"), "{failure}");
+    for kind in KINDS {
+        let mut ends = Ends::open(kind, 1);
+        ends.period(1, &[]).unwrap();
+        ends.period(0, &[]).unwrap();
+        ends.false_report(0, Event::Bad).unwrap();
+        let failure = ends.false_report(0, Event::Bad).unwrap_err();
+        assert!(failure.contains("reported the end"), "{failure}");
+    }
 }
 
 #[test]
 fn refusals_are_for_short_slices_alone() {
-    let mut ends = Ends::open(1);
-    let failure = ends.report(Received::Refused(7)).unwrap_err();
-    assert!(failure.contains("short slice"), "{failure}");
-    ends.sender.cancel_run = 70;
-    assert!(ends.send(0, &[]).1.is_err());
+    for kind in KINDS {
+        let mut ends = Ends::open(kind, 1);
+        let failure = ends.report(Received::Refused(7)).unwrap_err();
+        assert!(failure.contains("short slice"), "{failure}");
+        ends.sender.cancel_run = 70;
+        assert!(ends.send(0, &[]).1.is_err());
+    }
 }
 
 #[test]
 fn a_sync_inside_a_data_block_breaks_its_clause() {
-    let mut ends = Ends::open(2);
-    ends.period(1, &[]).unwrap();
-    ends.false_report(0, Event::Sync).unwrap();
-    assert_eq!(ends.list.broken(), Some(Supposition::OnlySynchronising));
-    let mut ends = Ends::open(2);
-    ends.false_report(1, Event::Previous).unwrap();
-    assert_eq!(ends.list.broken(), Some(Supposition::NeverData));
+    for kind in KINDS {
+        let mut ends = Ends::open(kind, 2);
+        ends.period(1, &[]).unwrap();
+        ends.false_report(0, Event::Sync).unwrap();
+        assert_eq!(ends.list.broken(), Some(Supposition::OnlySynchronising));
+        let mut ends = Ends::open(kind, 2);
+        ends.false_report(1, Event::Previous).unwrap();
+        assert_eq!(ends.list.broken(), Some(Supposition::NeverData));
+    }
+}
+
+#[test]
+#[should_panic]
+fn ends_that_are_not_opened_alike_make_no_list() {
+    Ends::open((Some(5), None), 1);
 }

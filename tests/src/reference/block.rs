@@ -1,4 +1,4 @@
-//! Document 01, "The block": lengths, check bits, building, reading, and the synchronising block.
+//! docs/PROTOCOL.md, "The block": lengths, check bits, building, reading, and the synchronising block.
 
 use super::bits::{bits_of, number, pack, unpack, Bits};
 use super::refusal::{Refusal, BLOCK, SHORT, SPOILED};
@@ -9,7 +9,7 @@ pub const LENGTHS: [usize; 4] = [240, 480, 960, 3840];
 pub const SERVICE_BITS: usize = 4;
 pub const CHECK_BITS: usize = 16;
 
-/// Service bits of items 0, 1 and 2, and so on in threes.
+/// The letters, service bits of the data items in turn.
 pub const A: u8 = 0b0011;
 pub const B: u8 = 0b1001;
 pub const C: u8 = 0b1100;

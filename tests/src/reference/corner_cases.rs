@@ -17,7 +17,7 @@ fn in_step(taken: usize) -> Receiver {
         search: false,
         return_bit: false,
         taken,
-        ..receiver::open(K).unwrap()
+        ..receiver::open(K, None).unwrap()
     }
 }
 
@@ -95,7 +95,7 @@ fn a_block_bit_by_bit_is_the_block_at_once() {
 #[test]
 fn a_search_finds_the_sequence_where_it_first_ends() {
     let line = [0x00, 0x50, 0xA5, 0x50, 0xA5];
-    let state = receiver::open(K).unwrap();
+    let state = receiver::open(K, None).unwrap();
     let (state, received) = state.receive(&line, 23, &mut []);
     let event = Event::None;
     assert_eq!(received, Received::Reported { event, used: 23 });
@@ -221,7 +221,7 @@ fn a_short_store_refuses_the_block_that_would_be_accepted() {
 
 #[test]
 fn a_sender_gives_up_at_the_sixty_fourth_cancel() {
-    let mut sender = sender::open(K, 200, 0, 8, &[0xA5]).unwrap();
+    let mut sender = sender::open(K, 200, 0, 8, None, &[0xA5]).unwrap();
     let mut cancels = 0;
     let mut block = [0; 33];
     while !sender.rests() {
@@ -240,7 +240,7 @@ fn a_sender_gives_up_at_the_sixty_fourth_cancel() {
 
 #[test]
 fn a_sender_synchronises_after_four_cancels() {
-    let mut sender = sender::open(K, 200, 0, 8, &[0xA5]).unwrap();
+    let mut sender = sender::open(K, 200, 0, 8, None, &[0xA5]).unwrap();
     let mut kinds = String::new();
     let mut block = [0; 33];
     for reading in [1, 1, 0, 1, 1, 1, 1, 1, 1, 1, 1, 1] {

@@ -4,6 +4,7 @@ use super::bits::{bits_of, number, pack, unpack};
 use super::block::{block_bytes, build_block, check_bits, passes, read_block, Read};
 use super::block::{cancel, synchronising_block, A, B, C, END, LENGTHS, SYNCHRONISING};
 use super::loop_time::{longest_loop, test_loop, SPEEDS};
+use super::marks::Marks;
 use super::order::{end_payload, item_block, items};
 use super::receiver::{self, Event, Received};
 use super::sender::{self, Sent};
@@ -97,8 +98,8 @@ period sent read event back
 #[test]
 fn two_losses_with_no_good_block_between() {
     let order: Vec<u8> = (1..=150).collect();
-    let mut sender = sender::open(240, 200, 0, 1200, &order).unwrap();
-    let mut receiver = receiver::open(240).unwrap();
+    let mut sender = sender::open(240, 200, 0, 1200, None, &order).unwrap();
+    let mut receiver = receiver::open(240, None).unwrap();
     let mut store = [0; 150];
     let mut events = Vec::new();
     // The reading and whether the block is damaged: S, 0, 1, then 2 and 3 on lost readings, 4.
@@ -140,7 +141,7 @@ fn blocks_read_back_and_cancelled_ones_fail() {
 /// "Wrong turnings": powers 16, 12 and 5 with the inverted last bit are the polynomial itself.
 #[test]
 fn sixteen_damaged_places_on_a_cancelled_block_can_pass() {
-    let mut block = item_block(240, 8, &[0xA5], 0);
+    let mut block = item_block(Marks::NOT_IN_USE, 240, 8, &[0xA5], 0);
     cancel(&mut block);
     assert!(!passes(&block));
     for power in [16, 12, 5] {
@@ -160,12 +161,13 @@ fn synchronising_and_end_blocks_as_written() {
     }
     let end = pack(&end_payload(240, 0x12345));
     assert_eq!(end[..6], [1, 0, 1, 0x23, 0x45, 0]);
-    assert_eq!(item_block(240, 8, &[0], 1), item_block(240, 8, &[0], 2));
+    let item = |item| item_block(Marks::NOT_IN_USE, 240, 8, &[0], item);
+    assert_eq!(item(1), item(2));
 }
 
 #[test]
 fn filling_is_zero_behind_the_order() {
-    let item = item_block(240, 4, &[0xFF], 0);
+    let item = item_block(Marks::NOT_IN_USE, 240, 4, &[0xFF], 0);
     let payload = pack(&item[4..244]);
     assert_eq!(payload[0], 0xF0);
     assert_eq!(payload[1..], [0; 29]);

@@ -1,7 +1,9 @@
-//! Document 01, "The order as items": data items with their letters and filling, and end blocks.
+//! docs/PROTOCOL.md, "The order as items": data items with their service bits and filling, and end
+//! blocks.
 
 use super::bits::{bit_at, bits_of, number, Bits};
 use super::block::{assemble, A, B, C, END};
+use super::marks::{is_mark, mark, Marks};
 
 /// The longest order, in bits.
 pub const LONGEST: usize = 262_144;
@@ -21,13 +23,32 @@ pub fn items(k: usize, length: usize) -> usize {
     length.div_ceil(k)
 }
 
-/// The service bits of data item i.
+/// A, B or C as i leaves 0, 1 or 2 when divided by 3.
 pub fn letter(item: usize) -> u8 {
     [A, B, C][item % 3]
 }
 
 pub fn is_letter(service: u8) -> bool {
     [A, B, C].contains(&service)
+}
+
+/// The service bits of data item i: its letter. With marks, item 0 carries the mark of the code
+/// size, and items 1, 2, 3 carry A, B, C and so on.
+pub fn data_service(marks: Marks, item: usize) -> u8 {
+    match (marks.in_use, item) {
+        (false, _) => letter(item),
+        (true, 0) => mark(marks.size),
+        (true, _) => letter(item - 1),
+    }
+}
+
+/// Whether a receiver takes these service bits for those of item i. With marks, any of the four is
+/// item 0's.
+pub fn is_service_of(marks: Marks, item: usize, service: u8) -> bool {
+    match (marks.in_use, item) {
+        (true, 0) => is_mark(service),
+        _ => service == data_service(marks, item),
+    }
 }
 
 /// The k data bits of item i below N; behind the order's L bits the filling is zero.
@@ -58,9 +79,10 @@ pub fn fits_end(k: usize, version: usize, length: usize, taken: usize) -> bool {
 }
 
 /// All n bits of item i, 0 to N + 1.
-pub fn item_block(k: usize, length: usize, order: &[u8], item: usize) -> Bits {
+pub fn item_block(marks: Marks, k: usize, length: usize, order: &[u8], item: usize) -> Bits {
     if item < items(k, length) {
-        assemble(letter(item), &item_payload(k, length, order, item))
+        let payload = item_payload(k, length, order, item);
+        assemble(data_service(marks, item), &payload)
     } else {
         assemble(END, &end_payload(k, length))
     }

@@ -1,9 +1,10 @@
-//! Document 01, "Receiving": opening a receiver and one receiving call, bit by bit.
+//! docs/PROTOCOL.md, "Receiving": opening a receiver and one receiving call, bit by bit.
 
 use super::bits::{bit_at, bits_of, number, pack, set_bit, unpack};
 use super::block::{block_bits, is_length, is_synchronising, passes};
 use super::block::{CHECK_BITS, END, SEQUENCE, SERVICE_BITS};
-use super::order::{end_fields, fits_end, is_letter, letter, MOST_ITEMS};
+use super::marks::Marks;
+use super::order::{end_fields, fits_end, is_letter, is_service_of, MOST_ITEMS};
 use super::refusal::{Refusal, BLOCK, SHORT, SPOILED};
 
 /// The bytes that hold one unfinished block, at most 3,860 bits.
@@ -31,6 +32,7 @@ impl Alarm {
 #[derive(Clone, Debug, PartialEq, Eq)]
 pub struct Receiver {
     pub k: usize,
+    pub marks: Marks,
     pub search: bool,
     /// The bits held come first in the array.
     pub array: [u8; HELD_BYTES],
@@ -58,7 +60,7 @@ pub enum Event {
 }
 
 impl Event {
-    /// Document 01's name of it.
+    /// Its name in docs/PROTOCOL.md.
     pub fn name(self) -> &'static str {
         match self {
             Event::None => "none",
@@ -80,13 +82,15 @@ pub enum Received {
     Refused(Refusal),
 }
 
-/// Opens a receiver, which takes k alone.
-pub fn open(k: usize) -> Result<Receiver, Refusal> {
+/// Opens a receiver; refusals in the order 1, 9.
+pub fn open(k: usize, code_size: Option<usize>) -> Result<Receiver, Refusal> {
     if !is_length(k) {
         return Err(BLOCK);
     }
+    let marks = Marks::open(code_size)?;
     Ok(Receiver {
         k,
+        marks,
         search: true,
         array: [0; HELD_BYTES],
         held: 0,
@@ -125,6 +129,7 @@ impl Receiver {
     /// Whether a field is outside its range.
     pub fn is_spoiled(&self) -> bool {
         !is_length(self.k)
+            || self.marks.are_spoiled()
             || self.bad_row >= BAD_ROW_LIMIT
             || self.held >= block_bits(self.k)
             || (self.search && self.held >= CHECK_BITS)
@@ -176,17 +181,19 @@ impl Receiver {
         let block = unpack(&self.array, 0, block_bits(self.k));
         let service = number(&block[..SERVICE_BITS]) as u8;
         let payload = &block[SERVICE_BITS..SERVICE_BITS + self.k];
+        let marks = self.marks;
+        let is_item = |item| is_service_of(marks, item, service);
         let may_accept = self.taken < MOST_ITEMS && !self.end_taken;
         let may_repeat = self.taken >= 1 && !self.end_taken;
         Ok(if is_synchronising(&block) {
             self.synchronise()
         } else if !passes(&block) {
             self.bad()
-        } else if may_accept && service == letter(self.taken) {
+        } else if may_accept && is_item(self.taken) {
             return self.accept(payload, store);
-        } else if may_repeat && service == letter(self.taken - 1) {
+        } else if may_repeat && is_item(self.taken - 1) {
             self.return_zero(Event::Previous)
-        } else if service == letter(self.taken + 1) || self.end_taken && is_letter(service) {
+        } else if is_item(self.taken + 1) || self.end_taken && is_letter(service) {
             self.raise_alarm(Alarm::Sequence)
         } else if service == END {
             self.end(payload)

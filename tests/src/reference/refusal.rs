@@ -18,3 +18,5 @@ pub const SHORT: Refusal = 6;
 pub const SPOILED: Refusal = 7;
 /// A sender finished or given up.
 pub const REST: Refusal = 8;
+/// A code size other than 5 to 8.
+pub const CODE_SIZE: Refusal = 9;

@@ -1,8 +1,9 @@
-//! Document 01, "Sending": opening a sender and one sending call.
+//! docs/PROTOCOL.md, "Sending": opening a sender and one sending call.
 
 use super::bits::pack;
 use super::block::{block_bytes, cancel, is_length, synchronising_block};
 use super::loop_time::test_loop;
+use super::marks::Marks;
 use super::order::{is_order_length, item_block, items, LONGEST};
 use super::refusal::{Refusal, EMPTY, LONG, REST, SHORT, SPOILED};
 
@@ -24,6 +25,7 @@ pub enum Next {
 pub struct Sender {
     pub k: usize,
     pub length: usize,
+    pub marks: Marks,
     pub newer: usize,
     /// The run of cancels; 64 is how a sender has given up.
     pub cancel_run: usize,
@@ -58,12 +60,13 @@ impl Sent {
     }
 }
 
-/// Opens a sender; refusals in the order 1, 2, 3, 4, 5, 6.
+/// Opens a sender; refusals in the order 1, 2, 3, 4, 5, 9, 6.
 pub fn open(
     k: usize,
     speed: usize,
     loop_ms: usize,
     length: usize,
+    code_size: Option<usize>,
     order: &[u8],
 ) -> Result<Sender, Refusal> {
     test_loop(k, speed, loop_ms)?;
@@ -73,12 +76,14 @@ pub fn open(
     if length > LONGEST {
         return Err(LONG);
     }
+    let marks = Marks::open(code_size)?;
     if 8 * order.len() < length {
         return Err(SHORT);
     }
     Ok(Sender {
         k,
         length,
+        marks,
         newer: 1,
         cancel_run: 0,
         opening: true,
@@ -93,7 +98,7 @@ impl Sender {
         if let Err(refusal) = self.judge(order, block) {
             return (self, Sent::Refused(refusal));
         }
-        let (k, length) = (self.k, self.length);
+        let (k, length, marks) = (self.k, self.length, self.marks);
         let item = match self.next {
             Next::Older => self.newer - 1,
             _ => self.newer,
@@ -101,7 +106,7 @@ impl Sender {
         let sent = self.step(item, reading);
         let mut bits = match sent {
             Sent::Synchronising => synchronising_block(k),
-            _ => item_block(k, length, order, item),
+            _ => item_block(marks, k, length, order, item),
         };
         if sent.is_cancelled() {
             cancel(&mut bits);
@@ -136,6 +141,7 @@ impl Sender {
     pub fn is_spoiled(&self) -> bool {
         !is_length(self.k)
             || !is_order_length(self.length)
+            || self.marks.are_spoiled()
             || self.newer < 1
             || self.newer > items(self.k, self.length) + 1
             || self.cancel_run > GIVE_UP

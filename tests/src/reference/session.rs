@@ -1,4 +1,5 @@
-//! Document 01, the run program ("Examples, on either side"): a session's text in, its periods out.
+//! docs/PROTOCOL.md, the run program ("Examples, on either side"): a session's text in, its periods
+//! out.
 
 use super::bits::{pack, unpack, Bits};
 use super::block::{block_bits, block_bytes};
@@ -114,8 +115,8 @@ fn hexadecimal(field: &[u8]) -> Option<Vec<u8>> {
 impl Session {
     fn open(first: FirstLine) -> Result<Session, Refusal> {
         let FirstLine { k, length, order } = first;
-        let sender = sender::open(k, SPEED, LOOP_MS, length, &order)?;
-        let receiver = receiver::open(k)?;
+        let sender = sender::open(k, SPEED, LOOP_MS, length, None, &order)?;
+        let receiver = receiver::open(k, None)?;
         let store = vec![0; STORE_BYTES];
         Ok(Session {
             order,
@@ -177,14 +178,14 @@ fn period_line(number: usize, period: &Period) -> String {
             used,
             cancelled,
         } => {
-            let mark = if cancelled { "!" } else { "" };
+            let sign = if cancelled { "!" } else { "" };
             let name = if end { "E".into() } else { item.to_string() };
             let read_column = if used {
                 reading.to_string()
             } else {
                 "-".into()
             };
-            (format!("{mark}{name}"), read_column)
+            (format!("{sign}{name}"), read_column)
         }
         _ => ("S".into(), "-".into()),
     };

@@ -1,7 +1,8 @@
 //! The table-driven sibling of the receiving call: bytes are moved, not bits, while it is in step.
 
-use super::{check_bits, copy_payload, is_length, register};
-use super::{END, LETTERS, LONGEST, SHORT, SPOILED, VERSION};
+use super::{are_spoiled, check_bits, copy_payload, is_length, register};
+use super::{END, LETTERS, LONGEST, MARKS, SHORT, SPOILED, VERSION};
+use crate::reference::marks::Marks;
 use crate::reference::receiver::{self, Alarm, Event, Received};
 
 const HELD_BYTES: usize = 483;
@@ -13,6 +14,7 @@ const SEQUENCE: u16 = 0x50A5;
 #[derive(Clone, Copy, Debug, PartialEq, Eq)]
 pub struct Receiver {
     pub k: usize,
+    pub marks: Marks,
     pub held: usize,
     pub bad_row: usize,
     pub taken: usize,
@@ -23,10 +25,19 @@ pub struct Receiver {
     pub array: [u8; HELD_BYTES],
 }
 
+/// Whose service bits a block has: those of item r, of the item before it or behind it, or of none.
+enum Place {
+    Expected,
+    Last,
+    Behind,
+    Nowhere,
+}
+
 impl From<receiver::Receiver> for Receiver {
     fn from(state: receiver::Receiver) -> Receiver {
         Receiver {
             k: state.k,
+            marks: state.marks,
             held: state.held,
             bad_row: state.bad_row,
             taken: state.taken,
@@ -43,6 +54,7 @@ impl From<Receiver> for receiver::Receiver {
     fn from(state: Receiver) -> receiver::Receiver {
         receiver::Receiver {
             k: state.k,
+            marks: state.marks,
             search: state.search,
             array: state.array,
             held: state.held,
@@ -106,6 +118,7 @@ impl Receiver {
     fn is_spoiled(&self) -> bool {
         let limit = if self.search { 16 } else { self.k + 20 };
         !is_length(self.k)
+            || are_spoiled(self.marks)
             || self.held >= limit
             || self.bad_row >= BAD_ROW_LIMIT
             || self.taken > MOST_ITEMS
@@ -155,26 +168,49 @@ impl Receiver {
         if register(block) != check {
             return Ok(self.bad());
         }
-        if self.end_taken && LETTERS.contains(&service) {
-            return Ok(self.raise_alarm(Alarm::Sequence));
-        }
-        if service == LETTERS[self.taken % 3] && self.taken < MOST_ITEMS {
-            return self.accept(block, store);
-        }
-        if service == LETTERS[(self.taken + 2) % 3] && self.taken >= 1 {
-            return Ok(self.return_zero(Event::Previous));
-        }
-        if service == LETTERS[(self.taken + 1) % 3] {
-            return Ok(self.raise_alarm(Alarm::Sequence));
-        }
         if service == END {
             return Ok(self.end(block));
         }
+        match self.place(service) {
+            Place::Expected => self.accept(block, store),
+            Place::Last => Ok(self.return_zero(Event::Previous)),
+            Place::Behind => Ok(self.raise_alarm(Alarm::Sequence)),
+            Place::Nowhere => Ok(self.fits_nowhere()),
+        }
+    }
+
+    /// By the distance from item r, in threes; with marks the letters begin one item later.
+    #[inline]
+    fn place(&self, service: u8) -> Place {
+        let first = usize::from(self.marks.in_use);
+        let Some(letter) = LETTERS.iter().position(|&letter| letter == service) else {
+            return self.place_of_mark(service);
+        };
+        match (letter + first + 3 - self.taken % 3) % 3 {
+            _ if self.end_taken => Place::Behind,
+            0 if self.taken >= first && self.taken < MOST_ITEMS => Place::Expected,
+            1 => Place::Behind,
+            2 if self.taken > first => Place::Last,
+            _ => Place::Nowhere,
+        }
+    }
+
+    #[inline]
+    fn place_of_mark(&self, service: u8) -> Place {
+        let known = self.marks.in_use && MARKS.contains(&service);
+        match self.taken {
+            0 if known && !self.end_taken => Place::Expected,
+            1 if known && !self.end_taken => Place::Last,
+            _ => Place::Nowhere,
+        }
+    }
+
+    fn fits_nowhere(&mut self) -> Event {
         let event = self.bad();
         if self.taken == 0 {
             self.start_search();
         }
-        Ok(event)
+        event
     }
 
     fn accept(&mut self, block: &[u8], store: &mut [u8]) -> Result<Event, u8> {

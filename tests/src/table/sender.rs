@@ -1,6 +1,7 @@
 //! The table-driven sibling of the sending call: an item is built where it goes out.
 
-use super::{build_block, is_length, END, LETTERS, LONGEST, SHORT, SPOILED, VERSION};
+use super::{are_spoiled, build_block, is_length};
+use super::{END, FIRST_SIZE, LETTERS, LONGEST, MARKS, SHORT, SPOILED, VERSION};
 use crate::reference::sender::{Next, Sender, Sent};
 
 const GIVE_UP: usize = 64;
@@ -46,7 +47,7 @@ pub fn send(mut sender: Sender, order: &[u8], reading: bool, block: &mut [u8]) -
 
 fn judge(sender: &Sender, order: &[u8], block: &[u8]) -> Result<(), u8> {
     let (k, length) = (sender.k, sender.length);
-    if !is_length(k) || !(1..=LONGEST).contains(&length) {
+    if !is_length(k) || !(1..=LONGEST).contains(&length) || are_spoiled(sender.marks) {
         return Err(SPOILED);
     }
     let last = length.div_ceil(k) + 1;
@@ -95,12 +96,8 @@ fn write_item(sender: &Sender, items: usize, item: usize, order: &[u8], block: &
     let (k, length) = (sender.k, sender.length);
     let bytes = k / 8;
     if (item + 1) * k <= length {
-        write(
-            k,
-            LETTERS[item % 3],
-            &order[item * bytes..(item + 1) * bytes],
-            block,
-        );
+        let payload = &order[item * bytes..(item + 1) * bytes];
+        write(k, data_service(sender, item), payload, block);
         return;
     }
     let mut payload = [0; MOST_PAYLOAD_BYTES];
@@ -115,7 +112,16 @@ fn write_item(sender: &Sender, items: usize, item: usize, order: &[u8], block: &
     if !length.is_multiple_of(8) {
         payload[rest.len() - 1] &= 0xFF << (8 - length % 8);
     }
-    write(k, LETTERS[item % 3], &payload, block);
+    write(k, data_service(sender, item), &payload, block);
+}
+
+/// With marks the letters begin one item later.
+#[inline]
+fn data_service(sender: &Sender, item: usize) -> u8 {
+    match (sender.marks.in_use, item) {
+        (true, 0) => MARKS[sender.marks.size - FIRST_SIZE],
+        (marks, _) => LETTERS[(item + 2 * usize::from(marks)) % 3],
+    }
 }
 
 #[inline]

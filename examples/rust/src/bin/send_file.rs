@@ -1,10 +1,11 @@
 //! An office and a machine in one program: a file goes through the order line's library over a noisy line, and what
 //! arrived is compared with what was sent.
 //!
-//!     send_file [FILE [K]]
+//!     send_file [FILE [K [SIZE]]]
 //!
-//! FILE has 1 to 32,768 bytes; K is 240 (as without it), 480, 960 or 3840 data bits a block. Exit status 0 means that the
-//! file arrived whole, 1 that it did not, 2 that it could not be read or the line was refused.
+//! FILE has 1 to 32,768 bytes; K is 240 (as without it), 480, 960 or 3840 data bits a block. With SIZE, a code size of 5 to
+//! 8, both ends use start-of-message marks. Exit status 0 means that the file arrived whole, 1 that it did not, 2 that it
+//! could not be read or the line was refused.
 //!
 //! The office and the machine meet only in the bits of the line and in the return bit; the noise and the session stand
 //! for the modems and the clock.
@@ -30,8 +31,13 @@ struct Office {
 }
 
 impl Office {
-    fn open(k: usize, order: Vec<u8>) -> Result<Office, Refusal> {
-        let sender = Sender::open(k, SPEED, LOOP_MS, 8 * order.len(), &order)?;
+    /// With a code size both ends use marks.
+    fn open(k: usize, size: Option<usize>, order: Vec<u8>) -> Result<Office, Refusal> {
+        let length = 8 * order.len();
+        let sender = match size {
+            Some(size) => Sender::open_with_marks(k, SPEED, LOOP_MS, length, size, &order)?,
+            None => Sender::open(k, SPEED, LOOP_MS, length, &order)?,
+        };
         Ok(Office {
             sender,
             order,
@@ -92,9 +98,13 @@ struct Machine {
 }
 
 impl Machine {
-    /// With room for any order that this k can bring.
-    fn open(k: usize) -> Result<Machine, Refusal> {
-        let receiver = Receiver::open(k)?;
+    /// With room for any order that this k can bring, and with a code size if the office has one: the two need not be the
+    /// same.
+    fn open(k: usize, size: Option<usize>) -> Result<Machine, Refusal> {
+        let receiver = match size {
+            Some(size) => Receiver::open_with_marks(k, size)?,
+            None => Receiver::open(k)?,
+        };
         let return_bit = receiver.return_bit()?;
         Ok(Machine {
             receiver,
@@ -257,9 +267,9 @@ fn print_summary(office: &Office, machine: &Machine, noise: &Noise, k: usize) {
 }
 
 /// Whether the file arrived whole.
-fn run_session(k: usize, order: Vec<u8>) -> Result<bool, Refusal> {
-    let mut office = Office::open(k, order)?;
-    let mut machine = Machine::open(k)?;
+fn run_session(k: usize, size: Option<usize>, order: Vec<u8>) -> Result<bool, Refusal> {
+    let mut office = Office::open(k, size, order)?;
+    let mut machine = Machine::open(k, size)?;
     let mut noise = Noise::new();
     while office.sender.rest()? == Rest::GoingOn {
         run_period(&mut office, &mut machine, &mut noise, k)?;
@@ -287,8 +297,9 @@ fn main() -> ExitCode {
     }
     let mut arguments = env::args().skip(1);
     let path = arguments.next().unwrap_or("README.md".to_string());
-    // What is no number is refused as block length 0.
-    let k = arguments.next().map_or(240, |k| k.parse().unwrap_or(0));
+    // What is no number is refused as block length 0, or code size 0.
+    let mut number = || arguments.next().map(|number| number.parse().unwrap_or(0));
+    let (k, size) = (number().unwrap_or(240), number());
     let order = match fs::read(&path) {
         Ok(order) => order,
         Err(error) => {
@@ -296,7 +307,7 @@ fn main() -> ExitCode {
             return ExitCode::from(2);
         }
     };
-    match run_session(k, order) {
+    match run_session(k, size, order) {
         Ok(true) => {
             println!("arrived whole");
             ExitCode::SUCCESS
