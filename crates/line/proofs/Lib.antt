@@ -6,6 +6,7 @@
 -- docs/PROTOCOL.md: Examples.
 pub mod Table
 pub mod LoopTime
+pub mod CodeSizes
 pub mod ServiceBits
 pub mod WithoutMarks
 pub mod Items

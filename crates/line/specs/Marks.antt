@@ -12,9 +12,12 @@ abbrev pub marksOf : CodeSize → Marks
 marksOf C.NotGiven = record { «in_use» = false; size = 0 }
 marksOf (C.Given size) = record { «in_use» = true; size = size }
 
--- with marks the size is 5 to 8; without, nobody judges it
+unfoldable pub isCodeSize : ℕ → Bool
+isCodeSize size = leb 5 size && leb size 8
+
+-- with marks the size is one of these; without, nobody judges it
 unfoldable pub marksInRange : Marks → Bool
-marksInRange m = not (m .«in_use») || (leb 5 (m .size) && leb (m .size) 8)
+marksInRange m = not (m .«in_use») || isCodeSize (m .size)
 
 -- ---- service bits
 

@@ -1,6 +1,7 @@
 // Start-of-message marks: a session uses them if a code size is given at its opening.
 ghost use mathlib.Core.Path.{_≡_};
-ghost use Rattle.line.specs.Marks.{marksOf, marksInRange, mark, isMark};
+ghost use mathlib.Core.Bool.{true};
+ghost use Rattle.line.specs.Marks.{marksOf, isCodeSize, marksInRange, mark, isMark};
 
 const MARK_5: u8 = 0b0001;
 
@@ -10,7 +11,7 @@ const MARK_7: u8 = 0b1011;
 
 const MARK_8: u8 = 0b0010;
 
-// What an opening is given.
+// What an opening is given: a machine word, so that a size out of range is not cut to one in range.
 pub enum CodeSize {
     NotGiven,
     Given(usize),
@@ -19,11 +20,32 @@ pub enum CodeSize {
 // What a state keeps of it. Without marks nobody judges the size.
 pub struct Marks {
     pub in_use: bool,
-    pub size: usize,
+    pub size: u8,
+}
+
+fn is_code_size(size: usize) -> bool
+    ensures { λ r. ⌜ r ≡ isCodeSize size ⌝ }
+{
+    if size < 5 {
+        return false;
+    }
+    size <= 8
+}
+
+impl CodeSize {
+    pub(crate) fn in_range(self) -> bool
+        ensures { λ r. ⌜ r ≡ marksInRange (marksOf self) ⌝ }
+    {
+        match self {
+            CodeSize::NotGiven => true,
+            CodeSize::Given(size) => is_code_size(size),
+        }
+    }
 }
 
 impl Marks {
     pub(crate) fn of(size: CodeSize) -> Marks
+        requires { ⌜ marksInRange (marksOf size) ≡ true ⌝ }
         ensures { λ r. ⌜ r ≡ marksOf size ⌝ }
     {
         match size {
@@ -31,7 +53,10 @@ impl Marks {
                 in_use: false,
                 size: 0,
             },
-            CodeSize::Given(size) => Marks { in_use: true, size },
+            CodeSize::Given(size) => Marks {
+                in_use: true,
+                size: size as u8,
+            },
         }
     }
 
@@ -41,15 +66,12 @@ impl Marks {
         if !self.in_use {
             return true;
         }
-        if self.size < 5 {
-            return false;
-        }
-        self.size <= 8
+        is_code_size(self.size as usize)
     }
 }
 
 // The mark of a code size.
-pub(crate) fn mark(size: usize) -> u8
+pub(crate) fn mark(size: u8) -> u8
     ensures { λ r. ⌜ r ≡ mark size ⌝ }
 {
     match size {

@@ -77,10 +77,10 @@ impl Receiver {
         if !block::known_length(k) {
             return Receiver::refused(block::BLOCK);
         }
-        let marks = Marks::of(size);
-        if !marks.in_range() {
+        if !size.in_range() {
             return Receiver::refused(CODE_SIZE);
         }
+        let marks = Marks::of(size);
         Opened {
             state: Receiver::fresh(k, marks),
             answer: Opening::Opened,

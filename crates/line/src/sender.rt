@@ -97,13 +97,13 @@ impl Sender {
         if LONGEST_ORDER < length {
             return Opened::Refused(LONG);
         }
-        let marks = Marks::of(size);
-        if !marks.in_range() {
+        if !size.in_range() {
             return Opened::Refused(CODE_SIZE);
         }
         if too_short(order, length) {
             return Opened::Refused(block::SHORT);
         }
+        let marks = Marks::of(size);
         Opened::Opened(Sender {
             setup: Setup { k, length, marks },
             newer: 1,

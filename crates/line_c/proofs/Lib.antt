@@ -5,7 +5,6 @@
 pub mod Flags
 pub mod Places
 pub mod Arrays
-pub mod Marks
 pub mod Ranges
 pub mod ReceiverRange
 pub mod RoundTrip

@@ -1,5 +1,5 @@
--- A sender in range whose code size fits a byte fits its layout, so do the states that opening and a sending call hand back,
--- and the number of the item that a call sends fits its word. Assumes nothing.
+-- A sender in range fits its layout, so do the states that opening and a sending call hand back, and the number of the
+-- item that a call sends fits its word. Assumes nothing.
 use mathlib.Core.Path.{_≡_, refl, sym, _∙_}
 use mathlib.Core.Bool.{Bool, true, false}
 use mathlib.Core.List.{List}
@@ -8,7 +8,7 @@ use native.Mathlib.Omega.{arith}
 use Rattle.block.specs.Answer.{done}
 use Rattle.block.proofs.Lengths.{length-facts}
 use Rattle.line.specs.Order.{mostItems}
-use Rattle.line.specs.Sending.{freshSender, openSender, Block, synchronising, item, transmit, senderInRange, send, sendState, sentAnswer}
+use Rattle.line.specs.Sending.{openSender, Block, synchronising, item, transmit, senderInRange, send, sendState, sentAnswer}
 use Rattle.line.specs.declared.marks.CodeSize.{CodeSize}
 use Rattle.line.specs.declared.sender.Sender.{Sender}
 use Rattle.line.specs.declared.sender.Next.{Next}
@@ -17,37 +17,26 @@ use Rattle.line.specs.declared.sender.Sent.{Sent}
 use Rattle.line.specs.declared.sender.Sent.the-variants as W
 use Rattle.line.specs.declared.sender.Step.{Step}
 use Rattle.line.proofs.Items.{valid-length, itemCount-fits}
-use Rattle.line.proofs.SenderRange.{in-range, opened, opened-in-range, sendable, send-in-range}
-use Rattle.line.proofs.Delivery.SendStep.{setup-kept}
+use Rattle.line.proofs.SenderRange.{in-range, opened-in-range, sendable, send-in-range}
 use Rattle.line_c.specs.State.{SenderFits}
-use Rattle.line_c.proofs.Marks.{opened-size}
 
 newer-most : (s : Sender) → senderInRange s ≡ true → s .newer ≤ mostItems + 1
 newer-most s h =
     let r = in-range s h in
     omega (arith, r .last, itemCount-fits (s .setup .k) (s .setup .length) (r .known) (r .valid))
 
-pub sender-fits : (s : Sender) → senderInRange s ≡ true → s .setup .marks .size < 256 → SenderFits s
-sender-fits s h size =
+pub sender-fits : (s : Sender) → senderInRange s ≡ true → SenderFits s
+sender-fits s h =
     let r = in-range s h in
     let k = length-facts (s .setup .k) (r .known) in
     let L = valid-length (s .setup .length) (r .valid) in
     let n = newer-most s h in
-    record {
-      k = omega arith;
-      length = omega arith;
-      size = size;
-      newer = omega arith;
-      run = omega (arith, r .cancels);
-    }
+    record { k = omega arith; length = omega arith; newer = omega arith; run = omega (arith, r .cancels) }
 
 pub opened-fits : (k speed loop-ms L : ℕ) (size : CodeSize) (order : List ℕ) (s : Sender)
     → openSender k speed loop-ms L size order ≡ done s → SenderFits s
-unfolding freshSender
 opened-fits k speed loop-ms L size order s e =
-    let o = opened k speed loop-ms L size order s e in
     sender-fits s (opened-in-range k speed loop-ms L size order s (record { answers = sym e }))
-    (rw (o .state) (opened-size size (o .marks)))
 
 -- ---- a sending call that sends
 
@@ -69,15 +58,13 @@ item-at-most s Newer false i end used cancelled e = let z : s .newer ≡ i = cc 
 item-at-most s Newer true i end used cancelled e = let z : s .newer ≡ i = cc in omega arith
 
 module _ (s : Sender) (order : List ℕ) (reading : Bool) (slice : List ℕ) where
-  pub sent-fits : (b : Block) → s .setup .marks .size < 256 → send s order reading slice ≡ done b
-      → SenderFits (sendState s reading (done b))
-  sent-fits b size e =
+  pub sent-fits : (b : Block) → send s order reading slice ≡ done b → SenderFits (sendState s reading (done b))
+  sent-fits b e =
       let result : Step = record { state = sendState s reading (done b); answer = sentOf b } in
       sender-fits (result .state)
       (send-in-range s order reading slice result _
       (record { answers = answer-of b ∙ sym e; state = rw e; writes = refl })
       (sendable s order reading slice b e .range))
-      (rw (setup-kept s (s .next) reading) size)
 
   pub item-fits : (i : ℕ) (end used cancelled : Bool) → send s order reading slice ≡ done (item i end used cancelled)
       → i < 65536

@@ -1,5 +1,5 @@
--- A receiver in range whose code size fits a byte fits its layout, and so do the states that opening and a receiving call
--- hand back. Assumes nothing.
+-- A receiver in range fits its layout, and so do the states that opening and a receiving call hand back.
+-- Assumes nothing.
 use mathlib.Core.Path.{_≡_, refl}
 use mathlib.Core.Bool.{Bool, true, false, not, _&&_, _||_}
 use mathlib.Core.List.{List, [], _∷_, _++_}
@@ -17,8 +17,7 @@ use Rattle.block.specs.Calls.{tooShort}
 use Rattle.block.proofs.Lengths.{length-facts}
 use Rattle.block.proofs.Truth.{cond-case}
 use Rattle.block.proofs.Refusals.{passed-test}
-use Rattle.line.specs.Refusals as Refusals
-use Rattle.line.specs.Marks.{marksOf, marksInRange}
+use Rattle.line.specs.Marks.{marksOf}
 use Rattle.line.specs.Receiving.{arrayBytes, freshReceiver, openReceiver, Rule, unfinished, standing, sequence-found, sync-block, check-fails, accepts, previous, out-of-sequence, ends, wrong-length, ends-again, anything-else, meaning, blockRule, blank, lastBad, afterBad, after, heldBits, Reception, latest, isSequence, search, underAlarm, holding, missing, finishedRow, inStep, byPhase, reception, heldInRange, receiverInRange, receive}
 use Rattle.line.specs.declared.marks.CodeSize.{CodeSize}
 use Rattle.line.specs.declared.receiver.Receiver.{Receiver}
@@ -28,7 +27,6 @@ use Rattle.line.proofs.Delivery.WrittenBits.{length-zeroArray}
 use Rattle.line.proofs.Delivery.SearchAnyBits.{length-latest}
 use Rattle.line.proofs.ReceivingCall.{InRange, in-range, held-search}
 use Rattle.line_c.specs.State.{ReceiverFits}
-use Rattle.line_c.proofs.Marks.{opened-size}
 
 -- ---- a state in range
 
@@ -38,14 +36,12 @@ held-small P.InStep n held g h = omega (arith, ltb-true held n h)
 held-small P.SequenceAlarm n held g h = omega (arith, ltb-true held n h)
 held-small P.LengthAlarm n held g h = omega (arith, ltb-true held n h)
 
-pub receiver-fits : (s : Receiver) → receiverInRange s ≡ true → s .setup .marks .size < 256 → length (s .bits) ≡ arrayBytes
-    → ReceiverFits s
-receiver-fits s h size b =
+pub receiver-fits : (s : Receiver) → receiverInRange s ≡ true → length (s .bits) ≡ arrayBytes → ReceiverFits s
+receiver-fits s h b =
     let r = in-range s h in
     let k = length-facts (s .setup .k) (r .known) in
     record {
       k = omega arith;
-      size = size;
       held = held-small (s .phase) (blockLength (s .setup .k)) (s .held) (omega arith) (r .held);
       taken = omega (arith, r .taken);
       bad-row = omega (arith, r .bad-row);
@@ -63,7 +59,6 @@ module _ (s : Receiver) (r : InRange s) (f : ReceiverFits s) where
   blank-fits bad-row back taken ended phase h g =
       record {
         k = f .k;
-        size = f .size;
         held = omega arith;
         taken = omega (arith, r .taken);
         bad-row = omega arith;
@@ -94,7 +89,6 @@ module _ (s : Receiver) (r : InRange s) (f : ReceiverFits s) where
   search-fits [] window used h =
       record {
         k = f .k;
-        size = f .size;
         held = omega arith;
         taken = f .taken;
         bad-row = f .bad-row;
@@ -109,14 +103,7 @@ module _ (s : Receiver) (r : InRange s) (f : ReceiverFits s) where
   holding-fits : (new : Bits) → length new < missing s → ReceiverFits (holding s new)
   holding-fits new h =
       let k = length-facts (s .setup .k) (r .known) in
-      record {
-        k = f .k;
-        size = f .size;
-        held = omega arith;
-        taken = f .taken;
-        bad-row = f .bad-row;
-        bits = length-bytesOf arrayBytes _;
-      }
+      record { k = f .k; held = omega arith; taken = f .taken; bad-row = f .bad-row; bits = length-bytesOf arrayBytes _ }
 
   step-fits : (new : Bits) → ReceiverFits (inStep s new .state)
   unfolding inStep
@@ -127,8 +114,7 @@ module _ (s : Receiver) (r : InRange s) (f : ReceiverFits s) where
   -- ---- by the phase
 
   underAlarm-fits : ReceiverFits (underAlarm s)
-  underAlarm-fits =
-      record { k = f .k; size = f .size; held = f .held; taken = f .taken; bad-row = omega arith; bits = f .bits }
+  underAlarm-fits = record { k = f .k; held = f .held; taken = f .taken; bad-row = omega arith; bits = f .bits }
 
   byPhase-fits : (p : Phase) → s .phase ≡ p → (new : Bits) → ReceiverFits (byPhase s p new .state)
   byPhase-fits P.Search e new =
@@ -144,28 +130,20 @@ module _ (s : Receiver) (r : InRange s) (f : ReceiverFits s) where
 
 -- ---- opening and a receiving call
 
-pub opened-fits : (k : ℕ) (size : CodeSize) (u : Unit {0}) → openReceiver k size ≡ done u → ReceiverFits (freshReceiver k (marksOf size))
+pub opened-fits : (k : ℕ) (size : CodeSize) (u : Unit {0}) → openReceiver k size ≡ done u
+    → ReceiverFits (freshReceiver k (marksOf size))
 unfolding openReceiver freshReceiver
 opened-fits k size u e =
-    let p = passed-test (not (isLength k)) A.block _ u e in
-    let q = passed-test (not (marksInRange (marksOf size))) Refusals.code-size (done tt) u (p .1) in
-    let h = length-facts k (not-false (isLength k) (p .0)) in
-    record {
-      k = omega arith;
-      size = opened-size size (not-false (marksInRange (marksOf size)) (q .0));
-      held = omega arith;
-      taken = omega arith;
-      bad-row = omega arith;
-      bits = length-zeroArray;
-    }
+    let h = length-facts k (not-false (isLength k) (passed-test (not (isLength k)) A.block _ u e .0)) in
+    record { k = omega arith; held = omega arith; taken = omega arith; bad-row = omega arith; bits = length-zeroArray }
 
-pub received-fits : (s : Receiver) (line : List ℕ) (count : ℕ) (store : List ℕ) (x : Reception) → s .setup .marks .size < 256
-    → length (s .bits) ≡ arrayBytes → receive s line count store ≡ done x → ReceiverFits (x .state)
+pub received-fits : (s : Receiver) (line : List ℕ) (count : ℕ) (store : List ℕ) (x : Reception) → length (s .bits) ≡ arrayBytes
+    → receive s line count store ≡ done x → ReceiverFits (x .state)
 unfolding receive
-received-fits s line count store x size b e =
+received-fits s line count store x b e =
     let p = passed-test (not (receiverInRange s)) A.spoiled _ x e in
     let q = passed-test (tooShort line count) A.short _ x (p .1) in
     let w = passed-test (meaning (reception s (take count (bitsOf line)) count .rule) .stores && tooShort store (s .taken * s .setup .k + s .setup .k)) A.short _ x (q .1) in
     let range = not-false (receiverInRange s) (p .0) in
     let g : reception s (take count (bitsOf line)) count ≡ x = cc (w .1) in
-    rw (← g) (reception-fits s (in-range s range) (receiver-fits s range size b) (take count (bitsOf line)) count)
+    rw (← g) (reception-fits s (in-range s range) (receiver-fits s range b) (take count (bitsOf line)) count)

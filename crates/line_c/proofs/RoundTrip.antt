@@ -125,22 +125,18 @@ module _ (l p rest : List ℕ) (m : Marks) (at : ℕ) (n : length p ≡ at) (e :
   unfolding marksBytes
   marks-flag-back = rw e (getD-at p (flagByte (m .«in_use»)) _ 0 at n)
 
-  marks-size-back : m .size < 256 → getD l (at + 1) 0 ≡ m .size
+  marks-size-back : getD l (at + 1) 0 ≡ m .size
   unfolding marksBytes
-  marks-size-back h =
-      let r : m .size % 256 ≡ m .size = omega arith in
-      rw (e, ← n) (getD-append-add p (marksBytes m ++ rest) 1 0 ∙ r)
+  marks-size-back = rw (e, ← n) (getD-append-add p (marksBytes m ++ rest) 1 0)
 
-  marks-back : m .size < 256 → marksIn l at ≡ m
+  marks-back : marksIn l at ≡ m
   unfolding marksIn
-  marks-back h = simp (marks-flag-back, marks-size-back h, flag-back)
+  marks-back = simp (marks-flag-back, marks-size-back, flag-back)
 
-marks-written-back : (s : List ℕ) (at : ℕ) → at + marksSize ≤ length s → Bytes s → getD s at 0 ≤ 1
+marks-written-back : (s : List ℕ) (at : ℕ) → at + marksSize ≤ length s → getD s at 0 ≤ 1
     → marksBytes (marksIn s at) ++ drop (at + marksSize) s ≡ drop at s
 unfolding marksIn marksBytes
-marks-written-back s at h b f =
-    let r : getD s (at + 1) 0 % 256 ≡ getD s (at + 1) 0 = omega (arith, b (at + 1)) in
-    rw (r, flag-written-back (getD s at 0) f) (sym (two s at h))
+marks-written-back s at h f = rw (flag-written-back (getD s at 0) f) (sym (two s at h))
 
 -- ---- what it says that bytes hold a state
 
@@ -239,7 +235,7 @@ sender-read-back s rest f =
       byte-13-back k L (s .newer) d a b c l,
       byte-14-back k L (s .newer) d a b c l,
       byte-15-back k L (s .newer) d a b c l,
-      marks-back (head ++ l) head rest m headSize behind refl (f .size),
+      marks-back (head ++ l) head rest m headSize behind refl,
       flag-back,
       next-back,
     ))
@@ -249,17 +245,16 @@ unfolding senderIn senderBytes
 sender-written-back s b h =
     let f = held senderSize 1 2 1 s h in
     let r : getD s 12 0 % 256 ≡ getD s 12 0 = omega (arith, b 12) in
-    rw (r, flag-written-back (getD s 13 0) (f .first), next-written-back (getD s 14 0) (f .second), flag-written-back (getD s 15 0) (f .third), append-assoc, marks-written-back s headSize (f .enough) b (f .marks))
+    rw (r, flag-written-back (getD s 13 0) (f .first), next-written-back (getD s 14 0) (f .second), flag-written-back (getD s 15 0) (f .third), append-assoc, marks-written-back s headSize (f .enough) (f .marks))
     (head-written-back s (omega (arith, f .enough)) b)
 
 judged : {A : Type 0} (size : ℕ) (state : List ℕ) (answer : Answer A) (a : A) → judgeState size state answer ≡ done a → answer ≡ done a
 judged size state (refused n) a e = absurd (let z : _≡_ {A = ℕ} 0 1 = cc in omega arith)
 judged size state (done x) a e = passed-test (ltb (length state) size) A.short (done x) a e .1
 
--- every sender in range whose code size fits a byte is read back from its bytes
-pub in-range-read-back : (s : Sender) (rest : List ℕ) → senderInRange s ≡ true → s .setup .marks .size < 256
-    → senderOf (senderBytes s ++ rest) ≡ done s
-in-range-read-back s rest h size = sender-read-back s rest (sender-fits s h size)
+-- every sender in range is read back from its bytes
+pub in-range-read-back : (s : Sender) (rest : List ℕ) → senderInRange s ≡ true → senderOf (senderBytes s ++ rest) ≡ done s
+in-range-read-back s rest h = sender-read-back s rest (sender-fits s h)
 
 -- after an opening that is not refused, the bytes hold the sender that was opened
 pub opened-read-back : (k speed loop-ms L : ℕ) (size : CodeSize) (order state : List ℕ) (result : ℕ) (state′ : List ℕ) (s : Sender)
@@ -272,25 +267,13 @@ opened-read-back k speed loop-ms L size order state result state′ s p e =
     (sender-read-back s (drop senderSize state)
     (opened-fits k speed loop-ms L size order s (judged senderSize state (openSender k speed loop-ms L size order) s e)))
 
--- what it says that a state was read
-read-state : {X : Type 0} (t : Bool) (x s : X) → refuseIf (not t) A.spoiled (done x) ≡ done s → (t ≡ true) × (s ≡ x)
-read-state t x s e =
-    let p = passed-test (not t) A.spoiled (done x) s e in
-    (not-false t (p .0), cc (p .1))
-
-sender-size : (state : List ℕ) (s : Sender) → Bytes state → senderOf state ≡ done s → s .setup .marks .size < 256
-unfolding senderOf senderIn marksIn
-sender-size state s b e = rw (read-state (holdsSender state) (senderIn state) s e .1) (b 17)
-
 -- after a sending call that is not refused, the bytes hold the state that it hands back
 pub sent-read-back : (state order : List ℕ) (reading : Bool) (slice : List ℕ) (result : ℕ) (state′ slice′ : List ℕ) (s : Sender) (b : Block)
-    → Bytes state → SendCall state order reading slice result state′ slice′ → senderOf state ≡ done s
-    → send s order reading slice ≡ done b → senderOf state′ ≡ done (sendState s reading (done b))
-sent-read-back state order reading slice result state′ slice′ s b bytes p e f =
+    → SendCall state order reading slice result state′ slice′ → senderOf state ≡ done s → send s order reading slice ≡ done b
+    → senderOf state′ ≡ done (sendState s reading (done b))
+sent-read-back state order reading slice result state′ slice′ s b p e f =
     let w : state′ ≡ senderOver state (sendState s reading (done b)) = rw (e, f) at (p .keeps) in
-    rw w
-    (sender-read-back (sendState s reading (done b)) (drop senderSize state)
-    (sent-fits s order reading slice b (sender-size state s bytes e) f))
+    rw w (sender-read-back (sendState s reading (done b)) (drop senderSize state) (sent-fits s order reading slice b f))
 
 -- ---- the receiver
 
@@ -347,7 +330,7 @@ receiver-read-back s rest f =
       byte-15-back k (s .held) (s .taken) d a b c l,
       behind-head k (s .held) (s .taken) d a b c l,
       take-at (s .bits) (marksBytes m ++ rest) arrayBytes (f .bits),
-      marks-back (head ++ l) (head ++ s .bits) rest m arrayEnd behind e (f .size),
+      marks-back (head ++ l) (head ++ s .bits) rest m arrayEnd behind e,
       flag-back,
       phase-back,
     ))
@@ -358,7 +341,7 @@ receiver-written-back s b h =
     let f = held receiverSize 1 1 3 s h in
     let r : getD s 12 0 % 256 ≡ getD s 12 0 = omega (arith, b 12) in
     let e : drop arrayEnd s ≡ drop arrayBytes (drop headSize s) = sym (drop-drop arrayBytes headSize s) in
-    rw (r, flag-written-back (getD s 13 0) (f .first), flag-written-back (getD s 14 0) (f .second), phase-written-back (getD s 15 0) (f .third), append-assoc, append-assoc, marks-written-back s arrayEnd (f .enough) b (f .marks), e, take-append-drop arrayBytes (drop headSize s))
+    rw (r, flag-written-back (getD s 13 0) (f .first), flag-written-back (getD s 14 0) (f .second), phase-written-back (getD s 15 0) (f .third), append-assoc, append-assoc, marks-written-back s arrayEnd (f .enough) (f .marks), e, take-append-drop arrayBytes (drop headSize s))
     (head-written-back s (omega (arith, f .enough)) b)
 
 -- the array of a receiver that bytes hold is whole
@@ -368,10 +351,10 @@ length-bits s h =
     let f = held receiverSize 1 1 3 s h in
     length-take-le arrayBytes (drop headSize s) (simp length-drop (omega (arith, f .enough)))
 
--- every receiver in range whose code size fits a byte and whose array is whole is read back from its bytes
-pub in-range-receiver-read-back : (s : Receiver) (rest : List ℕ) → receiverInRange s ≡ true → s .setup .marks .size < 256
-    → length (s .bits) ≡ arrayBytes → receiverOf (receiverBytes s ++ rest) ≡ done s
-in-range-receiver-read-back s rest h size b = receiver-read-back s rest (receiver-fits s h size b)
+-- every receiver in range whose array is whole is read back from its bytes
+pub in-range-receiver-read-back : (s : Receiver) (rest : List ℕ) → receiverInRange s ≡ true → length (s .bits) ≡ arrayBytes
+    → receiverOf (receiverBytes s ++ rest) ≡ done s
+in-range-receiver-read-back s rest h b = receiver-read-back s rest (receiver-fits s h b)
 
 -- after an opening that is not refused, the bytes hold the receiver that was opened
 pub opened-receiver-read-back : (k : ℕ) (size : CodeSize) (state : List ℕ) (result : ℕ) (state′ : List ℕ) (u : Unit {0})
@@ -385,23 +368,18 @@ opened-receiver-read-back k size state result state′ u p e =
     (receiver-read-back s (drop receiverSize state)
     (R.opened-fits k size u (judged receiverSize state (openReceiver k size) u e)))
 
-module _ (state : List ℕ) (s : Receiver) (e : receiverOf state ≡ done s) where
-  receiver-size : Bytes state → s .setup .marks .size < 256
-  unfolding receiverOf receiverIn marksIn
-  receiver-size b = rw (read-state (holdsReceiver state) (receiverIn state) s e .1) (b 500)
-
-  receiver-bits : length (s .bits) ≡ arrayBytes
-  unfolding receiverOf
-  receiver-bits =
-      let h = read-state (holdsReceiver state) (receiverIn state) s e in
-      rw (h .1) (length-bits state (h .0))
+holds-of : (state : List ℕ) (s : Receiver) → receiverOf state ≡ done s → (holdsReceiver state ≡ true) × (s ≡ receiverIn state)
+unfolding receiverOf
+holds-of state s e =
+    let p = passed-test (not (holdsReceiver state)) A.spoiled (done (receiverIn state)) s e in
+    (not-false (holdsReceiver state) (p .0), cc (p .1))
 
 -- after a receiving call that is not refused, the bytes hold the state that it hands back
 pub received-read-back : (state line : List ℕ) (count : ℕ) (store : List ℕ) (used len result : ℕ) (state′ store′ : List ℕ) (used′ len′ : ℕ)
-    (s : Receiver) (x : Reception) → Bytes state → ReceiveCall state line count store used len result state′ store′ used′ len′
+    (s : Receiver) (x : Reception) → ReceiveCall state line count store used len result state′ store′ used′ len′
     → receiverOf state ≡ done s → receive s line count store ≡ done x → receiverOf state′ ≡ done (x .state)
-received-read-back state line count store used len result state′ store′ used′ len′ s x bytes p e f =
+received-read-back state line count store used len result state′ store′ used′ len′ s x p e f =
     let w : state′ ≡ receiverOver state (x .state) = rw (e, f) at (p .keeps) in
-    rw w
-    (receiver-read-back (x .state) (drop receiverSize state)
-    (R.received-fits s line count store x (receiver-size state s e bytes) (receiver-bits state s e) f))
+    let h = holds-of state s e in
+    let b : length (s .bits) ≡ arrayBytes = rw (h .1) (length-bits state (h .0)) in
+    rw w (receiver-read-back (x .state) (drop receiverSize state) (R.received-fits s line count store x b f))

@@ -72,7 +72,7 @@ unfoldable pub marksIn : List ℕ → ℕ → Marks
 marksIn s at = record { «in_use» = flagAt s at; size = getD s (at + 1) 0 }
 
 unfoldable pub marksBytes : Marks → List ℕ
-marksBytes m = flagByte (m .«in_use») ∷ m .size % 256 ∷ []
+marksBytes m = flagByte (m .«in_use») ∷ m .size ∷ []
 
 -- the bytes are enough; those at 13, 14 and 15, flags or an enum, are at most these, and the marks' flag at most 1
 unfoldable pub holds : ℕ → ℕ → ℕ → ℕ → List ℕ → Bool
@@ -115,7 +115,6 @@ senderBytes s = senderHead s ++ marksBytes (s .setup .marks)
 pub record SenderFits (s : Sender) : Type 0 where
   pub k : s .setup .k < 2 ^ 32
   pub length : s .setup .length < 2 ^ 32
-  pub size : s .setup .marks .size < 256
   pub newer : s .newer < 2 ^ 32
   pub run : s .run < 256
 
@@ -157,7 +156,6 @@ receiverBytes s = receiverHead s ++ (s .bits ++ marksBytes (s .setup .marks))
 
 pub record ReceiverFits (s : Receiver) : Type 0 where
   pub k : s .setup .k < 2 ^ 32
-  pub size : s .setup .marks .size < 256
   pub held : s .held < 2 ^ 32
   pub taken : s .taken < 2 ^ 32
   pub bad-row : s .«bad_row» < 256

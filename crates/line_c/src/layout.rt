@@ -80,7 +80,7 @@ pub(crate) fn load_marks(s: &[u8], at: usize) -> Marks
 {
     Marks {
         in_use: s[at] == 1,
-        size: wide(s[at + 1]),
+        size: s[at + 1],
     }
 }
 
@@ -89,5 +89,5 @@ pub(crate) fn store_marks(s: &mut [u8], at: usize, marks: Marks)
     ensures { λ _. ⌜ now (s .exit) ≡ sets (now (s .entry)) at (marksBytes marks) ⌝ }
 {
     s[at] = marks.in_use as u8;
-    s[at + 1] = (marks.size % 256) as u8;
+    s[at + 1] = marks.size;
 }

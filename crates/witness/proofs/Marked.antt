@@ -8,7 +8,7 @@ use Prim.Native.Nat.{ℕ}
 use Rattle.crc.specs.Bits.{Bits}
 use Rattle.block.specs.Lengths.{isLength}
 use Rattle.block.specs.Block.{syncBlock, cancelled}
-use Rattle.line.specs.Marks.{marksOf, marksInRange}
+use Rattle.line.specs.Marks.{marksOf, isCodeSize, marksInRange}
 use Rattle.line.specs.Order.{itemCount, itemBits}
 use Rattle.line.specs.LoopTime.{isSpeed, blockTime, hasEntry, longestLoop, loopTime}
 use Rattle.line.specs.Sending.{synchronising, item, freshSender, openSender}
@@ -86,7 +86,7 @@ abbrev ready : Opened
 ready = record { state = freshReceiver 240 eight; answer = Opening.Opened }
 
 pub whole-opened : Openings 240 200 0 480 (C.Given 5) (C.Given 8) order (freshSender 240 480 five) ready initialStore
-unfolding openSender loopTime isSpeed hasEntry longestLoop blockTime openReceiver isLength marksInRange itemCount
+unfolding openSender loopTime isSpeed hasEntry longestLoop blockTime openReceiver isLength marksInRange isCodeSize itemCount
 whole-opened =
     record {
       sender = record { answers = refl };

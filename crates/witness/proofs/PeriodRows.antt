@@ -9,7 +9,7 @@ use Rattle.crc.specs.Check.{remainder, passes, check}
 use Rattle.block.specs.Answer.{Answer}
 use Rattle.block.specs.Lengths.{isLength}
 use Rattle.block.specs.Block.{blockBits, verdict, syncBlock, cancelled}
-use Rattle.line.specs.Marks.{marksOf, marksInRange, mark, isMark}
+use Rattle.line.specs.Marks.{marksOf, isCodeSize, marksInRange, mark, isMark}
 use Rattle.line.specs.Order.{validLength, itemCount, letter, isLetter, dataService, filled, endPayload, itemService, itemPayload, itemBits}
 use Rattle.line.specs.Sending.{Block, freshSender, senderInRange, send, transmit, plainBits, sentBits}
 use Rattle.line.specs.Receiving.{freshReceiver, zeroArray, isOf, place, endRule, markRule, serviceRule, looksSync, judge, blank, Reception, inStep, reception, receiverInRange, receive, storeAt}
@@ -49,7 +49,7 @@ allCalls = flatMap (λ r. r .calls)
 
 -- `receive`, and where this unfolds so does all that it computes with
 unfoldable pub received : Receiver → List ℕ → ℕ → List ℕ → Answer Reception
-unfolding receive receiverInRange marksInRange reception inStep judge looksSync verdict passes remainder check blockBits syncBlock serviceRule endRule endPayload markRule place isOf isMark letter isLetter validLength itemCount number binary bitsOf bytesOf zeroArray freshReceiver isLength storeAt
+unfolding receive receiverInRange marksInRange isCodeSize reception inStep judge looksSync verdict passes remainder check blockBits syncBlock serviceRule endRule endPayload markRule place isOf isMark letter isLetter validLength itemCount number binary bitsOf bytesOf zeroArray freshReceiver isLength storeAt
 received = receive
 
 -- The rows that these calls come to, each from the world behind the row before. Where this unfolds, so does all that both

@@ -7,14 +7,11 @@ use Rattle.line_c.proofs.layout.load_marks.Tie as tie
 shared-slice-read-t4 : tie.Need-shared-slice-read-t4
 shared-slice-read-t4 c = search needs
 
-add-wide : tie.Need-add-wide
-add-wide c = search needs
+add-t6 : tie.Need-add-t6
+add-t6 c = search needs
 
-shared-slice-read-wide : tie.Need-shared-slice-read-wide
-shared-slice-read-wide c = search needs
-
-wide-requires : tie.Need-wide-requires
-wide-requires c κs = search needs
+shared-slice-read-t8 : tie.Need-shared-slice-read-t8
+shared-slice-read-t8 c = search needs
 
 returns : tie.Need-returns
 unfolding marksIn
@@ -22,4 +19,4 @@ returns c = cc
 
 pub load-marks-spec : {M : Type 1} → statement M
 load-marks-spec =
-    tie.close (tie.spec shared-slice-read-t4 add-wide shared-slice-read-wide wide-requires returns)
+    tie.close (tie.spec shared-slice-read-t4 add-t6 shared-slice-read-t8 returns)

@@ -14,9 +14,6 @@ cast-s c = search needs
 slice-write-s : tie.Need-slice-write-s
 slice-write-s c = search needs
 
-cast-s-2 : tie.Need-cast-s-2
-cast-s-2 c = search needs
-
 add-s : tie.Need-add-s
 add-s c = search needs
 
@@ -32,4 +29,4 @@ returns c = rw (add-one, boolByte-flag)
 
 pub store-marks-spec : {M : Type 1} → statement M
 store-marks-spec =
-    tie.close (tie.spec cast-s slice-write-s cast-s-2 add-s slice-write-s-2 same-length returns)
+    tie.close (tie.spec cast-s slice-write-s add-s slice-write-s-2 same-length returns)

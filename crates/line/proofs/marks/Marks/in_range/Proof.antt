@@ -1,7 +1,7 @@
 -- `Marks::in_range` judges the size where marks are in use. Assumes nothing.
-use mathlib.Core.Path.{sym}
-use borrow.Author.Tests.{le-leb, lt-leb}
+use mathlib.Core.Path.{sym, _∙_}
 use Rattle.line.specs.Marks.{marksInRange}
+use borrow.Author.Needs.{needs}
 use Rattle.line.proofs.marks.Marks.in_range.Statement.{statement}
 use Rattle.line.proofs.marks.Marks.in_range.Tie as tie
 
@@ -9,13 +9,15 @@ returns : tie.Need-returns
 unfolding marksInRange
 returns c = sym (simp (c .if1 .taken))
 
+cast-is-code-size : tie.Need-cast-is-code-size
+cast-is-code-size c = search needs
+
+is-code-size-requires : tie.Need-is-code-size-requires
+is-code-size-requires c κs = search needs
+
 returns-2 : tie.Need-returns-2
 unfolding marksInRange
-returns-2 c = sym (simp (c .before .before .if1 .left, lt-leb 5 _ (c .if2 .taken)))
-
-returns-3 : tie.Need-returns-3
-unfolding marksInRange
-returns-3 c = sym (simp (c .before .before .before .if1 .left, le-leb 5 _ (c .before .if2 .left)))
+returns-2 c = c .is-code-size .ensures ∙ sym (simp (c .before .before .if1 .left))
 
 pub in-range-spec : {M : Type 1} → statement M
-in-range-spec = tie.close (tie.spec returns returns-2 returns-3)
+in-range-spec = tie.close (tie.spec returns cast-is-code-size is-code-size-requires returns-2)

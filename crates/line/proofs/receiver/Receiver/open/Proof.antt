@@ -29,29 +29,28 @@ returns c =
 known : (c : tie.Else1) → isLength (c .before .before .args .k) ≡ true
 known c = sym (c .before .known-length .ensures) ∙ not-false _ (c .if1 .left)
 
-of-requires : tie.Need-of-requires
-of-requires c κs = search needs
-
 in-range-requires : tie.Need-in-range-requires
 in-range-requires c κs = search needs
 
 refused-requires-2 : tie.Need-refused-requires-2
 refused-requires-2 c κs = search needs
 
--- whether the size is in range
-judged : (c : tie.After-in-range) → c .in-range .result ≡ marksInRange (marksOf (c .before .before .before .before .args .size))
-judged c = c .in-range .ensures ∙ ap marksInRange (c .before .of .ensures)
-
 returns-2 : tie.Need-returns-2
 unfolding openReceiver
 returns-2 c =
     let i = c .before .before in
-    let e = known (i .before .before) in
-    let m = sym (judged i) ∙ not-true _ (c .before .if2 .taken) in
+    let e = known (i .before) in
+    let m = sym (i .in-range .ensures) ∙ not-true _ (c .before .if2 .taken) in
     record {
       answers = ap (λ (o : Opened). openingAnswer (o .answer)) (c .refused2 .ensures) ∙ sym (simp (e, m));
       state = ap (λ (o : Opened). o .state) (c .refused2 .ensures) ∙ sym (simp (e, m));
     }
+
+sized : (c : tie.Else2) → marksInRange (marksOf (c .before .before .before .before .args .size)) ≡ true
+sized c = sym (c .before .in-range .ensures) ∙ not-false _ (c .if2 .left)
+
+of-requires : tie.Need-of-requires
+of-requires c κs = sized c
 
 fresh-requires : tie.Need-fresh-requires
 fresh-requires c κs = search needs
@@ -61,10 +60,10 @@ unfolding openReceiver
 returns-3 c =
     let i = c .before .before in
     let e = known (i .before .before) in
-    let m = sym (judged i) ∙ not-false _ (c .before .if2 .left) in
+    let m = sized i in
     record {
       answers = sym (simp (e, m));
-      state = c .fresh .ensures ∙ ap (freshReceiver _) (i .before .of .ensures) ∙ sym (simp (e, m));
+      state = c .fresh .ensures ∙ ap (freshReceiver _) (c .before .of .ensures) ∙ sym (simp (e, m));
     }
 
 pub open-spec : {M : Type 1} → statement M
@@ -74,9 +73,9 @@ open-spec =
     known-length-requires
     refused-requires
     returns
-    of-requires
     in-range-requires
     refused-requires-2
     returns-2
+    of-requires
     fresh-requires
     returns-3)

@@ -1,5 +1,6 @@
 -- `Receiver::refused` hands back a state that every step refuses. Assumes nothing.
-use mathlib.Core.Path.{ap, _∙_}
+use mathlib.Core.Path.{refl, ap, _∙_}
+use Rattle.line.specs.Marks.{marksInRange}
 use Rattle.line.specs.Receiving.{freshReceiver}
 use Rattle.line.specs.declared.receiver.Receiver.{Receiver}
 use Rattle.line.specs.declared.receiver.Opening.the-variants as O
@@ -8,7 +9,8 @@ use Rattle.line.proofs.receiver.Receiver.refused.Statement.{statement}
 use Rattle.line.proofs.receiver.Receiver.refused.Tie as tie
 
 of-requires : tie.Need-of-requires
-of-requires c κs = search needs
+unfolding marksInRange
+of-requires c κs = refl
 
 fresh-requires : tie.Need-fresh-requires
 fresh-requires c κs = search needs

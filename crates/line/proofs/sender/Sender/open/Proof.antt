@@ -74,37 +74,27 @@ returns-3 c =
 too-short-requires : tie.Need-too-short-requires
 too-short-requires c κs = search needs
 
-of-requires : tie.Need-of-requires
-of-requires c κs = search needs
-
 in-range-requires : tie.Need-in-range-requires
 in-range-requires c κs = search needs
 
--- whether the size is in range
-judged : (c : tie.After-in-range)
-    → c .in-range .result
-    ≡ marksInRange (marksOf (c .before .before .before .before .before .before .before .before .args .size))
-judged c = c .in-range .ensures ∙ ap marksInRange (c .before .of .ensures)
-
 returns-4 : tie.Need-returns-4
 returns-4 c =
-    let i = c .before in
-    let t = i .before .before in
+    let t = c .before .before in
     let s = t .before in
     record {
       answers =
           wrong-size _ _ _ _ _ _ (allowed (s .before)) (s .if1 .left) (t .if2 .left)
-          (sym (judged i) ∙ not-true _ (c .if3 .taken));
+          (sym (c .before .in-range .ensures) ∙ not-true _ (c .if3 .taken));
     }
 
--- the answer once the size is in range
-sized : (c : tie.Else3) → marksInRange (marksOf (c .before .before .before .before .before .before .before .before .before .args .size)) ≡ true
-sized c = sym (judged (c .before)) ∙ not-false _ (c .if3 .left)
+-- the size is in range
+sized : (c : tie.Else3) → marksInRange (marksOf (c .before .before .before .before .before .before .before .before .args .size)) ≡ true
+sized c = sym (c .before .in-range .ensures) ∙ not-false _ (c .if3 .left)
 
 returns-5 : tie.Need-returns-5
 returns-5 c =
     let m = c .before .before in
-    let t = m .before .before .before in
+    let t = m .before .before in
     let s = t .before in
     record {
       answers =
@@ -112,17 +102,21 @@ returns-5 c =
           (sym (c .if4 .taken) ∙ c .before .too-short .ensures);
     }
 
+of-requires : tie.Need-of-requires
+of-requires c κs = sized (c .before .before)
+
 returns-6 : tie.Need-returns-6
 unfolding freshSender
 returns-6 c =
-    let m = c .before .before in
-    let t = m .before .before .before in
+    let e = c .before in
+    let m = e .before .before in
+    let t = m .before .before in
     let s = t .before in
     record {
       answers =
-          rw (m .before .before .of .ensures)
+          rw (c .of .ensures)
           (whole _ _ _ _ _ _ (allowed (s .before)) (s .if1 .left) (t .if2 .left) (sized m) false
-          (sym (c .if4 .left) ∙ c .before .too-short .ensures));
+          (sym (e .if4 .left) ∙ e .before .too-short .ensures));
     }
 
 pub open-spec : {M : Type 1} → statement M
@@ -135,9 +129,9 @@ open-spec =
     enum-told
     returns-2
     returns-3
-    of-requires
     in-range-requires
     returns-4
     too-short-requires
     returns-5
+    of-requires
     returns-6)
