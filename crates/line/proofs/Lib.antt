@@ -1,9 +1,10 @@
 -- Lemmas of the two ends. Those of one function of the code stand in the folder of its file (sender/, head/, ...).
--- Loop times: Table, LoopTime (without rounding). An item: ServiceBits, Items, LastItem (its filling), ItemBlocks (the block
--- that is built). The sender's range: SenderRange. Bits moved by bytes: BitMoves. A receiving call: ReceivingCall, and in
--- place InPlace; in search SearchWindow, LineSearch; in step InStepBits, BlockFields (what a block's bytes say), StorePlace
--- (where its data go), BlockFinished (what is handed back). Demand 3: Delivery. Calls lent in pieces: Pieces. The examples of
--- docs/PROTOCOL.md: Examples.
+-- Loop times: Table, LoopTime (without rounding). Marks: CodeSizes, WithoutMarks (what is left without them). An item:
+-- ServiceBits, Items, LastItem (its filling), ItemBlocks (the block that is built). The sender's range: SenderRange. Bits moved
+-- by bytes: BitMoves. A receiving call: ReceivingCall, KeptSetup (what opening fixed stays), and in place InPlace; in search
+-- SearchWindow, LineSearch; in step InStepBits, BlockFields (what a block's bytes say), StorePlace (where its data go),
+-- BlockFinished (what is handed back). Demand 3: Delivery. Calls lent in pieces: Pieces. The examples of docs/PROTOCOL.md:
+-- Examples.
 pub mod Table
 pub mod LoopTime
 pub mod CodeSizes
@@ -21,6 +22,7 @@ pub mod BlockFinished
 pub mod InStepBits
 pub mod LineSearch
 pub mod ReceivingCall
+pub mod KeptSetup
 pub mod InPlace
 pub mod Delivery
 pub mod Pieces

@@ -133,7 +133,7 @@ module _ (l p rest : List ℕ) (m : Marks) (at : ℕ) (n : length p ≡ at) (e :
   unfolding marksIn
   marks-back = simp (marks-flag-back, marks-size-back, flag-back)
 
-marks-written-back : (s : List ℕ) (at : ℕ) → at + marksSize ≤ length s → getD s at 0 ≤ 1
+pub marks-written-back : (s : List ℕ) (at : ℕ) → at + marksSize ≤ length s → getD s at 0 ≤ 1
     → marksBytes (marksIn s at) ++ drop (at + marksSize) s ≡ drop at s
 unfolding marksIn marksBytes
 marks-written-back s at h f = rw (flag-written-back (getD s at 0) f) (sym (two s at h))

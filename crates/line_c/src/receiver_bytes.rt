@@ -1,11 +1,11 @@
 // A receiver in lent bytes.
 ghost use mathlib.Core.Path.{_≡_};
-ghost use mathlib.Core.List.{_++_};
+ghost use mathlib.Core.List.{[], _++_};
 ghost use Prim.Native.Nat.{_≤_};
 ghost use lib.ListN.{length, take, drop};
 ghost use Rattle.line.specs.Receiving.{arrayBytes};
 ghost use Rattle.line.specs.ReceivingInPlace.{withArray};
-ghost use Rattle.line_c.specs.State.{headSize, arrayEnd, receiverSize, holdsReceiver, receiverIn, receiverBytes, phaseOf, phaseByte};
+ghost use Rattle.line_c.specs.State.{headSize, arrayEnd, receiverSize, holdsReceiver, receiverIn, receiverHead, receiverBytes, phaseOf, phaseByte};
 use crate::layout::HEAD_SIZE;
 use crate::layout::MARKS_SIZE;
 use crate::layout::holds_state;
@@ -84,10 +84,10 @@ pub(crate) fn load_head(s: &[u8]) -> Head
     }
 }
 
-// The head and the marks; the array stays as it is.
+// The array and the marks stay as they are.
 pub(crate) fn put_head(head: Head, s: &mut [u8])
-    requires { ⌜ receiverSize ≤ length (now s) ⌝ }
-    ensures { λ _. ⌜ now (s .exit) ≡ receiverBytes (withArray head (take arrayBytes (drop headSize (now (s .entry))))) ++ drop receiverSize (now (s .entry)) ⌝ }
+    requires { ⌜ headSize ≤ length (now s) ⌝ }
+    ensures { λ _. ⌜ now (s .exit) ≡ receiverHead (withArray head []) ++ drop headSize (now (s .entry)) ⌝ }
 {
     let setup = head.setup;
     let phase = head.phase;
@@ -101,7 +101,6 @@ pub(crate) fn put_head(head: Head, s: &mut [u8])
         phase_byte(phase),
         s,
     );
-    store_marks(s, ARRAY_END, setup.marks);
 }
 
 pub(crate) fn store_receiver(receiver: Receiver, s: &mut [u8])
@@ -109,6 +108,8 @@ pub(crate) fn store_receiver(receiver: Receiver, s: &mut [u8])
     ensures { λ _. ⌜ now (s .exit) ≡ receiverBytes receiver ++ drop receiverSize (now (s .entry)) ⌝ }
 {
     let bits = receiver.bits;
-    store_bits(bits, s);
+    let setup = receiver.setup;
     put_head(receiver.head(), s);
+    store_bits(bits, s);
+    store_marks(s, ARRAY_END, setup.marks);
 }

@@ -2,11 +2,12 @@
 -- Assumes nothing.
 use mathlib.Core.Path.{_≡_, refl, sym, ap, _∙_}
 use mathlib.Core.Bool.{true, false}
-use mathlib.Core.List.{List}
+use mathlib.Core.List.{List, [], _++_, append-assoc}
 use Prim.Native.Nat.{ℕ, _≤_}
 use native.Mathlib.Omega.{arith}
 use borrow.Author.Tests.{not-true, not-false}
-use lib.ListN.{length}
+use lib.ListN.{length, take, drop, length-append, length-drop, take-append-drop}
+use lib.Seq.{length-take-le, drop-at, drop-drop}
 use Rattle.block.specs.Answer as A
 use Rattle.block.specs.Answer.{Answer, refused, done}
 use Rattle.line.specs.Receiving.{arrayBytes, Reception, Report, reported, receive, receiveState, receivedAnswer, Receive}
@@ -15,12 +16,13 @@ use Rattle.line.specs.Code.ReceiveSteps.{stepWith}
 use Rattle.line.specs.declared.head.Head.{Head}
 use Rattle.line.specs.declared.head.HeadStep.{HeadStep}
 use Rattle.line.specs.declared.receiver.Receiver.{Receiver}
+use Rattle.line.specs.declared.receiving.Setup.{Setup}
 use Rattle.line.specs.declared.receiving.Event.{Event}
 use Rattle.line.proofs.InPlace.{by-value}
-use Rattle.line_c.specs.State.{receiverSize, holdsReceiver, receiverIn, receiverOf}
+use Rattle.line.proofs.KeptSetup.{received-setup}
+use Rattle.line_c.specs.State.{headSize, marksBytes, arrayEnd, receiverSize, holdsReceiver, receiverIn, receiverOf, receiverHead, receiverBytes}
 use Rattle.line_c.specs.ReceiverCalls.{receiverOver, eventNumber, eventLength, reportNumber, reportUsed, reportLength, receivedState, ReceiveCall}
-use Rattle.line_c.proofs.RoundTrip.{held}
-use Rattle.line_c.proofs.Arrays.{array, with-array, same-array, length-array, room, head-over}
+use Rattle.line_c.proofs.RoundTrip.{held, marks-written-back}
 use borrow.Author.Needs.{needs}
 use Rattle.line_c.proofs.receiver_calls.order_line_receive.Statement.{statement}
 use Rattle.line_c.proofs.receiver_calls.order_line_receive.Tie as tie
@@ -31,10 +33,49 @@ kept-refused : (state : List ℕ) (s : Receiver) (a : Answer Reception) (n : ℕ
 kept-refused state s (refused m) n r = (refl, refl)
 kept-refused state s (done x) n r = absurd (let z : _≡_ {A = ℕ} 0 1 = cc in omega arith)
 
+kept-setup : (s : Receiver) (line : List ℕ) (count : ℕ) (store : List ℕ) (a : Answer Reception) → receive s line count store ≡ a
+    → (r : Report) → reported a ≡ done r → receiveState s a .setup ≡ s .setup
+kept-setup s line count store (refused m) e r z = absurd (let z : _≡_ {A = ℕ} 0 1 = cc in omega arith)
+kept-setup s line count store (done x) e r z = received-setup s line count store x e
+
 kept-done : (state : List ℕ) (s : Receiver) (a : Answer Reception) (r : Report) → reported a ≡ done r
     → receiverOver state (receiveState s a) ≡ receivedState state a
 kept-done state s (refused m) r e = absurd (let z : _≡_ {A = ℕ} 0 1 = cc in omega arith)
 kept-done state s (done x) r e = refl
+
+module _ (state : List ℕ) where
+  abbrev array : List ℕ
+  array = take arrayBytes (drop headSize state)
+
+  -- the state's bytes with another array
+  abbrev with-array : List ℕ → List ℕ
+  with-array array′ = take headSize state ++ (array′ ++ drop arrayBytes (drop headSize state))
+
+  same-array : (array′ : List ℕ) → array′ ≡ array → with-array array′ ≡ state
+  same-array array′ e =
+      ap with-array e ∙ ap (λ (l : List ℕ). take headSize state ++ l) (take-append-drop arrayBytes (drop headSize state))
+      ∙ take-append-drop headSize state
+
+  module _ (h : receiverSize ≤ length state) where
+    length-array : length array ≡ arrayBytes
+    length-array = length-take-le arrayBytes (drop headSize state) (omega (arith, length-drop headSize state))
+
+    head-room : (array′ : List ℕ) → headSize ≤ length (with-array array′)
+    head-room array′ =
+        let n : length (take headSize state) ≡ headSize = length-take-le headSize state (omega arith) in
+        simp length-append (omega arith)
+
+    -- and another head whose marks stand behind the array
+    head-over : (head : Head) (array′ state′ : List ℕ) → marksBytes (head .setup .marks) ++ drop receiverSize state ≡ drop arrayEnd state
+        → state′ ≡ receiverHead (withArray head []) ++ drop headSize (with-array array′) → state′ ≡ receiverOver state (withArray head array′)
+    unfolding receiverBytes
+    head-over head array′ state′ m e =
+        let n : length (take headSize state) ≡ headSize = length-take-le headSize state (omega arith) in
+        e
+        ∙ ap (λ (l : List ℕ). receiverHead (withArray head []) ++ l)
+        (drop-at (take headSize state) (array′ ++ drop arrayBytes (drop headSize state)) headSize n
+        ∙ ap (λ (l : List ℕ). array′ ++ l) (drop-drop arrayBytes headSize state ∙ sym m))
+        ∙ simp append-assoc
 
 module _ (state line : List ℕ) (count : ℕ) (store : List ℕ) (used len : ℕ) where
   unheld : holdsReceiver state ≡ false → ReceiveCall state line count store used len A.spoiled state store used len
@@ -51,6 +92,13 @@ module _ (state line : List ℕ) (count : ℕ) (store : List ℕ) (used len : �
 
     enough : receiverSize ≤ length state
     enough = held receiverSize 1 1 3 state h .enough
+
+    -- a head with this setup has the marks that stand in the bytes
+    marks-kept : {setup : Setup} → setup ≡ s .setup → marksBytes (setup .marks) ++ drop receiverSize state ≡ drop arrayEnd state
+    unfolding receiverIn
+    marks-kept k =
+        ap (λ (x : Setup). marksBytes (x .marks) ++ drop receiverSize state) (k ∙ ap (λ (r : Receiver). r .setup) e)
+        ∙ marks-written-back state arrayEnd enough (held receiverSize 1 1 3 state h .marks)
 
     module _ (result : HeadStep) (array′ store′ : List ℕ) (q : ReceiveInPlace head (array state) line count store result array′ store′) where
       call : Receive s line count store (stepWith result array′) store′
@@ -70,16 +118,18 @@ module _ (state line : List ℕ) (count : ℕ) (store : List ℕ) (used len : �
             ends = rw receiver-held (sym (ap (reportLength len) r));
           }
 
-      heard : length array′ ≡ arrayBytes → (event : Event) (bits : ℕ)
-          → receivedAnswer (result .answer) ≡ done (record { event = event; used = bits }) → (number : ℕ) (state′ : List ℕ) (len′ : ℕ)
-          → number ≡ eventNumber event → state′ ≡ receiverOver (with-array state array′) (withArray (result .head) (array (with-array state array′)))
+      heard : (event : Event) (bits : ℕ) → receivedAnswer (result .answer) ≡ done (record { event = event; used = bits })
+          → (number : ℕ) (state′ : List ℕ) (len′ : ℕ) → number ≡ eventNumber event
+          → state′ ≡ receiverHead (withArray (result .head) []) ++ drop headSize (with-array state array′)
           → len′ ≡ eventLength len event → ReceiveCall state line count store used len number state′ store′ bits len′
-      heard whole event bits a number state′ len′ n w l =
+      heard event bits a number state′ len′ n w l =
           let r = sym (call .answers) ∙ a in
+          let k : result .head .setup ≡ s .setup =
+          ap (λ (x : Receiver). x .setup) (call .state) ∙ kept-setup s line count store (receive s line count store) refl _ r in
           record {
             answers = rw receiver-held (n ∙ sym (ap reportNumber r));
             keeps = rw receiver-held
-                (w ∙ head-over state enough array′ whole (result .head) ∙ ap (receiverOver state) (call .state)
+                (head-over state enough (result .head) array′ state′ (marks-kept k) w ∙ ap (receiverOver state) (call .state)
                 ∙ kept-done state s (receive s line count store) _ r);
             writes = rw receiver-held (call .writes);
             uses = rw receiver-held (sym (ap (reportUsed used) r));
@@ -130,7 +180,7 @@ put-head-requires : tie.Need-put-head-requires
 put-head-requires c κs =
     let receive = c .before .before .before .before .before .before .before .before .before in
     let tested = receive .before .before .before .before .before in
-    room (start tested .args .state .now) (size-held tested) (receive .receive .last .1 .0) (search needs)
+    head-room (start tested .args .state .now) (size-held tested) (receive .receive .last .1 .0)
 
 report-requires : tie.Need-report-requires
 report-requires c κs = search needs
@@ -159,8 +209,7 @@ returns-3 c =
     let put = c .before .before .before .before in
     let receive = c .before .before .before .before .before .before .before .before .before .before .before .before .before .before in
     let loaded = receive .before .before .before in
-    heard _ _ _ _ _ _ (bytes-held (loaded .before .before)) _ (loaded .load-head .ensures) _ _ _ (receive .receive .ensures)
-    (search needs) _ _
+    heard _ _ _ _ _ _ (bytes-held (loaded .before .before)) _ (loaded .load-head .ensures) _ _ _ (receive .receive .ensures) _ _
     (ap receivedAnswer (c .before .before .before .before .before .before .before .answer2 .given .1)) _ _ _ (c .report .ensures .0) (put .put-head .ensures) (c .report .ensures .1)
 
 pub order-line-receive-spec : {M : Type 1} → statement M
