@@ -12,5 +12,6 @@ pub mod ReceivingInPlace
 pub mod Pieces
 pub mod Course
 pub mod Delivery
+pub mod WholeOrder
 pub mod Examples
 pub mod Code

@@ -1,5 +1,6 @@
--- What a layer above takes from demand 3: with the end reported, the store begins with the order. Assumes nothing.
-use mathlib.Core.Path.{_≡_, refl, ap, ap₂, sym, _∙_}
+-- What a layer above takes from demand 3 (specs/WholeOrder.antt): with the end reported, the store begins with the order.
+-- Assumes nothing.
+use mathlib.Core.Path.{_≡_, refl, ap, ap₂, sym, _∙_, subst}
 use mathlib.Core.Logic.{⊎-elim}
 use mathlib.Core.Bool.{Bool, true, false, _||_, false≢true}
 use mathlib.Core.List.{List, [], _∷_}
@@ -11,16 +12,16 @@ use lib.ListN.{length, take, getD}
 use lib.Seq.{take-at, take-take}
 use borrow.Author.Tests.{eq-eqb}
 use Rattle.crc.specs.Bits.{Bits, bitsOf, bytesOf, zeros}
-use Rattle.crc.proofs.Bytes.{length-bitsOf, take-bitsOf, take-bytes, bytesOf-bitsOf}
+use Rattle.crc.proofs.Bytes.{length-bitsOf, take-bitsOf, take-bytes, bytesOf-lt, bytesOf-bitsOf}
+use Rattle.block.specs.Answer.{Answer, refused, done}
 use Rattle.line.specs.Order.{itemCount, filled, orderBits}
-use Rattle.line.specs.Receiving.{withLength}
-use Rattle.line.specs.Course.{Call, World, opened, Entry, course, final}
-use Rattle.line.specs.Delivery.{some, kindOf, isEnd, reportsEnd, accepted, Assumptions, Guarantees, Openings}
-use Rattle.line.specs.declared.marks.CodeSize.{CodeSize}
-use Rattle.line.specs.declared.sender.Sender.{Sender}
-use Rattle.line.specs.declared.receiver.Opened as ReceiverOpened
+use Rattle.line.specs.Sending.{Block, send}
+use Rattle.line.specs.Receiving.{withLength, meaning, Reception, receive, storeAt}
+use Rattle.line.specs.Course.{Call, sending, receiving, World, opened, Entry, sendAfter, receiveEntry, receiveAfter, entry, next, course, final}
+use Rattle.line.specs.Delivery.{All, some, kindOf, isEnd, reportsEnd, SameStore, accepted, Guarantees}
+use Rattle.line.specs.WholeOrder.{Bytes, WholeOrder}
 use Rattle.block.proofs.Lengths.{length-facts}
-use Rattle.block.proofs.Truth.{or-true, or-yes}
+use Rattle.block.proofs.Truth.{or-true, or-yes, cond-case}
 use Rattle.line.proofs.Items.{itemCount-holds, length-orderBits}
 use Rattle.line.proofs.Delivery.CallList.{by-heard}
 use Rattle.line.proofs.Delivery.Theorem.{opened-well, guaranteed}
@@ -57,7 +58,7 @@ all-stored k L content initialStore es w pos long g e =
 
 -- ---- bits and bytes
 
-same-bytes : (m : ℕ) (s t : List ℕ) → ((i : ℕ) → getD s i 0 < 256) → ((i : ℕ) → getD t i 0 < 256)
+same-bytes : (m : ℕ) (s t : List ℕ) → Bytes s → Bytes t
     → take (8 * m) (bitsOf s) ≡ take (8 * m) (bitsOf t) → take m s ≡ take m t
 same-bytes m s t a b e =
     let bits : bitsOf (take m s) ≡ bitsOf (take m t) = sym (take-bitsOf m s) ∙ e ∙ take-bitsOf m t in
@@ -65,25 +66,44 @@ same-bytes m s t a b e =
     omega (arith, length-bitsOf (take m s), length-bitsOf (take m t), ap length bits) in
     sym (bytesOf-bitsOf (take m s) (take-bytes m s a)) ∙ ap₂ bytesOf long bits ∙ bytesOf-bitsOf (take m t) (take-bytes m t b)
 
+-- ---- the store stays bytes
+
+sent-bytes : (w : World) (reading : Bool) (arrives : Bits) (a : Answer Block) → Bytes (w .store) → Bytes (sendAfter w reading arrives a .store)
+sent-bytes w reading arrives (refused n) b = b
+sent-bytes w reading arrives (done x) b = b
+
+heard-bytes : (w : World) (lent : Bits) (store : List ℕ) (a : Answer Reception) → SameStore (receiveEntry w lent store a)
+    → Bytes (w .store) → Bytes (receiveAfter w store a .store)
+unfolding storeAt
+heard-bytes w lent store (refused n) h b = b
+heard-bytes w lent store (done x) h b =
+    cond-case Bytes (meaning (x .rule) .stores) (λ e. bytesOf-lt (length store) _) (λ e. subst Bytes (sym h) b)
+
+call-bytes : (w : World) (c : Call) → SameStore (entry w c) → Bytes (w .store) → Bytes (next w c .store)
+call-bytes w (sending order reading slice arrives) h = sent-bytes w reading arrives (send (w .sender) order reading slice)
+call-bytes w (receiving line count store) h =
+    heard-bytes w (take count (bitsOf line)) store (receive (w .receiver) line count store) h
+
+kept-bytes : (calls : List Call) (w : World) → All SameStore (course w calls) → Bytes (w .store) → Bytes (final w calls .store)
+kept-bytes [] w h b = b
+kept-bytes (c ∷ calls) w h b = kept-bytes calls (next w c) (h .1) (call-bytes w c (h .0) b)
+
 -- ---- from the openings
 
-module _ (k speed loop-ms L : ℕ) (senderSize receiverSize : CodeSize) (order : List ℕ) (s : Sender) (r : ReceiverOpened.Opened)
-    (initialStore : List ℕ) (h : Openings k speed loop-ms L senderSize receiverSize order s r initialStore) (calls : List Call) where
-  abbrev start : World
-  start = opened s (r .state) initialStore
+pub whole-order : WholeOrder
+unfolding WholeOrder
+whole-order k speed loop-ms L senderSize receiverSize order s r initialStore h calls a e = record { bits = bits; bytes = bytes }
+  where
+    start : World
+    start = opened s (r .state) initialStore
 
-  -- with the end reported, the store's first L bits are the order's
-  pub delivered-order : Assumptions k (orderBits L order) (course start calls) → some isEnd (course start calls) ≡ true
-      → take L (bitsOf (final start calls .store)) ≡ take L (bitsOf order)
-  delivered-order a e =
-      let o = opened-well k speed loop-ms L senderSize receiverSize order s r initialStore h in
-      all-stored k L (orderBits L order) initialStore (course start calls) (final start calls) (omega (arith, length-facts k (o .known)))
-      (length-orderBits L order (o .lent)) (guaranteed k speed loop-ms L senderSize receiverSize order s r initialStore h calls a) e
+    bits : take L (bitsOf (final start calls .store)) ≡ take L (bitsOf order)
+    bits =
+        let o = opened-well k speed loop-ms L senderSize receiverSize order s r initialStore h in
+        all-stored k L (orderBits L order) initialStore (course start calls) (final start calls) (omega (arith, length-facts k (o .known)))
+        (length-orderBits L order (o .lent)) (guaranteed k speed loop-ms L senderSize receiverSize order s r initialStore h calls a) e
 
-  -- and where L is a whole number of bytes, its first bytes are the order's
-  pub delivered-bytes : (m : ℕ) → L ≡ 8 * m → ((i : ℕ) → getD (final start calls .store) i 0 < 256)
-      → ((i : ℕ) → getD order i 0 < 256) → Assumptions k (orderBits L order) (course start calls)
-      → some isEnd (course start calls) ≡ true → take m (final start calls .store) ≡ take m order
-  delivered-bytes m q b c a e =
-      same-bytes m (final start calls .store) order b c
-      (ap (λ (n : ℕ). take n (bitsOf (final start calls .store))) (sym q) ∙ delivered-order a e ∙ ap (λ (n : ℕ). take n (bitsOf order)) q)
+    bytes : (m : ℕ) → L ≡ 8 * m → Bytes order → Bytes initialStore → take m (final start calls .store) ≡ take m order
+    bytes m q b c =
+        same-bytes m (final start calls .store) order (kept-bytes calls start (a .store) c) b
+        (ap (λ (n : ℕ). take n (bitsOf (final start calls .store))) (sym q) ∙ bits ∙ ap (λ (n : ℕ). take n (bitsOf order)) q)
