@@ -4,14 +4,15 @@
  *
  * Every call is proved to answer and write what crates/line_c/specs says, on every input, and to end without a fault.
  * What the proofs suppose of a caller in C:
- *   - a pointer is not null and points to at least the given number of bytes, also where that number is 0;
+ *   - a pointer is not null and points to at least the given number of bytes, also where that number is 0; doses points
+ *     to the given number of 16-bit numbers, aligned as uint16_t is;
  *   - what a call may write overlaps nothing else that is lent to the same call;
  *   - no other thread touches what is lent while the call runs.
  * Nothing else is asked: any bytes, any numbers. The library keeps nothing between calls and allocates nothing.
  *
  * A number of bytes is the size of what the pointer points to. Of an array that was passed on as a pointer, sizeof gives
  * the pointer's own size: write ORDER_LINE_RECEIVER_BYTES, ORDER_LINE_STORE_BYTES(k) and so on instead, or hand the size
- * on beside the pointer.
+ * on beside the pointer. doses_numbers counts 16-bit numbers, not bytes.
  *
  * libline_c.a is for x86-64 and the System V calling convention; the toolchain compiles for no other processor today.
  * Its calls use vector registers, and may use the 128 bytes below the stack pointer (the red zone). So an interrupt
@@ -35,11 +36,11 @@ extern "C" {
 /* ---- the version ---- */
 
 /*
- * Version 3.0.0: major * 65536 + minor * 256 + patch. A later version with the same major number keeps the layouts, the
+ * Version 3.1.0: major * 65536 + minor * 256 + patch. A later version with the same major number keeps the layouts, the
  * numbers, the signatures and the promises of this one (docs/VERSION.md). order_line_version returns the version of the
  * library; the two differ where a header and a library of different versions were brought together.
  */
-#define ORDER_LINE_VERSION 0x030000u
+#define ORDER_LINE_VERSION 0x030100u
 
 uint32_t order_line_version(void);
 
@@ -64,14 +65,20 @@ uint32_t order_line_version(void);
 #define ORDER_LINE_REFUSED_SPOILED 7   /* bytes that hold no state, a field outside its range, service bits above 15 */
 #define ORDER_LINE_REFUSED_REST 8      /* a sender that is finished or gave up */
 #define ORDER_LINE_REFUSED_CODE_SIZE 9 /* a code size other than 5 to 8 */
+#define ORDER_LINE_REFUSED_FORMAT 10   /* no tint order: its version or its length; or no doses to write */
+#define ORDER_LINE_REFUSED_ENTRY 11    /* a dose out of range or order, or more than ORDER_LINE_MOST_DOSES to write */
+#define ORDER_LINE_REFUSED_STEPS 12    /* a tint order of more than 20,000 pump steps in all */
 
 /* ---- sizes ---- */
 
 #define ORDER_LINE_LONGEST_ORDER 262144 /* bits */
 #define ORDER_LINE_MOST_ITEMS 1093      /* data items of an order */
+#define ORDER_LINE_MOST_DOSES 12        /* doses of a tint order */
 
 #define ORDER_LINE_PAYLOAD_BYTES(k) ((k) / 8)   /* the data of one block: 30, 60, 120 or 480 */
 #define ORDER_LINE_BLOCK_BYTES(k) ((k) / 8 + 3) /* a packed block: 33, 63, 123 or 483 */
+
+#define ORDER_LINE_TINT_BYTES(count) (3 + 3 * (count)) /* a tint order of so many doses: 6 to 39 */
 
 /* A store with room for any order at this k: 32790, 32820, 32880 or 33120. */
 #define ORDER_LINE_STORE_BYTES(k) ((ORDER_LINE_LONGEST_ORDER + (k) - 1) / (k) * ORDER_LINE_PAYLOAD_BYTES(k))
@@ -249,6 +256,45 @@ uint8_t order_line_return_bit(const uint8_t *state, size_t state_bytes);
 #define ORDER_LINE_RETURN_1 97
 
 #define ORDER_LINE_RETURN_BIT(answer) ((answer) & 1) /* 0 or 1; of the refusal SPOILED, which is 7, it is 1 too */
+
+/* ---- tint orders ---- */
+
+/*
+ * What the machine is to pump, as the bytes of an order: a version byte 1; the number of bytes that follow, 16 bits;
+ * then three bytes for each dose, the canister, 1 to 12, and its pump steps, 1 to 4,800, 16 bits. Both 16-bit numbers
+ * begin with their high byte. There is at least one dose, each canister is above the one before it, and all steps
+ * together are 20,000 or fewer. Each of the two calls undoes the other.
+ *
+ * In doses, canister and pump steps stand in turn, two 16-bit numbers for each dose. A canister is judged as it is: 261
+ * is refused ENTRY, not cut to 5.
+ *
+ * The office writes the order, and opens its sender with it and with length 8 * *bytes. The machine reads it once
+ * order_line_receive has returned ORDER_LINE_EVENT_ENDED: it is the first *length / 8 bytes of the store.
+ *   - LEND *length / 8 AS order_bytes, NOT THE STORE'S SIZE: with bytes after the order it is refused FORMAT.
+ *   - TEST THE ANSWER BEFORE YOU PUMP: a refused call leaves doses as it was, perhaps with the doses of an earlier
+ *     order.
+ */
+
+/*
+ * Writes the tint order of the first count doses over the first ORDER_LINE_TINT_BYTES(count) bytes of order, and over
+ * no other byte; *bytes becomes that number. Returns 0. The numbers after the first 2 * count are not looked at.
+ * Refused: FORMAT (count is 0), ENTRY (count is above ORDER_LINE_MOST_DOSES; a dose is out of range or order), STEPS
+ * (more than 20,000 in all), SHORT (doses has fewer than 2 * count numbers; order is too short), in this order. Where
+ * doses is too short, the doses that are there whole are judged before that, and a missing one is not.
+ */
+uint8_t order_line_write_tint(const uint16_t *doses, size_t doses_numbers, size_t count, uint8_t *order,
+                              size_t order_bytes, size_t *bytes);
+
+/*
+ * Reads a tint order: order is the whole of it and nothing else. Writes its doses over the first 2 * (number of doses)
+ * numbers of doses, and over no others; *count becomes the number of doses. Returns 0. 2 * ORDER_LINE_MOST_DOSES
+ * numbers are always enough.
+ * Refused: FORMAT (fewer than 3 bytes; another version; a length that is 0, no multiple of 3, or not the number of
+ * bytes that follow it), ENTRY (a dose is out of range or order), STEPS (more than 20,000 in all), SHORT (doses cannot
+ * hold the doses), in this order.
+ */
+uint8_t order_line_read_tint(const uint8_t *order, size_t order_bytes, uint16_t *doses, size_t doses_numbers,
+                             size_t *count);
 
 #ifdef __cplusplus
 }

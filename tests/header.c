@@ -1,6 +1,7 @@
 /*
- * The sizes and tests of include/order_line.h, judged while this is compiled, as C11 and as C++: the store's room, and
- * ORDER_LINE_IS_REFUSED and ORDER_LINE_IS_EVENT at the ends of each range and for each type that a call returns.
+ * The sizes and tests of include/order_line.h, judged while this is compiled, as C11 and as C++: the store's room, a
+ * tint order's bytes, and ORDER_LINE_IS_REFUSED and ORDER_LINE_IS_EVENT at the ends of each range and for each type
+ * that a call returns.
  */
 #include "../include/order_line.h"
 
@@ -15,6 +16,10 @@ static_assert(ORDER_LINE_STORE_BYTES(240) == ORDER_LINE_MOST_ITEMS * ORDER_LINE_
 static_assert(ORDER_LINE_SENDER_BYTES == 16 + 2, "a head and the marks");
 static_assert(ORDER_LINE_RECEIVER_BYTES == 16 + ORDER_LINE_BLOCK_BYTES(3840) + 2, "a head, a block and the marks");
 
+static_assert(ORDER_LINE_TINT_BYTES(1) == 6, "a head and one dose");
+static_assert(ORDER_LINE_TINT_BYTES(ORDER_LINE_MOST_DOSES) == 39, "a head and twelve doses");
+static_assert(2 * ORDER_LINE_TINT_BYTES(1 + 1) == 18, "brackets around the macro and around what it is given");
+
 #define REFUSED(number)                                                                                                \
     (ORDER_LINE_IS_REFUSED((uint8_t)(number)) && ORDER_LINE_IS_REFUSED((uint16_t)(number)) &&                          \
      ORDER_LINE_IS_REFUSED((uint32_t)(number)) && !ORDER_LINE_IS_EVENT((uint8_t)(number)))
@@ -24,7 +29,7 @@ static_assert(ORDER_LINE_RECEIVER_BYTES == 16 + ORDER_LINE_BLOCK_BYTES(3840) + 2
 #define WORD(number) (!ORDER_LINE_IS_REFUSED((uint16_t)(number)) && !ORDER_LINE_IS_REFUSED((uint32_t)(number)))
 
 static_assert(NEITHER(0) && WORD(0), "done");
-static_assert(REFUSED(ORDER_LINE_REFUSED_BLOCK) && REFUSED(ORDER_LINE_REFUSED_CODE_SIZE) && REFUSED(63), "refusals");
+static_assert(REFUSED(ORDER_LINE_REFUSED_BLOCK) && REFUSED(ORDER_LINE_REFUSED_STEPS) && REFUSED(63), "refusals");
 static_assert(EVENT(ORDER_LINE_EVENT_NONE) && EVENT(ORDER_LINE_EVENT_ENDED) && EVENT(79), "events");
 static_assert(NEITHER(ORDER_LINE_GOING_ON) && NEITHER(ORDER_LINE_FINISHED) && NEITHER(ORDER_LINE_GAVE_UP), "rest");
 static_assert(NEITHER(ORDER_LINE_RETURN_0) && NEITHER(ORDER_LINE_RETURN_1), "return bit");

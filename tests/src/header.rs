@@ -4,6 +4,7 @@
 
 use crate::interface::{RECEIVER_BYTES, SENDER_BYTES};
 use crate::reference::order::{LONGEST, MOST_ITEMS};
+use crate::reference::tint::MOST_DOSES;
 use std::collections::BTreeMap;
 use std::fs;
 
@@ -52,19 +53,28 @@ fn constants(path: &str) -> BTreeMap<String, u32> {
 /// A function's name, its parameters and the type of what it returns, in the words of C.
 type Function = (String, Vec<String>, String);
 
-/// A parameter `name: TYPE` of Rust or Rattle: one in C, or a pointer and its number of bytes.
+/// A parameter `name: TYPE` of Rust or Rattle: one in C, or a pointer and its number of bytes or of
+/// 16-bit numbers.
 fn parameter(text: &str) -> Vec<String> {
     let (name, kind) = text.split_once(':').expect(text);
-    let (name, bytes) = (name.trim(), format!("size_t {}_bytes", name.trim()));
+    let name = name.trim();
+    let (bytes, numbers) = (
+        format!("size_t {name}_bytes"),
+        format!("size_t {name}_numbers"),
+    );
     match kind.trim() {
         "usize" => vec![format!("size_t {name}")],
         "u8" | "u16" | "u32" => vec![format!("uint{}_t {name}", &kind.trim()[1..])],
         "bool" => vec![format!("bool {name}")],
         "*const u8" => vec![format!("const uint8_t *{name}")],
         "*mut u8" => vec![format!("uint8_t *{name}")],
+        "*const u16" => vec![format!("const uint16_t *{name}")],
+        "*mut u16" => vec![format!("uint16_t *{name}")],
         "&mut usize" | "*mut usize" => vec![format!("size_t *{name}")],
         "&[u8]" => vec![format!("const uint8_t *{name}"), bytes],
         "&mut [u8]" => vec![format!("uint8_t *{name}"), bytes],
+        "&[u16]" => vec![format!("const uint16_t *{name}"), numbers],
+        "&mut [u16]" => vec![format!("uint16_t *{name}"), numbers],
         other => panic!("{other}"),
     }
 }
@@ -105,7 +115,7 @@ fn header_functions() -> Vec<Function> {
 #[test]
 fn the_header_and_the_wrapper_have_the_same_numbers() {
     let header = header_numbers();
-    assert_eq!(header.len(), 34);
+    assert_eq!(header.len(), 38);
     assert_eq!(header, constants("examples/rust/src/numbers.rs"));
 }
 
@@ -125,6 +135,7 @@ fn the_header_has_the_numbers_that_are_compared_with_the_library() {
     let sizes = [
         ("LONGEST_ORDER", LONGEST),
         ("MOST_ITEMS", MOST_ITEMS),
+        ("MOST_DOSES", MOST_DOSES),
         ("SENDER_BYTES", SENDER_BYTES),
         ("RECEIVER_BYTES", RECEIVER_BYTES),
     ];
@@ -140,9 +151,15 @@ fn the_header_has_the_numbers_that_are_compared_with_the_library() {
 #[test]
 fn the_header_the_wrapper_and_the_library_have_the_same_functions() {
     let header = header_functions();
-    assert_eq!(header.len(), 12);
+    assert_eq!(header.len(), 14);
     assert_eq!(header, functions("examples/rust/src/c.rs"));
-    let files = ["version", "block_calls", "sender_calls", "receiver_calls"];
+    let files = [
+        "version",
+        "block_calls",
+        "sender_calls",
+        "receiver_calls",
+        "tint_calls",
+    ];
     let paths = files.map(|file| format!("crates/line_c/src/{file}.rt"));
     let library: Vec<Function> = paths.iter().flat_map(|path| functions(path)).collect();
     assert_eq!(header, library);

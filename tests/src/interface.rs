@@ -14,8 +14,8 @@ pub const MARKS_BYTES: usize = 2;
 pub const SENDER_BYTES: usize = HEAD_BYTES + MARKS_BYTES;
 pub const RECEIVER_BYTES: usize = HEAD_BYTES + HELD_BYTES + MARKS_BYTES;
 
-/// 3.0.0.
-pub const VERSION: u32 = 0x03_00_00;
+/// 3.1.0.
+pub const VERSION: u32 = 0x03_01_00;
 
 /// What `sender_rest` answers besides 7.
 pub const GOING_ON: u8 = 80;

@@ -13,6 +13,7 @@ pub mod receiver;
 pub mod refusal;
 pub mod sender;
 pub mod session;
+pub mod tint;
 
 #[cfg(test)]
 mod corner_cases;

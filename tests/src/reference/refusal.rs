@@ -20,3 +20,9 @@ pub const SPOILED: Refusal = 7;
 pub const REST: Refusal = 8;
 /// A code size other than 5 to 8.
 pub const CODE_SIZE: Refusal = 9;
+/// No tint order: too few bytes, its version or its length. Or no doses to write.
+pub const FORMAT: Refusal = 10;
+/// A dose out of range or order.
+pub const ENTRY: Refusal = 11;
+/// More pump steps than a tint order may have.
+pub const STEPS: Refusal = 12;
