@@ -1,7 +1,7 @@
 -- The tint order's calls: what each answers, writes and hands back, and its promise. Assumes nothing.
 use mathlib.Core.Path.{_≡_}
 use mathlib.Core.Bool.{not}
-use mathlib.Core.List.{List, [], _∷_, _++_}
+use mathlib.Core.List.{List, [], _∷_, _++_, map}
 use Prim.Native.Nat.{ℕ, zero, suc, _-_}
 use lib.Dec.{eqb, ltb}
 use lib.ListN.{length, drop, getD, replicate}
@@ -28,12 +28,10 @@ abbrev pub dosesOf : Doses → List Dose
 dosesOf d = dosesAt (d .count) (d .canisters) (d .steps) 0
 
 abbrev pub canistersOf : List Dose → List ℕ
-canistersOf [] = []
-canistersOf (d ∷ ds) = d .canister ∷ canistersOf ds
+canistersOf = map (λ (d : Dose). d .canister)
 
 abbrev pub stepsOf : List Dose → List ℕ
-stepsOf [] = []
-stepsOf (d ∷ ds) = d .steps ∷ stepsOf ds
+stepsOf = map (λ (d : Dose). d .steps)
 
 -- an array of 12 that begins with these numbers, zero after them
 abbrev pub filledUp : List ℕ → List ℕ
@@ -49,12 +47,15 @@ unfoldable pub judgeCounted : {A : Type 0} → ℕ → List Dose → Answer A �
 judgeCounted count ds next =
     refuseIf (eqb count 0) Refusals.format (refuseIf (ltb canisters count) Refusals.entry (judgeDoses ds next))
 
+abbrev pub judge : Doses → Answer (Unit {0})
+judge d = judgeCounted (d .count) (dosesOf d) (done tt)
+
 abbrev pub judgedAnswer : Judged → Answer (Unit {0})
 judgedAnswer J.Good = done tt
 judgedAnswer (J.Refused n) = refused n
 
 pub record Judge (d : Doses) (answer : Judged) : Type 0 where
-  pub answers : judgedAnswer answer ≡ judgeCounted (d .count) (dosesOf d) (done tt)
+  pub answers : judgedAnswer answer ≡ judge d
 
 -- ---- an order written: 10, 11, 12, 6
 

@@ -7,7 +7,10 @@ use Rattle.tint.specs.Format.{Dose, formatVersion, bigEndian}
 abbrev pub headBytes : ℕ → List ℕ
 headBytes n = formatVersion ∷ n / 256 % 256 ∷ n % 256 ∷ []
 
--- the entries, of each canister its low byte
+-- an entry, of the canister its low byte
+abbrev pub lowEntry : ℕ → ℕ → List ℕ
+lowEntry canister steps = canister % 256 ∷ bigEndian steps
+
 abbrev pub lowEntries : List Dose → List ℕ
 lowEntries [] = []
-lowEntries (d ∷ ds) = d .canister % 256 ∷ (bigEndian (d .steps) ++ lowEntries ds)
+lowEntries (d ∷ ds) = lowEntry (d .canister) (d .steps) ++ lowEntries ds

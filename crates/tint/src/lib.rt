@@ -1,13 +1,14 @@
 // The tint order: doses written as bytes, and read back.
 ghost use mathlib.Core.Path.{_≡_};
-ghost use mathlib.Core.Bool.{true};
-ghost use mathlib.Core.List.{[], _∷_, _++_};
-ghost use Prim.Native.Nat.{_*_, _≤_};
-ghost use lib.ListN.{length, drop};
+ghost use mathlib.Core.Bool.{_&&_};
+ghost use mathlib.Core.List.{List, [], _++_};
+ghost use Prim.Native.Nat.{ℕ, _+_, _*_, _≤_, _<_};
+ghost use lib.Dec.{ltb};
+ghost use lib.ListN.{length, take, drop};
 ghost use Rattle.block.specs.Answer.{done};
-ghost use Rattle.tint.specs.Format.{Dose, dosesIn, isFormat, isInRange, isRising, total, judgeDoses};
+ghost use Rattle.tint.specs.Format.{Dose, fromBigEndian, dosesIn, isFormat, isInRange, isRising, total, judgeDoses};
 ghost use Rattle.tint.specs.Calls.{dosesAt, dosesOf, dosesFrom, judgedAnswer, orderReadAnswer, Judge, Write, Read};
-ghost use Rattle.tint.specs.Code.{headBytes, lowEntries};
+ghost use Rattle.tint.specs.Code.{headBytes, lowEntry, lowEntries};
 
 // docs/PROTOCOL.md, "Tint orders"; a slice that is too short is the crate block's refusal.
 pub const FORMAT: u8 = 10;
@@ -57,8 +58,9 @@ pub struct OrderRead {
 
 // ---- judging
 
-fn in_range(canister: u16, steps: u16) -> bool
-    ensures { λ r. ⌜ r ≡ isInRange (record { canister = canister; steps = steps }) ⌝ }
+// Whether a dose is in range, and its canister above the last.
+fn follows(last: u16, canister: u16, steps: u16) -> bool
+    ensures { λ r. ⌜ r ≡ isInRange (record { canister = canister; steps = steps }) && ltb last canister ⌝ }
 {
     if canister < 1 {
         return false;
@@ -69,7 +71,10 @@ fn in_range(canister: u16, steps: u16) -> bool
     if steps < 1 {
         return false;
     }
-    steps <= MOST_STEPS
+    if MOST_STEPS < steps {
+        return false;
+    }
+    last < canister
 }
 
 // Every dose in range, the canisters rising strictly.
@@ -80,10 +85,7 @@ fn rising(count: usize, canisters: [u16; 12], steps: [u16; 12]) -> bool
     let mut last = 0;
     let mut i = 0;
     while i < count {
-        if !in_range(canisters[i], steps[i]) {
-            return false;
-        }
-        if canisters[i] <= last {
+        if !follows(last, canisters[i], steps[i]) {
             return false;
         }
         last = canisters[i];
@@ -92,14 +94,20 @@ fn rising(count: usize, canisters: [u16; 12], steps: [u16; 12]) -> bool
     true
 }
 
-fn total_steps(count: usize, canisters: [u16; 12], steps: [u16; 12]) -> u32
+fn wide(x: u16) -> u32
+    ensures { λ r. ⌜ (r ≡ x) × (r < 65536) ⌝ }
+{
+    x as u32
+}
+
+fn total_steps(count: usize, steps: [u16; 12]) -> u32
     requires { ⌜ count ≤ 12 ⌝ }
-    ensures { λ r. ⌜ r ≡ total (dosesAt count canisters steps 0) ⌝ }
+    ensures { λ r. ⌜ ((canisters : List ℕ) → r ≡ total (dosesAt count canisters steps 0)) ⌝ }
 {
     let mut sum = 0;
     let mut i = 0;
     while i < count {
-        sum += steps[i] as u32;
+        sum += wide(steps[i]);
         i += 1;
     }
     sum
@@ -116,7 +124,7 @@ fn judge_doses(doses: Doses) -> Judged
     if !rising(count, canisters, steps) {
         return Judged::Refused(ENTRY);
     }
-    if MOST_TOTAL < total_steps(count, canisters, steps) {
+    if MOST_TOTAL < total_steps(count, steps) {
         return Judged::Refused(STEPS);
     }
     Judged::Good
@@ -147,18 +155,34 @@ fn write_head(follow: usize, order: &mut [u8])
     order[2] = (follow % 256) as u8;
 }
 
-// Three bytes for each dose, over the first bytes of entries.
+// A dose in three bytes, from place at on.
+fn write_entry(at: usize, canister: u16, steps: u16, entries: &mut [u8])
+    requires { ⌜ at + 3 ≤ length (now entries) ⌝ }
+    ensures { λ _. ⌜ now (entries .exit) ≡ take at (now (entries .entry)) ++ (lowEntry canister steps ++ drop (at + 3) (now (entries .entry))) ⌝ }
+{
+    entries[at] = (canister % 256) as u8;
+    entries[at + 1] = (steps / 256) as u8;
+    entries[at + 2] = (steps % 256) as u8;
+}
+
+// An entry for each dose, over the first bytes of entries.
 fn write_entries(count: usize, canisters: [u16; 12], steps: [u16; 12], entries: &mut [u8])
     requires { ⌜ (count ≤ 12) × (count * 3 ≤ length (now entries)) ⌝ }
     ensures { λ _. ⌜ now (entries .exit) ≡ lowEntries (dosesAt count canisters steps 0) ++ drop (count * 3) (now (entries .entry)) ⌝ }
 {
     let mut i = 0;
     while i < count {
-        entries[i * 3] = (canisters[i] % 256) as u8;
-        entries[i * 3 + 1] = (steps[i] / 256) as u8;
-        entries[i * 3 + 2] = (steps[i] % 256) as u8;
+        write_entry(i * ENTRY_BYTES, canisters[i], steps[i], entries);
         i += 1;
     }
+}
+
+fn write_order(count: usize, canisters: [u16; 12], steps: [u16; 12], order: &mut [u8])
+    requires { ⌜ (count ≤ 12) × (3 + count * 3 ≤ length (now order)) ⌝ }
+    ensures { λ _. ⌜ now (order .exit) ≡ (headBytes (count * 3) ++ lowEntries (dosesAt count canisters steps 0)) ++ drop (3 + count * 3) (now (order .entry)) ⌝ }
+{
+    write_head(count * ENTRY_BYTES, order);
+    write_entries(count, canisters, steps, &mut order[HEAD_BYTES..]);
 }
 
 // The order of these doses written over the first bytes of a slice. Refused in the order 10, 11, 12, 6.
@@ -170,18 +194,23 @@ pub fn write(doses: Doses, order: &mut [u8]) -> Written
         return Written::Refused(number);
     }
     let count = doses.count;
-    let follow = count * ENTRY_BYTES;
-    if order.len() < HEAD_BYTES + follow {
+    let bytes = HEAD_BYTES + count * ENTRY_BYTES;
+    if order.len() < bytes {
         return Written::Refused(block::SHORT);
     }
     let canisters = doses.canisters;
     let steps = doses.steps;
-    write_head(follow, order);
-    write_entries(count, canisters, steps, &mut order[HEAD_BYTES..]);
-    Written::Done(HEAD_BYTES + follow)
+    write_order(count, canisters, steps, order);
+    Written::Done(bytes)
 }
 
 // ---- reading
+
+fn big_endian(high: u8, low: u8) -> u16
+    ensures { λ r. ⌜ (r ≡ fromBigEndian high low) × (r < 65536) ⌝ }
+{
+    high as u16 * 256 + low as u16
+}
 
 // Version and length; the length is that of what follows.
 fn is_format(order: &[u8]) -> bool
@@ -193,7 +222,7 @@ fn is_format(order: &[u8]) -> bool
     if order[0] != FORMAT_VERSION {
         return false;
     }
-    let follow = order[1] as usize * 256 + order[2] as usize;
+    let follow = big_endian(order[1], order[2]) as usize;
     if follow == 0 {
         return false;
     }
@@ -223,7 +252,7 @@ fn load_entries(count: usize, entries: &[u8]) -> Doses
     let mut i = 0;
     while i < count {
         canisters[i] = entries[i * 3] as u16;
-        steps[i] = entries[i * 3 + 1] as u16 * 256 + entries[i * 3 + 2] as u16;
+        steps[i] = big_endian(entries[i * 3 + 1], entries[i * 3 + 2]);
         i += 1;
     }
     Doses {

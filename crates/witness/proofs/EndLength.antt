@@ -19,16 +19,16 @@ use Rattle.line.specs.declared.receiving.Event.the-variants as E
 use Rattle.line.specs.declared.receiving.Phase.the-variants as P
 use Rattle.witness.proofs.Meets.{meets}
 use Rattle.witness.proofs.PeriodRows.{Row, allCalls, trace, sender, receiver, bad, period}
-use Rattle.witness.proofs.TwoItems.{order, content, block, initialStore, one, w₀, synchronised, accepted, asks}
+use Rattle.witness.proofs.TwoItems.{order, content, block, initialStore, one, w₀, sixty, synchronised, accepted, asks}
 
 -- ---- rule 6
 
 -- Item 1 is damaged and its request lost: the end block brings the length alarm.
 abbrev pub alarms : List Row
 alarms =
-    synchronised
-    ∷ accepted
-    ∷ asks
+    synchronised sixty
+    ∷ accepted sixty
+    ∷ asks sixty
     ∷ period order one one false (block 2) (item 2 true true false) true true E.LengthAlarm
     (sender 480 3 0 false Newer false) (receiver 0 true 1 false P.LengthAlarm)
     ∷ []
@@ -50,7 +50,7 @@ anyLengthRule ended payload =
 
 -- the same calls but the last; none of them reads an end block
 abbrev calls : List Call
-calls = allCalls (synchronised ∷ accepted ∷ asks ∷ []) ++ (sending order false (replicate 33 0) (block 2) ∷ [])
+calls = allCalls (synchronised sixty ∷ accepted sixty ∷ asks sixty ∷ []) ++ (sending order false (replicate 33 0) (block 2) ∷ [])
 
 abbrev w : World
 w = final w₀ calls

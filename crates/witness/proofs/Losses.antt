@@ -11,12 +11,12 @@ use Rattle.line.specs.declared.receiving.Event.the-variants as E
 use Rattle.line.specs.declared.receiving.Phase.the-variants as P
 use Rattle.witness.proofs.Meets.{meets}
 use Rattle.witness.proofs.PeriodRows.{Row, allCalls, trace, sender, receiver, good, bad, period, damaged}
-use Rattle.witness.proofs.TwoItems.{order, content, block, initialStore, one, two, w₀, synchronised, accepted, cancels, fails, ends}
+use Rattle.witness.proofs.TwoItems.{order, content, block, initialStore, one, two, w₀, sixty, synchronised, accepted, cancels, fails, ends}
 
 -- Item 0 is damaged and its request lost: item 1 brings the sequence alarm, which stays.
 abbrev pub alarms : List Row
 alarms =
-    synchronised
+    synchronised sixty
     ∷ period order initialStore initialStore false (damaged (block 0)) (item 0 false false false) false false E.Bad
     (sender 480 1 0 true Newer false) (bad 1 0)
     ∷ period order initialStore initialStore false (block 1) (item 1 false true false) true true E.SequenceAlarm
@@ -37,8 +37,8 @@ alarms-meets = meets 240 content (course w₀ (allCalls alarms)) refl
 -- good. The same with item 2.
 abbrev pub two-losses : List Row
 two-losses =
-    synchronised
-    ∷ accepted
+    synchronised sixty
+    ∷ accepted sixty
     ∷ period order one one true (cancelled (block 1)) (item 1 false true true) false true E.Bad
     (sender 480 1 1 true Sync false) (bad 1 1)
     ∷ period order one one true (syncBlock 240) synchronising true true E.Sync
@@ -47,9 +47,9 @@ two-losses =
     (sender 480 1 1 true Newer false) (bad 1 1)
     ∷ period order one two false (block 1) (item 1 false true false) true true E.Accepted
     (sender 480 2 0 false Newer false) (good 2 false)
-    ∷ cancels two false 1 Older (bad 1 2)
+    ∷ cancels sixty two false 1 Older (bad 1 2)
     ∷ fails two 1 (bad 2 2)
-    ∷ ends true
+    ∷ ends sixty true
     ∷ []
 
 pub two-losses-computed : trace w₀ two-losses ≡ two-losses

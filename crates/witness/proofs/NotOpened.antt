@@ -24,11 +24,11 @@ use Rattle.line.specs.declared.receiving.Event.the-variants as E
 use Rattle.witness.proofs.Meets.{meets}
 use Rattle.witness.proofs.PeriodRows.{Row, allCalls, trace, noMarks, sender, good, period}
 use Rattle.witness.proofs.TwoItems as First
-use Rattle.witness.proofs.TwoItems.{one, w₀, synchronised, accepted}
+use Rattle.witness.proofs.TwoItems.{one, w₀, sixty, synchronised, accepted}
 
 -- The first order's session breaks off behind item 0.
 abbrev pub broken-off : List Row
-broken-off = synchronised ∷ accepted ∷ []
+broken-off = synchronised sixty ∷ accepted sixty ∷ []
 
 pub broken-off-computed : trace w₀ broken-off ≡ broken-off
 unfolding trace

@@ -14,48 +14,53 @@ use Rattle.line.specs.declared.receiving.Event.the-variants as E
 use Rattle.line.specs.declared.receiving.Phase.the-variants as P
 use Rattle.witness.proofs.Meets.{meets}
 use Rattle.witness.proofs.PeriodRows.{Row, allCalls, trace, sender, receiver, good, bad, period}
-use Rattle.witness.proofs.TwoItems.{order, content, block, one, two, w₀, synchronised, accepted, asks, cancels, fails, resynchronises, ends}
+use Rattle.witness.proofs.TwoItems.{Items, blockOf, order, content, block, one, two, w₀, sixty, synchronised, accepted, asks, cancels, fails, resynchronises, ends}
 
--- Item 1 is damaged, and the next block is cancelled.
-abbrev asked : List Row
-asked = synchronised ∷ accepted ∷ asks ∷ cancels one true 1 Older (bad 2 1) ∷ []
+-- ---- any order of two data items
 
--- Item 1 is repeated.
-abbrev pub repeats : List Row
-repeats =
-    asked
-    ++ (period order one two true (block 1) (item 1 false false false) true true E.Accepted
-    (sender 480 2 1 false Newer false) (good 2 false)
-    ∷ ends false
-    ∷ period order two two false (block 3) (item 3 true true false) false true E.Previous
-    (sender 480 3 0 false Newer true) (good 2 true)
-    ∷ [])
+module _ (x : Items) where
+  -- Item 1 is damaged, and the next block is cancelled.
+  abbrev asked : List Row
+  asked = synchronised x ∷ accepted x ∷ asks x ∷ cancels x (x .one) true 1 Older (bad 2 1) ∷ []
 
-pub repeats-computed : trace w₀ repeats ≡ repeats
+  -- Item 1 is repeated.
+  abbrev pub repeats : List Row
+  repeats =
+      asked
+      ++ (period (x .order) (x .one) (x .two) true (blockOf x 1) (item 1 false false false) true true E.Accepted
+      (sender (x .L) 2 1 false Newer false) (good 2 false)
+      ∷ ends x false
+      ∷ period (x .order) (x .two) (x .two) false (blockOf x 3) (item 3 true true false) false true E.Previous
+      (sender (x .L) 3 0 false Newer true) (good 2 true)
+      ∷ [])
+
+-- ---- the order of 60 bytes
+
+pub repeats-computed : trace w₀ (repeats sixty) ≡ repeats sixty
 unfolding trace
 repeats-computed = refl
 
-pub repeats-meets : Assumptions 240 content (course w₀ (allCalls repeats))
+pub repeats-meets : Assumptions 240 content (course w₀ (allCalls (repeats sixty)))
 unfolding trace
-repeats-meets = meets 240 content (course w₀ (allCalls repeats)) refl
+repeats-meets = meets 240 content (course w₀ (allCalls (repeats sixty))) refl
 
 -- Eight bad blocks in a row start a search. It passes a damaged synchronising block, item 1 and a cancelled block, and
 -- finds the next synchronising block.
 abbrev pub searches : List Row
 searches =
-    asked
+    asked sixty
     ++ (fails one 1 (bad 3 1)
-    ∷ cancels one true 2 Older (bad 4 1)
+    ∷ cancels sixty one true 2 Older (bad 4 1)
     ∷ fails one 2 (bad 5 1)
-    ∷ cancels one true 3 Older (bad 6 1)
+    ∷ cancels sixty one true 3 Older (bad 6 1)
     ∷ fails one 3 (bad 7 1)
-    ∷ cancels one true 4 Sync (receiver 0 true 1 false P.Search)
+    ∷ cancels sixty one true 4 Sync (receiver 0 true 1 false P.Search)
     ∷ period order one one true (cancelled (syncBlock 240)) synchronising true false E.None
     (sender 480 2 4 false Older false) (searching (receiver 0 true 1 false P.Search) (drop 245 (cancelled (syncBlock 240))))
     ∷ (resynchronises one 1
     ++ (period order one two false (block 1) (item 1 false false false) false true E.Accepted
     (sender 480 2 5 false Newer false) (good 2 false)
-    ∷ ends false
+    ∷ ends sixty false
     ∷ [])))
 
 pub searches-computed : trace w₀ searches ≡ searches

@@ -1,0 +1,180 @@
+-- The loop of `load_entries`: the numbers taken so far, those to come, and zeros behind. Assumes nothing.
+use borrow.Author.Needs.{needs}
+use mathlib.Core.List.{List, [], _∷_, _++_, append-assoc, append-nil, map}
+use mathlib.Core.Path.{_≡_, refl, ap, ap₂, sym, _∙_}
+use native.Mathlib.Numerals.{add-one}
+use native.Mathlib.Omega.{arith}
+use Prim.Native.Nat.{ℕ, suc, _+_, _-_, _*_, _≤_, _<_}
+use lib.ListN.{length, getD, take, drop, set, replicate, length-set, take-append-drop, drop-of-length-le}
+use lib.Seq.{take-suc-set, drop-set-lt, drop-drop, drop-cons}
+use Rattle.tint.specs.Format.{Dose, fromBigEndian, dosesIn}
+use Rattle.tint.specs.Calls.{filledUp, dosesFrom}
+use Rattle.tint.specs.declared.Doses.{Doses}
+use Rattle.tint.proofs.Entries.{length-dosesIn}
+use Rattle.tint.proofs.load_entries.Statement.{statement}
+use Rattle.tint.proofs.load_entries.Tie as tie
+
+length-map : (f : Dose → ℕ) (ds : List Dose) → length (map f ds) ≡ length ds
+length-map f [] = refl
+length-map f (d ∷ ds) = ap suc (length-map f ds)
+
+-- one number of each dose, canister or steps: an array that has the first i of them, and zeros behind
+abbrev HasFirst : (Dose → ℕ) → List ℕ → List ℕ → ℕ → Type 0
+HasFirst f entries array i =
+    (length array ≡ 12) × (take i array ++ map f (dosesIn (drop (i * 3) entries)) ≡ map f (dosesIn entries))
+    × (drop i array ≡ replicate (12 - i) 0)
+
+-- the dose of the entry at place i
+abbrev doseAt : List ℕ → ℕ → Dose
+doseAt entries i =
+    record { canister = getD entries (i * 3) 0; steps = fromBigEndian (getD entries (i * 3 + 1) 0) (getD entries (i * 3 + 2) 0) }
+
+abbrev Inv-loop : tie.InvT-loop
+Inv-loop count entries canisters₀ steps₀ i₀ canisters steps i =
+    (i ≤ count) × (count ≤ 12) × (count * 3 ≡ length entries) × HasFirst (λ d. d .canister) entries canisters i
+    × HasFirst (λ d. d .steps) entries steps i
+
+abbrev μ-loop : tie.MeasureT-loop
+μ-loop count entries canisters₀ steps₀ i₀ canisters steps i = count - i
+
+entry-first : (s : List ℕ) (i : ℕ) → i * 3 + 3 ≤ length s → dosesIn (drop (i * 3) s) ≡ doseAt s i ∷ dosesIn (drop ((i + 1) * 3) s)
+entry-first s i h =
+    let one : suc (i * 3) ≡ i * 3 + 1 = sym (add-one (i * 3)) in
+    let two : suc (i * 3 + 1) ≡ i * 3 + 2 = omega arith in
+    let three : suc (i * 3 + 2) ≡ (i + 1) * 3 = omega arith in
+    ap dosesIn
+    (drop-cons s (i * 3) 0 (omega arith)
+    ∙ ap (λ (l : List ℕ). getD s (i * 3) 0 ∷ l)
+    (ap (λ (n : ℕ). drop n s) one ∙ drop-cons s (i * 3 + 1) 0 (omega arith)
+    ∙ ap (λ (l : List ℕ). getD s (i * 3 + 1) 0 ∷ l)
+    (ap (λ (n : ℕ). drop n s) two ∙ drop-cons s (i * 3 + 2) 0 (omega arith)
+    ∙ ap (λ (n : ℕ). getD s (i * 3 + 2) 0 ∷ drop n s) three)))
+
+module _ (f : Dose → ℕ) (entries array : List ℕ) (i : ℕ) (has : HasFirst f entries array i) where
+  turn : i * 3 + 3 ≤ length entries → i < 12 → (v : ℕ) → v ≡ f (doseAt entries i) → HasFirst f entries (set array i v) (i + 1)
+  turn h m v e =
+      let to-come : List ℕ = map f (dosesIn (drop ((i + 1) * 3) entries)) in (
+        length-set array i v ∙ has .0,
+        ap (λ (l : List ℕ). l ++ to-come) (ap (λ (n : ℕ). take n (set array i v)) (add-one i) ∙ take-suc-set array i v (omega arith))
+            ∙ append-assoc (take i array) (v ∷ []) to-come
+            ∙ ap (λ (l : List ℕ). take i array ++ l) (ap (λ (n : ℕ). n ∷ to-come) e ∙ ap (map f) (sym (entry-first entries i h)))
+            ∙ has .1,
+        drop-set-lt (i + 1) array i v (omega arith) ∙ sym (drop-drop 1 i array) ∙ ap (drop 1) (has .2) ∙ fewer,
+      )
+    where
+      fewer : drop {A = ℕ} 1 (replicate (12 - i) 0) ≡ replicate (12 - (i + 1)) 0
+      fewer =
+          let n : 12 - i ≡ suc (12 - (i + 1)) = omega arith in
+          ap (λ (k : ℕ). drop {A = ℕ} 1 (replicate k 0)) n
+
+  last : (count : ℕ) → i ≡ count → count * 3 ≡ length entries → array ≡ filledUp (map f (dosesIn entries))
+  last count e l =
+      let none : drop (i * 3) entries ≡ [] = drop-of-length-le entries {i = i * 3} (omega arith) in
+      let n : length (map f (dosesIn entries)) ≡ i =
+      length-map f (dosesIn entries) ∙ length-dosesIn entries ∙ omega arith in
+      sym (take-append-drop i array)
+      ∙ ap₂ (λ (p q : List ℕ). p ++ q)
+      (sym (append-nil (take i array)) ∙ ap (λ (s : List ℕ). take i array ++ map f (dosesIn s)) (sym none) ∙ has .1)
+      (has .2 ∙ ap (λ (k : ℕ). replicate (12 - k) 0) (sym n))
+
+loop-holds : tie.Need-loop-holds Inv-loop μ-loop
+loop-holds c = (search needs, search needs, search needs, (refl, refl, refl), (refl, refl, refl))
+
+mul-canisters : tie.Need-mul-canisters Inv-loop μ-loop
+mul-canisters c = omega arith
+
+shared-slice-read-canisters : tie.Need-shared-slice-read-canisters Inv-loop μ-loop
+shared-slice-read-canisters c = omega arith
+
+cast-canisters : tie.Need-cast-canisters Inv-loop μ-loop
+cast-canisters c =
+    let i = c .before .before .loop .i in
+    let h = c .shared-slice-known2 .given (i * 3) .fits in
+    search needs
+
+mul-canisters-2 : tie.Need-mul-canisters-2 Inv-loop μ-loop
+mul-canisters-2 c = omega arith
+
+array-write-canisters : tie.Need-array-write-canisters Inv-loop μ-loop
+array-write-canisters c = omega arith
+
+mul-big-endian : tie.Need-mul-big-endian Inv-loop μ-loop
+mul-big-endian c = omega arith
+
+add-big-endian : tie.Need-add-big-endian Inv-loop μ-loop
+add-big-endian c = omega arith
+
+shared-slice-read-big-endian : tie.Need-shared-slice-read-big-endian Inv-loop μ-loop
+shared-slice-read-big-endian c = omega arith
+
+mul-big-endian-2 : tie.Need-mul-big-endian-2 Inv-loop μ-loop
+mul-big-endian-2 c = omega arith
+
+add-big-endian-2 : tie.Need-add-big-endian-2 Inv-loop μ-loop
+add-big-endian-2 c = omega arith
+
+shared-slice-read-big-endian-2 : tie.Need-shared-slice-read-big-endian-2 Inv-loop μ-loop
+shared-slice-read-big-endian-2 c = omega arith
+
+big-endian-requires : tie.Need-big-endian-requires Inv-loop μ-loop
+big-endian-requires c κs = search needs
+
+mul-steps : tie.Need-mul-steps Inv-loop μ-loop
+mul-steps c = omega arith
+
+array-write-steps : tie.Need-array-write-steps Inv-loop μ-loop
+array-write-steps c = omega arith
+
+add-i : tie.Need-add-i Inv-loop μ-loop
+add-i c = omega arith
+
+loop-less : tie.Need-loop-less Inv-loop μ-loop
+loop-less c = omega arith
+
+loop-again : tie.Need-loop-again Inv-loop μ-loop
+loop-again c =
+    let l = c .before .before .before .before .before .loop in
+    let a = c .before .before .before .before .before .before .before .args in (
+      omega arith,
+      l .inv .1,
+      l .inv .2,
+      turn (λ d. d .canister) (a .entries .now) (l .canisters) (l .i) (l .inv .3) (omega arith) (omega arith) _ refl,
+      turn (λ d. d .steps) (a .entries .now) (l .steps) (l .i) (l .inv .4) (omega arith) (omega arith) _ (c .big-endian .ensures .0),
+    )
+
+returns : tie.Need-returns Inv-loop μ-loop
+returns c =
+    let l = c .before .loop in
+    let a = c .before .before .before .args in
+    let s = a .entries .now in
+    let n : a .count ≡ length (dosesIn s) = let e = length-dosesIn s in omega arith in
+    ap (λ (k : ℕ). record { count = k; canisters = l .canisters; steps = l .steps }) n
+    ∙ ap₂ (λ (p q : List ℕ). record { count = length (dosesIn s); canisters = p; steps = q })
+    (last (λ d. d .canister) s (l .canisters) (l .i) (l .inv .3) (a .count) (omega arith) (l .inv .2))
+    (last (λ d. d .steps) s (l .steps) (l .i) (l .inv .4) (a .count) (omega arith) (l .inv .2))
+
+pub load-entries-spec : {M : Type 1} → statement M
+load-entries-spec =
+    tie.close
+    (tie.spec
+    Inv-loop
+    μ-loop
+    loop-holds
+    mul-canisters
+    shared-slice-read-canisters
+    cast-canisters
+    mul-canisters-2
+    array-write-canisters
+    mul-big-endian
+    add-big-endian
+    shared-slice-read-big-endian
+    mul-big-endian-2
+    add-big-endian-2
+    shared-slice-read-big-endian-2
+    big-endian-requires
+    mul-steps
+    array-write-steps
+    add-i
+    loop-less
+    loop-again
+    returns)
