@@ -251,8 +251,9 @@ fn load_entries(count: usize, entries: &[u8]) -> Doses
     let mut steps = [0u16; 12];
     let mut i = 0;
     while i < count {
-        canisters[i] = entries[i * 3] as u16;
-        steps[i] = big_endian(entries[i * 3 + 1], entries[i * 3 + 2]);
+        let at = i * ENTRY_BYTES;
+        canisters[i] = entries[at] as u16;
+        steps[i] = big_endian(entries[at + 1], entries[at + 2]);
         i += 1;
     }
     Doses {

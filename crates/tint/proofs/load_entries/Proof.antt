@@ -80,8 +80,8 @@ module _ (f : Dose → ℕ) (entries array : List ℕ) (i : ℕ) (has : HasFirst
 loop-holds : tie.Need-loop-holds Inv-loop μ-loop
 loop-holds c = (search needs, search needs, search needs, (refl, refl, refl), (refl, refl, refl))
 
-mul-canisters : tie.Need-mul-canisters Inv-loop μ-loop
-mul-canisters c = omega arith
+mul-at : tie.Need-mul-at Inv-loop μ-loop
+mul-at c = omega arith
 
 shared-slice-read-canisters : tie.Need-shared-slice-read-canisters Inv-loop μ-loop
 shared-slice-read-canisters c = omega arith
@@ -92,23 +92,17 @@ cast-canisters c =
     let h = c .shared-slice-known2 .given (i * 3) .fits in
     search needs
 
-mul-canisters-2 : tie.Need-mul-canisters-2 Inv-loop μ-loop
-mul-canisters-2 c = omega arith
+mul-canisters : tie.Need-mul-canisters Inv-loop μ-loop
+mul-canisters c = omega arith
 
 array-write-canisters : tie.Need-array-write-canisters Inv-loop μ-loop
 array-write-canisters c = omega arith
-
-mul-big-endian : tie.Need-mul-big-endian Inv-loop μ-loop
-mul-big-endian c = omega arith
 
 add-big-endian : tie.Need-add-big-endian Inv-loop μ-loop
 add-big-endian c = omega arith
 
 shared-slice-read-big-endian : tie.Need-shared-slice-read-big-endian Inv-loop μ-loop
 shared-slice-read-big-endian c = omega arith
-
-mul-big-endian-2 : tie.Need-mul-big-endian-2 Inv-loop μ-loop
-mul-big-endian-2 c = omega arith
 
 add-big-endian-2 : tie.Need-add-big-endian-2 Inv-loop μ-loop
 add-big-endian-2 c = omega arith
@@ -160,15 +154,13 @@ load-entries-spec =
     Inv-loop
     μ-loop
     loop-holds
-    mul-canisters
+    mul-at
     shared-slice-read-canisters
     cast-canisters
-    mul-canisters-2
+    mul-canisters
     array-write-canisters
-    mul-big-endian
     add-big-endian
     shared-slice-read-big-endian
-    mul-big-endian-2
     add-big-endian-2
     shared-slice-read-big-endian-2
     big-endian-requires
