@@ -2,5 +2,6 @@ pub mod State
 pub mod BlockCalls
 pub mod SenderCalls
 pub mod ReceiverCalls
+pub mod TintCalls
 pub mod Version
 pub mod Refused

@@ -5,4 +5,5 @@ mod receiver_bytes;
 pub mod receiver_calls;
 mod sender_bytes;
 pub mod sender_calls;
+pub mod tint_calls;
 pub mod version;

@@ -1,16 +1,17 @@
 -- The loop of `load_entries`: the numbers taken so far, those to come, and zeros behind. Assumes nothing.
 use borrow.Author.Needs.{needs}
-use mathlib.Core.List.{List, [], _∷_, _++_, append-assoc, append-nil, map}
+use mathlib.Core.List.{List, [], _∷_, map}
 use mathlib.Core.Path.{_≡_, refl, ap, ap₂, sym, _∙_}
 use native.Mathlib.Numerals.{add-one}
 use native.Mathlib.Omega.{arith}
 use Prim.Native.Nat.{ℕ, suc, _+_, _-_, _*_, _≤_, _<_}
-use lib.ListN.{length, getD, take, drop, set, replicate, length-set, take-append-drop, drop-of-length-le}
-use lib.Seq.{take-suc-set, drop-set-lt, drop-drop, drop-cons}
+use lib.ListN.{length, getD, drop, drop-of-length-le}
+use lib.Seq.{drop-cons}
 use Rattle.tint.specs.Format.{Dose, fromBigEndian, dosesIn}
-use Rattle.tint.specs.Calls.{filledUp, dosesFrom}
+use Rattle.tint.specs.Calls.{canistersOf, stepsOf, filledUp}
 use Rattle.tint.specs.declared.Doses.{Doses}
 use Rattle.tint.proofs.Entries.{length-dosesIn}
+use Rattle.tint.proofs.Arrays.{Filled, filled-none, filled-more, filled-all}
 use Rattle.tint.proofs.load_entries.Statement.{statement}
 use Rattle.tint.proofs.load_entries.Tie as tie
 
@@ -18,24 +19,10 @@ length-map : (f : Dose → ℕ) (ds : List Dose) → length (map f ds) ≡ lengt
 length-map f [] = refl
 length-map f (d ∷ ds) = ap suc (length-map f ds)
 
--- one number of each dose, canister or steps: an array that has the first i of them, and zeros behind
-abbrev HasFirst : (Dose → ℕ) → List ℕ → List ℕ → ℕ → Type 0
-HasFirst f entries array i =
-    (length array ≡ 12) × (take i array ++ map f (dosesIn (drop (i * 3) entries)) ≡ map f (dosesIn entries))
-    × (drop i array ≡ replicate (12 - i) 0)
-
 -- the dose of the entry at place i
 abbrev doseAt : List ℕ → ℕ → Dose
 doseAt entries i =
     record { canister = getD entries (i * 3) 0; steps = fromBigEndian (getD entries (i * 3 + 1) 0) (getD entries (i * 3 + 2) 0) }
-
-abbrev Inv-loop : tie.InvT-loop
-Inv-loop count entries canisters₀ steps₀ i₀ canisters steps i =
-    (i ≤ count) × (count ≤ 12) × (count * 3 ≡ length entries) × HasFirst (λ d. d .canister) entries canisters i
-    × HasFirst (λ d. d .steps) entries steps i
-
-abbrev μ-loop : tie.MeasureT-loop
-μ-loop count entries canisters₀ steps₀ i₀ canisters steps i = count - i
 
 entry-first : (s : List ℕ) (i : ℕ) → i * 3 + 3 ≤ length s → dosesIn (drop (i * 3) s) ≡ doseAt s i ∷ dosesIn (drop ((i + 1) * 3) s)
 entry-first s i h =
@@ -50,35 +37,28 @@ entry-first s i h =
     (ap (λ (n : ℕ). drop n s) two ∙ drop-cons s (i * 3 + 2) 0 (omega arith)
     ∙ ap (λ (n : ℕ). getD s (i * 3 + 2) 0 ∷ drop n s) three)))
 
-module _ (f : Dose → ℕ) (entries array : List ℕ) (i : ℕ) (has : HasFirst f entries array i) where
-  turn : i * 3 + 3 ≤ length entries → i < 12 → (v : ℕ) → v ≡ f (doseAt entries i) → HasFirst f entries (set array i v) (i + 1)
-  turn h m v e =
-      let to-come : List ℕ = map f (dosesIn (drop ((i + 1) * 3) entries)) in (
-        length-set array i v ∙ has .0,
-        ap (λ (l : List ℕ). l ++ to-come) (ap (λ (n : ℕ). take n (set array i v)) (add-one i) ∙ take-suc-set array i v (omega arith))
-            ∙ append-assoc (take i array) (v ∷ []) to-come
-            ∙ ap (λ (l : List ℕ). take i array ++ l) (ap (λ (n : ℕ). n ∷ to-come) e ∙ ap (map f) (sym (entry-first entries i h)))
-            ∙ has .1,
-        drop-set-lt (i + 1) array i v (omega arith) ∙ sym (drop-drop 1 i array) ∙ ap (drop 1) (has .2) ∙ fewer,
-      )
-    where
-      fewer : drop {A = ℕ} 1 (replicate (12 - i) 0) ≡ replicate (12 - (i + 1)) 0
-      fewer =
-          let n : 12 - i ≡ suc (12 - (i + 1)) = omega arith in
-          ap (λ (k : ℕ). drop {A = ℕ} 1 (replicate k 0)) n
+-- a number of each dose, canister or steps: those to come from place i on
+abbrev toCome : (Dose → ℕ) → List ℕ → ℕ → List ℕ
+toCome f entries i = map f (dosesIn (drop (i * 3) entries))
 
-  last : (count : ℕ) → i ≡ count → count * 3 ≡ length entries → array ≡ filledUp (map f (dosesIn entries))
-  last count e l =
-      let none : drop (i * 3) entries ≡ [] = drop-of-length-le entries {i = i * 3} (omega arith) in
-      let n : length (map f (dosesIn entries)) ≡ i =
-      length-map f (dosesIn entries) ∙ length-dosesIn entries ∙ omega arith in
-      sym (take-append-drop i array)
-      ∙ ap₂ (λ (p q : List ℕ). p ++ q)
-      (sym (append-nil (take i array)) ∙ ap (λ (s : List ℕ). take i array ++ map f (dosesIn s)) (sym none) ∙ has .1)
-      (has .2 ∙ ap (λ (k : ℕ). replicate (12 - k) 0) (sym n))
+all-loaded : (f : Dose → ℕ) (entries array : List ℕ) (i : ℕ) → i * 3 ≡ length entries
+    → Filled (map f (dosesIn entries)) (toCome f entries i) array i → array ≡ filledUp (map f (dosesIn entries))
+all-loaded f entries array i e =
+    let none : drop (i * 3) entries ≡ [] = drop-of-length-le entries {i = i * 3} (omega arith) in
+    filled-all (map f (dosesIn entries)) (toCome f entries i) array i (ap (λ (s : List ℕ). map f (dosesIn s)) none)
+    (length-map f (dosesIn entries) ∙ length-dosesIn entries ∙ omega arith)
+
+abbrev Inv-loop : tie.InvT-loop
+Inv-loop count entries canisters₀ steps₀ i₀ canisters steps i =
+    (i ≤ count) × (count ≤ 12) × (count * 3 ≡ length entries)
+    × Filled (canistersOf (dosesIn entries)) (toCome (λ d. d .canister) entries i) canisters i
+    × Filled (stepsOf (dosesIn entries)) (toCome (λ d. d .steps) entries i) steps i
+
+abbrev μ-loop : tie.MeasureT-loop
+μ-loop count entries canisters₀ steps₀ i₀ canisters steps i = count - i
 
 loop-holds : tie.Need-loop-holds Inv-loop μ-loop
-loop-holds c = (search needs, search needs, search needs, (refl, refl, refl), (refl, refl, refl))
+loop-holds c = (search needs, search needs, search needs, filled-none _, filled-none _)
 
 mul-at : tie.Need-mul-at Inv-loop μ-loop
 mul-at c = omega arith
@@ -128,12 +108,14 @@ loop-less c = omega arith
 loop-again : tie.Need-loop-again Inv-loop μ-loop
 loop-again c =
     let l = c .before .before .before .before .before .loop in
-    let a = c .before .before .before .before .before .before .before .args in (
+    let s = c .before .before .before .before .before .before .before .args .entries .now in
+    let first = entry-first s (l .i) (omega arith) in (
       omega arith,
       l .inv .1,
       l .inv .2,
-      turn (λ d. d .canister) (a .entries .now) (l .canisters) (l .i) (l .inv .3) (omega arith) (omega arith) _ refl,
-      turn (λ d. d .steps) (a .entries .now) (l .steps) (l .i) (l .inv .4) (omega arith) (omega arith) _ (c .big-endian .ensures .0),
+      filled-more _ _ _ (l .canisters) (l .i) _ (omega arith) (ap canistersOf first) (l .inv .3),
+      filled-more _ _ _ (l .steps) (l .i) _ (omega arith)
+          (ap stepsOf first ∙ ap (λ (n : ℕ). n ∷ toCome (λ d. d .steps) s (l .i + 1)) (sym (c .big-endian .ensures .0))) (l .inv .4),
     )
 
 returns : tie.Need-returns Inv-loop μ-loop
@@ -144,8 +126,8 @@ returns c =
     let n : a .count ≡ length (dosesIn s) = let e = length-dosesIn s in omega arith in
     ap (λ (k : ℕ). record { count = k; canisters = l .canisters; steps = l .steps }) n
     ∙ ap₂ (λ (p q : List ℕ). record { count = length (dosesIn s); canisters = p; steps = q })
-    (last (λ d. d .canister) s (l .canisters) (l .i) (l .inv .3) (a .count) (omega arith) (l .inv .2))
-    (last (λ d. d .steps) s (l .steps) (l .i) (l .inv .4) (a .count) (omega arith) (l .inv .2))
+    (all-loaded (λ d. d .canister) s (l .canisters) (l .i) (omega arith) (l .inv .3))
+    (all-loaded (λ d. d .steps) s (l .steps) (l .i) (omega arith) (l .inv .4))
 
 pub load-entries-spec : {M : Type 1} → statement M
 load-entries-spec =
