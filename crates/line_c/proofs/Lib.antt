@@ -1,9 +1,11 @@
 -- Lemmas of the calls for C and Rust; those of one function of the code stand in the folder of its file.
 -- A state's bytes: Flags, Places. What a state's fields may be: Ranges (sender), ReceiverRange. Written and read back: RoundTrip.
--- What a call returns tells whether it was refused: Refused.
+-- Doses as numbers: DoseNumbers, and what the tint calls answer: HeldDoses. What a call returns tells whether it was refused: Refused.
 pub mod Flags
 pub mod Places
 pub mod Ranges
 pub mod ReceiverRange
 pub mod RoundTrip
+pub mod DoseNumbers
+pub mod HeldDoses
 pub mod Refused

@@ -6,7 +6,7 @@ use Prim.Native.Nat.{ℕ, _+_, _*_, _≤_}
 use native.Mathlib.Omega.{arith}
 use borrow.Author.Tests.{le-ltb}
 use lib.Dec.{eqb, ltb}
-use lib.ListN.{length, take}
+use lib.ListN.{length, take, drop}
 use Rattle.crc.specs.Bits.{bitsOf}
 use Rattle.block.specs.Answer as A
 use Rattle.block.specs.Answer.{Answer, refused, done, refuseIf}
@@ -24,10 +24,14 @@ use Rattle.line.specs.declared.sender.Sender.{Sender}
 use Rattle.line.specs.declared.receiver.Receiver.{Receiver}
 use Rattle.line.specs.declared.receiving.Event.{Event}
 use Rattle.line.specs.declared.receiving.Event.the-variants as E
+use Rattle.tint.specs.Refusals as Tint
+use Rattle.tint.specs.Format.{Dose, orderBytes, dosesIn, isFormat, canisters, mostTotal, isRising, total, judgeDoses}
+use Rattle.tint.specs.Calls.{judgeCounted, read}
 use Rattle.line_c.specs.State.{senderSize, holdsSender, senderIn, senderOf, receiverSize, holdsReceiver, receiverIn, receiverOf}
 use Rattle.line_c.specs.BlockCalls.{refusal, readNumber}
 use Rattle.line_c.specs.SenderCalls.{judgeState, openSenderIn, flagWord, itemWord, sendIn, sentWord, goingOnNumber, finishedNumber, gaveUpNumber, restIn}
 use Rattle.line_c.specs.ReceiverCalls.{openReceiverIn, eventNumber, receiveIn, reportNumber, returnNumber, backIn}
+use Rattle.line_c.specs.TintCalls.{numbersOf, dosesHeld, writeTint, judgeRoom, readTint}
 use Rattle.line_c.specs.Refused.{isRefusal, isRefused, RefusalsTold}
 
 -- ---- answers that are no refusal
@@ -170,6 +174,37 @@ receive-told line count store (done s) h =
     (tooShort line count) (meaning (x .rule) .stores && tooShort store (s .taken * s .setup .k + s .setup .k)) A.spoiled A.short
     A.short refl refl refl
 
+-- ---- the tint order's
+
+doses-told : {A : Type 0} (ds : List Dose) (next : Answer A) → Plain next → Plain (judgeDoses ds next)
+unfolding judgeDoses
+doses-told ds next h =
+    two refusal (λ n. refl) next h (not (isRising 0 ds)) (ltb mostTotal (total ds)) Tint.entry Tint.steps refl refl
+
+write-tint-told : (numbers : List ℕ) (count : ℕ) (slice : List ℕ) → Plain (writeTint numbers count slice)
+unfolding writeTint judgeCounted
+write-tint-told numbers count slice =
+    let ds = dosesHeld numbers count in
+    two refusal (λ n. refl) _
+    (doses-told ds _
+    (one refusal (λ n. refl) (done (orderBytes ds)) refl (ltb (length numbers) (count * 2) || ltb (length slice) (length (orderBytes ds)))
+    A.short refl))
+    (eqb count 0) (ltb canisters count) Tint.format Tint.entry refl refl
+
+order-told : (order : List ℕ) → Plain (read order)
+unfolding read
+order-told order =
+    let ds = dosesIn (drop 3 order) in
+    one refusal (λ n. refl) _ (doses-told ds (done ds) refl) (not (isFormat order)) Tint.format refl
+
+room-told : (numbers : List ℕ) (a : Answer (List Dose)) → Plain a → Plain (judgeRoom numbers a)
+room-told numbers (refused n) h = h
+room-told numbers (done ds) h = one refusal (λ n. refl) (done ds) refl (ltb (length numbers) (length (numbersOf ds))) A.short refl
+
+read-tint-told : (order numbers : List ℕ) → Plain (readTint order numbers)
+unfolding readTint
+read-tint-told order numbers = room-told numbers (read order) (order-told order)
+
 -- ---- the two queries: refused by 7 alone
 
 abbrev OnlySpoiled : ℕ → Type 0
@@ -208,4 +243,6 @@ refusals-told =
       open-receiver = open-receiver-told;
       receive = λ state line count store. receive-told line count store (receiverOf state) (receiver-told state);
       return-bit = λ state. back-told (not (holdsReceiver state)) (receiverIn state);
+      write-tint = write-tint-told;
+      read-tint = read-tint-told;
     }

@@ -15,6 +15,7 @@ use Rattle.line_c.specs.State.{senderOf, receiverOf}
 use Rattle.line_c.specs.BlockCalls.{refusal, readNumber}
 use Rattle.line_c.specs.SenderCalls.{openSenderIn, sendIn, sentWord, restIn}
 use Rattle.line_c.specs.ReceiverCalls.{openReceiverIn, receiveIn, reportNumber, backIn}
+use Rattle.line_c.specs.TintCalls.{writeTint, readTint}
 
 -- 1 to 63
 abbrev pub isRefusal : ℕ → Bool
@@ -43,3 +44,6 @@ pub record RefusalsTold : Type 0 where
       → isRefusal (reportNumber (reported (receiveIn line count store (receiverOf state))))
       ≡ isRefused (receiveIn line count store (receiverOf state))
   pub return-bit : (state : List ℕ) → isRefusal (backIn (receiverOf state)) ≡ eqb (backIn (receiverOf state)) A.spoiled
+  pub write-tint : (numbers : List ℕ) (count : ℕ) (slice : List ℕ)
+      → isRefusal (refusal (writeTint numbers count slice)) ≡ isRefused (writeTint numbers count slice)
+  pub read-tint : (order numbers : List ℕ) → isRefusal (refusal (readTint order numbers)) ≡ isRefused (readTint order numbers)

@@ -35,7 +35,7 @@ writeTint numbers count slice =
     (done (orderBytes (dosesHeld numbers count))))
 
 -- what a slice too short for its count is refused by: what the doses are that it holds, and else by 6
-abbrev pub judgeHeld : List ℕ → Answer (Unit {0})
+abbrev pub judgeHeld : List ℕ → Answer (List ℕ)
 judgeHeld numbers = judgeDoses (dosesOfNumbers numbers) (refused A.short)
 
 -- the number of bytes written; refused, the number stays

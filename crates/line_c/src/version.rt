@@ -3,7 +3,7 @@ ghost use Rattle.line_c.specs.Version.{VersionCall};
 
 pub const MAJOR: u32 = 3;
 
-pub const MINOR: u32 = 0;
+pub const MINOR: u32 = 1;
 
 pub const PATCH: u32 = 0;
 

@@ -1,7 +1,7 @@
 -- Laws of the tint order's bytes, of the doses in arrays, and of what judging them answers. Assumes nothing.
 use mathlib.Core.Path.{_≡_, refl, sym, ap, ap₂, _∙_}
 use mathlib.Core.Bool.{Bool, true, false, not, _&&_, false≢true}
-use mathlib.Core.List.{List, [], _∷_, _++_}
+use mathlib.Core.List.{List, [], _∷_, _++_, map}
 use mathlib.Core.Logic.{⊎-elim}
 use Prim.Native.Nat.{ℕ, zero, suc, _+_, _-_, _*_, _/_, _%_, _≤_, _<_}
 use native.Mathlib.Omega.{arith}
@@ -156,6 +156,11 @@ rising-orderBytes ds h =
     ∙ ap (λ (s : List ℕ). formatVersion ∷ (bigEndian (length (entries ds)) ++ s)) (rising-entries 0 ds h)
 
 -- ---- doses in arrays
+
+-- a number of each dose, canister or steps
+pub length-map : (f : Dose → ℕ) (ds : List Dose) → length (map f ds) ≡ length ds
+length-map f [] = refl
+length-map f (d ∷ ds) = ap suc (length-map f ds)
 
 -- behind the first place
 pub dosesAt-suc : (n x y : ℕ) (cs ss : List ℕ) (i : ℕ) → dosesAt n (x ∷ cs) (y ∷ ss) (suc i) ≡ dosesAt n cs ss i

@@ -13,7 +13,7 @@ use Rattle.block.specs.Answer.{Answer, refused, done}
 use Rattle.block.proofs.Refusals.{passed-test}
 use Rattle.line.specs.WholeOrder.{Bytes}
 use Rattle.tint.specs.Refusals as Refusals
-use Rattle.tint.specs.Format.{Dose, orderBytes, dosesIn, isFormat, mostTotal, isRising, total, judgeDoses}
+use Rattle.tint.specs.Format.{Dose, orderBytes, dosesIn, isFormat, canisters, mostTotal, isRising, total, judgeDoses}
 use Rattle.tint.specs.Calls.{dosesOf, write, writtenCount, writtenAnswer, writtenSlice, Write, read, orderReadAnswer, Read}
 use Rattle.tint.specs.RoundTrip.{ReadAs, RoundTrip}
 use Rattle.tint.specs.declared.Doses.{Doses}
@@ -91,6 +91,13 @@ order-read order ds h =
     let p : 1 ≤ length in-order = omega (arith, l .1, l .2, length-dosesIn (drop 3 order)) in
     let e : in-order ≡ ds = same-done (j .2) in
     (subst Writable e (record { some = p; rising = j .0; small = j .1 }), g, e)
+
+-- no more than an array holds
+pub read-few : (order : List ℕ) (ds : List Dose) → read order ≡ done ds → length ds ≤ canisters
+read-few order ds h =
+    let w = order-read order ds h .0 in
+    let m = at-most-twelve 0 ds (omega arith) (w .rising) in
+    omega arith
 
 -- the order is the one encoding of the doses read from it
 encoded : (order : List ℕ) (ds : List Dose) → Bytes order → read order ≡ done ds → orderBytes ds ≡ order

@@ -10,14 +10,10 @@ use lib.Seq.{drop-cons}
 use Rattle.tint.specs.Format.{Dose, fromBigEndian, dosesIn}
 use Rattle.tint.specs.Calls.{canistersOf, stepsOf, filledUp}
 use Rattle.tint.specs.declared.Doses.{Doses}
-use Rattle.tint.proofs.Entries.{length-dosesIn}
+use Rattle.tint.proofs.Entries.{length-dosesIn, length-map}
 use Rattle.tint.proofs.Arrays.{Filled, filled-none, filled-more, filled-all}
 use Rattle.tint.proofs.load_entries.Statement.{statement}
 use Rattle.tint.proofs.load_entries.Tie as tie
-
-length-map : (f : Dose → ℕ) (ds : List Dose) → length (map f ds) ≡ length ds
-length-map f [] = refl
-length-map f (d ∷ ds) = ap suc (length-map f ds)
 
 -- the dose of the entry at place i
 abbrev doseAt : List ℕ → ℕ → Dose
