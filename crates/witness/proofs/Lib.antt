@@ -1,6 +1,7 @@
 -- Computed witnesses. The receiving end's corner cases: Corners; all values of the service bits: ServiceValues; a call in
 -- pieces: Pieces; the sending end: Sends. How a list of calls is written and judged: Meets, PeriodRows, TwoItems. Lists that
 -- meet all that demand 3 supposes: Example, Repeats, Losses; with marks: Marked; of a tint order, which is then read: Tinted.
+-- Tint orders and their refusals by example: TintCases.
 -- Why a good block between two losses is needed: Moved; why the machine is opened anew: NotOpened; why both ends use marks or
 -- neither: NotAlike; why an end block is not taken without its length: EndLength; why four undisturbed periods do not suffice:
 -- FourPeriods.
@@ -15,6 +16,7 @@ pub mod Example
 pub mod Repeats
 pub mod Losses
 pub mod Marked
+pub mod TintCases
 pub mod Tinted
 pub mod Moved
 pub mod NotOpened

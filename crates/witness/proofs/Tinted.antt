@@ -5,8 +5,8 @@ use mathlib.Core.Bool.{Bool, true, _&&_}
 use mathlib.Core.List.{List, [], _∷_, _++_}
 use native.Mathlib.Omega.{arith}
 use Prim.Native.Nat.{ℕ, zero, suc, _/_}
-use lib.Dec.{ltb, lit<}
-use lib.ListN.{take, replicate}
+use lib.Dec.{ltb, lit<, lit≤}
+use lib.ListN.{length, take, drop, replicate}
 use borrow.Author.Tests.{ltb-true}
 use Rattle.block.specs.Lengths.{isLength}
 use Rattle.block.proofs.Truth.{and-true}
@@ -29,6 +29,7 @@ use Rattle.tint.specs.declared.Doses.{Doses}
 use Rattle.tint.specs.declared.Judged.the-variants as J
 use Rattle.tint.specs.declared.Written.the-variants as W
 use Rattle.tint.specs.declared.OrderRead.{OrderRead}
+use Rattle.tint.proofs.RoundTrip.{round-trip}
 use Rattle.tint.proofs.Delivered.{tint-delivery}
 use Rattle.witness.proofs.Meets.{meets}
 use Rattle.witness.proofs.PeriodRows.{Row, allCalls, trace, noMarks}
@@ -142,6 +143,15 @@ bytes : (s : List ℕ) → areBytes s ≡ true → Bytes s
 bytes [] h i = lit< tt
 bytes (x ∷ s) h zero = ltb-true x 256 (and-true (ltb x 256) (areBytes s) h .0)
 bytes (x ∷ s) h (suc i) = bytes s (and-true (ltb x 256) (areBytes s) h .1) i
+
+-- and written again it is the same bytes
+pub read-back : Read (front ++ back) result
+unfolding read judgeDoses
+read-back = record { answers = refl; doses = refl }
+
+pub written-again : (W.Done 39 ≡ W.Done (length (front ++ back))) × (order ≡ (front ++ back) ++ drop (length (front ++ back)) slice)
+written-again =
+    round-trip .writes-read (front ++ back) slice order result (W.Done 39) (bytes (front ++ back) refl) read-back refl (lit≤ tt) written
 
 pub tinted : ReadAs doses result
 unfolding TintDelivery
