@@ -269,7 +269,8 @@ uint8_t order_line_return_bit(const uint8_t *state, size_t state_bytes);
  * is refused ENTRY, not cut to 5.
  *
  * The office writes the order, and opens its sender with it and with length 8 * *bytes. The machine reads it once
- * order_line_receive has returned ORDER_LINE_EVENT_ENDED: it is the first *length / 8 bytes of the store.
+ * order_line_receive has returned ORDER_LINE_EVENT_ENDED: it is the first *length / 8 bytes of the store. A *length that
+ * is no multiple of 8 is no tint order's.
  *   - LEND *length / 8 AS order_bytes, NOT THE STORE'S SIZE: with bytes after the order it is refused FORMAT.
  *   - TEST THE ANSWER BEFORE YOU PUMP: a refused call leaves doses as it was, perhaps with the doses of an earlier
  *     order.

@@ -13,7 +13,9 @@
 static size_t k;
 static uint8_t order[ITEMS * 480], store[ITEMS * 480], block[483], payload[480], line[483];
 static uint8_t sender[ORDER_LINE_SENDER_BYTES], receiver[ORDER_LINE_RECEIVER_BYTES];
-static size_t bits, used, length;
+static uint16_t doses[2 * ORDER_LINE_MOST_DOSES];
+static uint8_t tint[ORDER_LINE_TINT_BYTES(ORDER_LINE_MOST_DOSES)];
+static size_t bits, used, length, tint_bytes, count;
 static uint32_t answer;
 
 static void nothing(void) {}
@@ -43,6 +45,15 @@ static void receive(void)
     answer = order_line_receive(receiver, sizeof receiver, line, sizeof line, bits, store, sizeof store, &used, &length);
 }
 static void return_bit(void) { answer = order_line_return_bit(receiver, sizeof receiver); }
+static void write_tint(void)
+{
+    answer = order_line_write_tint(doses, 2 * ORDER_LINE_MOST_DOSES, ORDER_LINE_MOST_DOSES, tint, sizeof tint,
+                                   &tint_bytes);
+}
+static void read_tint(void)
+{
+    answer = order_line_read_tint(tint, sizeof tint, doses, 2 * ORDER_LINE_MOST_DOSES, &count);
+}
 static void version(void) { answer = order_line_version(); }
 
 static uint8_t stack[1 << 16];
@@ -108,7 +119,22 @@ static bool session(bool marks, size_t most, size_t *sending, size_t *receiving)
     return length == ITEMS * k && memcmp(store, order, ITEMS * k / 8) == 0;
 }
 
-/* The calls that a session does not measure. */
+/* The longest tint order there and back; the deepest of writing and reading. */
+static bool tint_order(size_t *writing, size_t *reading)
+{
+    for (size_t i = 0; i < ORDER_LINE_MOST_DOSES; i++) {
+        doses[2 * i] = (uint16_t)(i + 1);
+        doses[2 * i + 1] = 1666;
+    }
+    deepen(writing, write_tint);
+    if (answer != 0 || tint_bytes != sizeof tint)
+        return false;
+    memset(doses, 0, sizeof doses);
+    deepen(reading, read_tint);
+    return answer == 0 && count == ORDER_LINE_MOST_DOSES && doses[22] == 12 && doses[23] == 1666;
+}
+
+/* The calls that a session or a tint order does not measure. */
 static struct {
     const char *name;
     void (*call)(void);
@@ -131,7 +157,7 @@ static struct {
 int main(void)
 {
     static const size_t lengths[] = {240, 480, 960, 3840}, pieces[] = {3860, 64, 1};
-    size_t sending = 0, receiving = 0;
+    size_t sending = 0, receiving = 0, writing = 0, reading = 0;
     for (size_t i = 0; i < sizeof order; i++)
         order[i] = (uint8_t)(i * 89 + 7);
     for (size_t i = 0; i < 4; i++) {
@@ -144,8 +170,13 @@ int main(void)
         for (size_t j = 0; j < OTHERS; j++)
             deepen(&others[j].deepest, others[j].call);
     }
+    if (!tint_order(&writing, &reading)) {
+        puts("the tint order was not read as it was written");
+        return 1;
+    }
     for (size_t j = 0; j < OTHERS; j++)
         printf("%-24s %5zu\n", others[j].name, others[j].deepest);
     printf("%-24s %5zu\n%-24s %5zu\n", "send", sending, "receive", receiving);
+    printf("%-24s %5zu\n%-24s %5zu\n", "write_tint", writing, "read_tint", reading);
     return 0;
 }

@@ -9,9 +9,10 @@ use crate::interface::{RETURN_0, RETURN_1};
 use crate::reference::block::{self, Read};
 use crate::reference::loop_time;
 use crate::reference::receiver;
-use crate::reference::refusal::{SHORT, SPOILED};
+use crate::reference::refusal::{Refusal, SHORT, SPOILED};
 use crate::reference::sender;
 use crate::reference::session;
+use crate::reference::tint;
 use crate::table;
 
 /// "The block".
@@ -67,6 +68,15 @@ pub trait ReceivingEnd {
 
     /// The return bit's number, or the refusal's.
     fn return_bit(&self, state: &[u8]) -> u8;
+}
+
+/// "Tint orders": the doses' numbers in turn, canister and pump steps.
+pub trait Tints {
+    /// 0 or the refusal's number. The number of bytes written is written beside it.
+    fn write_tint(&self, doses: &[u16], count: usize, order: &mut [u8], bytes: &mut usize) -> u8;
+
+    /// 0 or the refusal's number. The number of doses is written beside it.
+    fn read_tint(&self, order: &[u8], doses: &mut [u16], count: &mut usize) -> u8;
 }
 
 /// The run program: standard input to standard output.
@@ -165,6 +175,27 @@ impl ReceivingEnd for Reference {
     }
 }
 
+/// Writes a number that a call gives, and its answer: 0 or the refusal's number.
+fn answer(result: Result<usize, Refusal>, number: &mut usize) -> u8 {
+    match result {
+        Err(refusal) => refusal,
+        Ok(given) => {
+            *number = given;
+            0
+        }
+    }
+}
+
+impl Tints for Reference {
+    fn write_tint(&self, doses: &[u16], count: usize, order: &mut [u8], bytes: &mut usize) -> u8 {
+        answer(tint::write(doses, count, order), bytes)
+    }
+
+    fn read_tint(&self, order: &[u8], doses: &mut [u16], count: &mut usize) -> u8 {
+        answer(tint::read(order, doses), count)
+    }
+}
+
 impl RunProgram for Reference {
     fn run(&self, input: &[u8]) -> Vec<u8> {
         session::run(input)
@@ -223,5 +254,15 @@ impl ReceivingEnd for TableDriven {
 
     fn return_bit(&self, state: &[u8]) -> u8 {
         Reference.return_bit(state)
+    }
+}
+
+impl Tints for TableDriven {
+    fn write_tint(&self, doses: &[u16], count: usize, order: &mut [u8], bytes: &mut usize) -> u8 {
+        Reference.write_tint(doses, count, order, bytes)
+    }
+
+    fn read_tint(&self, order: &[u8], doses: &mut [u16], count: &mut usize) -> u8 {
+        Reference.read_tint(order, doses, count)
     }
 }

@@ -6,7 +6,7 @@
 #[path = "../../examples/rust/src/c.rs"]
 mod c;
 
-use crate::calls::{Blocks, Line, LoopTimes, Opening, ReceivingEnd, SendingEnd};
+use crate::calls::{Blocks, Line, LoopTimes, Opening, ReceivingEnd, SendingEnd, Tints};
 use crate::interface::{self, Counts};
 use crate::reference::block::Read;
 
@@ -144,5 +144,34 @@ impl ReceivingEnd for Library {
 
     fn return_bit(&self, state: &[u8]) -> u8 {
         unsafe { c::order_line_return_bit(state.as_ptr(), state.len()) }
+    }
+}
+
+impl Tints for Library {
+    #[inline]
+    fn write_tint(&self, doses: &[u16], count: usize, order: &mut [u8], bytes: &mut usize) -> u8 {
+        unsafe {
+            c::order_line_write_tint(
+                doses.as_ptr(),
+                doses.len(),
+                count,
+                order.as_mut_ptr(),
+                order.len(),
+                bytes,
+            )
+        }
+    }
+
+    #[inline]
+    fn read_tint(&self, order: &[u8], doses: &mut [u16], count: &mut usize) -> u8 {
+        unsafe {
+            c::order_line_read_tint(
+                order.as_ptr(),
+                order.len(),
+                doses.as_mut_ptr(),
+                doses.len(),
+                count,
+            )
+        }
     }
 }

@@ -1,4 +1,5 @@
-//! The functions of `include/order_line.h`, in its order: a slice passes as a pointer and then its number of bytes.
+//! The functions of `include/order_line.h`, in its order: a slice passes as a pointer and then its number of bytes, or of
+//! 16-bit numbers.
 //!
 //! They stand once: the safe calls beside this file and the order line's tests, which compare every function with a
 //! second implementation, both call through them.
@@ -82,4 +83,21 @@ unsafe extern "C" {
     ) -> u8;
 
     pub fn order_line_return_bit(state: *const u8, state_bytes: usize) -> u8;
+
+    pub fn order_line_write_tint(
+        doses: *const u16,
+        doses_numbers: usize,
+        count: usize,
+        order: *mut u8,
+        order_bytes: usize,
+        bytes: *mut usize,
+    ) -> u8;
+
+    pub fn order_line_read_tint(
+        order: *const u8,
+        order_bytes: usize,
+        doses: *mut u16,
+        doses_numbers: usize,
+        count: *mut usize,
+    ) -> u8;
 }

@@ -12,15 +12,17 @@ mod numbers;
 mod receiver;
 mod refusal;
 mod sender;
+mod tint;
 
 pub use block::{Read, build_block, loop_time, read_block};
-pub use numbers::{LONGEST_ORDER, MOST_ITEMS, RECEIVER_BYTES, SENDER_BYTES, VERSION};
+pub use numbers::{LONGEST_ORDER, MOST_DOSES, MOST_ITEMS, RECEIVER_BYTES, SENDER_BYTES, VERSION};
 pub use receiver::{Event, Receiver};
 pub use refusal::Refusal;
 pub use sender::{Rest, Sender, Sent};
+pub use tint::{Dose, read_tint, write_tint};
 
 // SAFETY, of every call of a function of `c`: each pointer comes with the length of the slice that it was taken from, and
-// the borrows keep what is written apart from everything else that is lent.
+// the borrows keep what is written apart from everything else that is lent. Doses pass as 16-bit numbers, two for each.
 
 /// The version of the linked library; [`VERSION`] is the one that this wrapper was written for. A later one with the same
 /// major number, the upper half, does as well.
@@ -36,6 +38,11 @@ pub const fn payload_bytes(k: usize) -> usize {
 /// Bytes of a packed block with k data bits.
 pub const fn block_bytes(k: usize) -> usize {
     k / 8 + 3
+}
+
+/// Bytes of a tint order of so many doses.
+pub const fn tint_bytes(count: usize) -> usize {
+    3 + 3 * count
 }
 
 /// Bytes of a store with room for any order in blocks of k data bits, k being one of the four.

@@ -1,7 +1,7 @@
 //! The numbers of `include/order_line.h`, by its names without `ORDER_LINE_`. The order line's tests compare the two files.
 
-/// 3.0.0: major * 65536 + minor * 256 + patch.
-pub const VERSION: u32 = 0x030000;
+/// 3.1.0: major * 65536 + minor * 256 + patch.
+pub const VERSION: u32 = 0x030100;
 
 pub const REFUSED_BLOCK: u32 = 1;
 pub const REFUSED_SPEED: u32 = 2;
@@ -12,11 +12,16 @@ pub const REFUSED_SHORT: u32 = 6;
 pub const REFUSED_SPOILED: u32 = 7;
 pub const REFUSED_REST: u32 = 8;
 pub const REFUSED_CODE_SIZE: u32 = 9;
+pub const REFUSED_FORMAT: u32 = 10;
+pub const REFUSED_ENTRY: u32 = 11;
+pub const REFUSED_STEPS: u32 = 12;
 
 /// Bits of the longest order.
 pub const LONGEST_ORDER: usize = 262144;
 /// Data items of the longest order in the shortest blocks.
 pub const MOST_ITEMS: usize = 1093;
+/// Doses of a tint order at most.
+pub const MOST_DOSES: usize = 12;
 /// Bytes of a sender's state.
 pub const SENDER_BYTES: usize = 18;
 /// Bytes of a receiver's state.

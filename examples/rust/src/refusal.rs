@@ -25,6 +25,12 @@ pub enum Refusal {
     Rest,
     /// 9: a code size other than 5 to 8.
     CodeSize,
+    /// 10: no tint order, by its version or its length, or no doses to write.
+    Format,
+    /// 11: a dose out of range or order, or more than [`MOST_DOSES`](crate::MOST_DOSES) to write.
+    Entry,
+    /// 12: a tint order of more than 20,000 pump steps in all.
+    Steps,
     /// A number that [`VERSION`](crate::VERSION) does not have: the library is of another version.
     Unknown(u32),
 }
@@ -41,6 +47,9 @@ impl Refusal {
             REFUSED_SPOILED => Refusal::Spoiled,
             REFUSED_REST => Refusal::Rest,
             REFUSED_CODE_SIZE => Refusal::CodeSize,
+            REFUSED_FORMAT => Refusal::Format,
+            REFUSED_ENTRY => Refusal::Entry,
+            REFUSED_STEPS => Refusal::Steps,
             _ => Refusal::Unknown(number),
         }
     }
@@ -57,6 +66,9 @@ impl Refusal {
             Refusal::Spoiled => REFUSED_SPOILED,
             Refusal::Rest => REFUSED_REST,
             Refusal::CodeSize => REFUSED_CODE_SIZE,
+            Refusal::Format => REFUSED_FORMAT,
+            Refusal::Entry => REFUSED_ENTRY,
+            Refusal::Steps => REFUSED_STEPS,
             Refusal::Unknown(number) => number,
         }
     }
@@ -74,6 +86,11 @@ impl fmt::Display for Refusal {
             Refusal::Spoiled => "the state is spoiled, or service bits are above 15",
             Refusal::Rest => "the sender is finished or gave up",
             Refusal::CodeSize => "the code size is 5, 6, 7 or 8",
+            Refusal::Format => "the bytes are no tint order, or there are no doses to write",
+            Refusal::Entry => {
+                "a dose has canister 1 to 12, 1 to 4,800 steps and a canister above the one before"
+            }
+            Refusal::Steps => "a tint order has 20,000 steps or fewer in all",
             Refusal::Unknown(_) => "the library is of another version",
         };
         write!(f, "refused {}: {reason}", self.number())

@@ -8,9 +8,11 @@
 //! `bench count CALL K IMPLEMENTATION PASSES` makes this many passes of one implementation alone,
 //! for callgrind to count: CALL is build, read, send or a number of bits received a call,
 //! IMPLEMENTATION 0, 1 or 2 in that order, or 3 for receiving by the table-driven sibling in place.
-//! It prints the number of calls of a pass.
+//! It prints the number of calls of a pass. With write_tint or read_tint for CALL, K is a number of
+//! doses; there is no sibling to measure these against, so IMPLEMENTATION is 0.
 
-use order_line_tests::calls::{Blocks, Line, ReceivingEnd, Reference, SendingEnd, TableDriven};
+use order_line_tests::calls::{Blocks, Line, Reference, TableDriven};
+use order_line_tests::calls::{ReceivingEnd, SendingEnd, Tints};
 use order_line_tests::interface::{decode_sent, is_event, store_receiver, store_sender, Counts};
 use order_line_tests::interface::{RECEIVER_BYTES, SENDER_BYTES};
 use order_line_tests::link::Library;
@@ -19,6 +21,7 @@ use order_line_tests::reference::block::{block_bits, block_bytes, payload_bytes,
 use order_line_tests::reference::order::letter;
 use order_line_tests::reference::receiver::{self, Received, Receiver};
 use order_line_tests::reference::sender::{self, Next, Sender, Sent};
+use order_line_tests::reference::tint::{tint_bytes, MOST_DOSES, MOST_STEPS_IN_ALL};
 use order_line_tests::rng::Rng;
 use order_line_tests::table;
 use std::env;
@@ -295,6 +298,9 @@ fn main() {
     let arguments: Vec<&str> = arguments.iter().map(String::as_str).collect();
     match arguments[..] {
         [] => measure_all(),
+        ["count", call @ ("write_tint" | "read_tint"), doses, "0", passes] => {
+            count_tint(call, number(doses), number(passes))
+        }
         ["count", call, k, implementation, passes] => {
             count(call, number(k), number(implementation), number(passes))
         }
@@ -328,6 +334,25 @@ fn count(call: &str, k: usize, implementation: usize, passes: usize) {
             lines.calls()
         }
     );
+}
+
+/// Passes of the library's calls on a tint order of so many doses.
+fn count_tint(call: &str, count: usize, passes: usize) {
+    let steps = (MOST_STEPS_IN_ALL / MOST_DOSES) as u16;
+    let mut doses: Vec<u16> = (1..=count as u16).flat_map(|i| [i, steps]).collect();
+    let mut order = vec![0; tint_bytes(count)];
+    let (mut bytes, mut read) = (0, 0);
+    let written = Reference.write_tint(&doses, count, &mut order, &mut bytes);
+    assert_eq!(written, 0);
+    let writes = call == "write_tint";
+    for _ in 0..BUFFERS * passes {
+        let answer = match writes {
+            true => Library.write_tint(&doses, count, &mut order, &mut bytes),
+            false => Library.read_tint(&order, &mut doses, &mut read),
+        };
+        assert_eq!(black_box(answer), 0);
+    }
+    println!("{BUFFERS}");
 }
 
 fn measure_all() {

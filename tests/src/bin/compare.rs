@@ -6,7 +6,7 @@
 //! that says what is wrong, and the case where there is one.
 
 use order_line_tests::comparison::{block, both_ends, idle, loop_time, marks, receiver, sender};
-use order_line_tests::comparison::{same, session, two_orders, Difference, Tally};
+use order_line_tests::comparison::{same, session, tint, two_orders, Difference, Tally};
 use order_line_tests::interface::VERSION;
 use order_line_tests::link::{self, Library};
 use order_line_tests::program::Program;
@@ -18,13 +18,15 @@ const BLOCK_CASES: usize = 120_000;
 const SENDER_SESSIONS: usize = 25_000;
 const RECEIVER_CALLS: usize = 300_000;
 const SESSIONS: usize = 25_000;
+const TINT_CASES: usize = 400;
+const TINT_SESSIONS: usize = 4_000;
 const SCRIPTS: usize = 6_000;
 const BLOCKS_WRITTEN: usize = 800;
 
 /// A group's name and the run of all its cases.
 type Group = (&'static str, fn() -> Result<Tally, Difference>);
 
-const GROUPS: [Group; 8] = [
+const GROUPS: [Group; 9] = [
     ("loop_time", || loop_time::compare(&Library)),
     ("block", || block::compare(&Library, SEED, BLOCK_CASES)),
     ("sender", || {
@@ -39,6 +41,9 @@ const GROUPS: [Group; 8] = [
     ("two_orders", || two_orders::compare(&Library, &Library)),
     ("idle", || idle::compare(&Library, &Library)),
     ("marks", || marks::compare(&Library, &Library)),
+    ("tint", || {
+        tint::compare(&Library, SEED, TINT_CASES, TINT_SESSIONS)
+    }),
 ];
 
 const USAGE: &str = "usage: compare [GROUP | program PATH | blocks FILE]";

@@ -1,11 +1,14 @@
 //! Cases out of arbitrary bytes, for a fuzzer: the first byte picks the call, the others give its
-//! arguments, and calls on a state follow while bytes are left and the state is not refused.
+//! arguments, and calls on a state follow while bytes are left and the state is not refused; after a
+//! tint order follow others.
+
+mod tint;
 
 use super::lockstep::{BufferPair, Lockstep};
 use super::receiver::received_name;
 use super::sender::refusal_name;
 use super::{block, loop_time, Difference, GuardedBuffer, Tally};
-use crate::calls::{Blocks, LoopTimes, Opening, ReceivingEnd, SendingEnd};
+use crate::calls::{Blocks, LoopTimes, Opening, ReceivingEnd, SendingEnd, Tints};
 use crate::damage::invert;
 use crate::interface::{store_receiver, store_sender};
 use crate::interface::{HEAD_BYTES, MARKS_BYTES, RECEIVER_BYTES, SENDER_BYTES};
@@ -22,44 +25,50 @@ use crate::rng::Rng;
 
 /// The most calls of one case.
 const CALLS: usize = 8;
+/// A first byte from here on picks tint orders.
+const TINT_ORDERS: u8 = 216;
 
 /// Compares one case.
 pub fn compare<T>(tested: &T, bytes: &[u8], tally: &mut Tally) -> Result<(), Difference>
 where
-    T: LoopTimes + Blocks + SendingEnd + ReceivingEnd,
+    T: LoopTimes + Blocks + SendingEnd + ReceivingEnd + Tints,
 {
     let mut input = Input { bytes };
     let ends = Lockstep {
         sending: tested,
         receiving: tested,
     };
-    match input.byte() % 8 {
+    let call = input.byte();
+    if call >= TINT_ORDERS {
+        return tint::calls(tested, &mut input, tally);
+    }
+    match call % 8 {
         0 => {
             let (k, speed, loop_ms) = input.loop_arguments();
             loop_time::compare_loop(tested, k, speed, loop_ms, tally)
         }
-        1 => {
-            let (k, service) = (input.length(), input.byte());
-            let payload = input.lent(payload_bytes(bounded_length(k)));
-            let place = GuardedBuffer::around(
-                &mut Rng::new(1),
-                &input.lent(block_bytes(bounded_length(k))),
-            );
-            block::compare_build(tested, k, service, &payload, place, tally)
-        }
-        2 => {
-            let k = input.length();
-            let mut bytes = pack(&input.line_bits(k, 0));
-            bytes.resize(input.near(block_bytes(bounded_length(k))), 0x55);
-            let place = GuardedBuffer::around(
-                &mut Rng::new(1),
-                &input.lent(payload_bytes(bounded_length(k))),
-            );
-            block::compare_read(tested, k, &bytes, place, tally)
-        }
+        1 => build(tested, &mut input, tally),
+        2 => read(tested, &mut input, tally),
         3 | 4 => send(&ends, &mut input, tally),
         _ => receive(&ends, &mut input, tally),
     }
+}
+
+fn build(tested: &impl Blocks, input: &mut Input, tally: &mut Tally) -> Result<(), Difference> {
+    let (k, service) = (input.length(), input.byte());
+    let payload = input.lent(payload_bytes(bounded_length(k)));
+    let bytes = input.lent(block_bytes(bounded_length(k)));
+    let place = GuardedBuffer::around(&mut Rng::new(1), &bytes);
+    block::compare_build(tested, k, service, &payload, place, tally)
+}
+
+fn read(tested: &impl Blocks, input: &mut Input, tally: &mut Tally) -> Result<(), Difference> {
+    let k = input.length();
+    let mut bytes = pack(&input.line_bits(k, 0));
+    bytes.resize(input.near(block_bytes(bounded_length(k))), 0x55);
+    let payload = input.lent(payload_bytes(bounded_length(k)));
+    let place = GuardedBuffer::around(&mut Rng::new(1), &payload);
+    block::compare_read(tested, k, &bytes, place, tally)
 }
 
 /// A sender, opened or out of the bytes, and calls on it.
@@ -71,7 +80,7 @@ fn send<S: SendingEnd, R>(
     let (bytes, length) = input.sender();
     let order = input.pattern(length.min(LONGEST + 8).div_ceil(8));
     let mut state = BufferPair::new(GuardedBuffer::around(&mut Rng::new(2), &bytes));
-    if input.byte() % 2 == 0 {
+    if input.byte().is_multiple_of(2) {
         let opening = input.opening(length);
         let lent = &order[..input.near(order.len()).min(order.len())];
         let answer = ends.open_sender(opening, lent, &mut state)?;
@@ -120,7 +129,7 @@ fn receive<S, R: ReceivingEnd>(
 ) -> Result<(), Difference> {
     let bytes = input.receiver();
     let mut state = BufferPair::new(GuardedBuffer::around(&mut Rng::new(3), &bytes));
-    if input.byte() % 4 == 0 {
+    if input.byte().is_multiple_of(4) {
         let (k, code_size) = (input.length(), input.code_size());
         let answer = ends.open_receiver(k, code_size, &mut state)?;
         tally.count(match (answer, code_size) {
@@ -325,7 +334,7 @@ impl Input<'_> {
     fn receiver(&mut self) -> Vec<u8> {
         let kind = self.byte();
         let k = self.length();
-        let search = self.byte() % 4 == 0;
+        let search = self.byte().is_multiple_of(4);
         let most = if search {
             CHECK_BITS
         } else {
@@ -422,6 +431,7 @@ impl Input<'_> {
 
 #[cfg(test)]
 mod tests {
+    use super::super::tint::ANSWERS;
     use super::super::EVENTS;
     use super::*;
     use crate::calls::TableDriven;
@@ -459,5 +469,6 @@ mod tests {
             "refused 8",
         ];
         tally.assert_above(20, &kinds);
+        tally.assert_above(20, &ANSWERS);
     }
 }

@@ -14,7 +14,7 @@ use crate::interface::{load_receiver, load_sender, RECEIVER_BYTES, SENDER_BYTES}
 use crate::reference::bits::{bits_of, pack, unpack, Bits};
 use crate::reference::block::{assemble, block_bits, block_bytes, cancel, synchronising_block};
 use crate::reference::order::{data_service, LONGEST};
-use crate::reference::receiver::{Received, Receiver};
+use crate::reference::receiver::{Event, Received, Receiver};
 use crate::reference::sender::{Sender, Sent};
 use crate::rng::Rng;
 
@@ -34,13 +34,13 @@ pub fn compare<S: SendingEnd, R: ReceivingEnd>(
             _ => Order::short(&mut rng),
         };
         let session = Session::open(&ends, rng, order, &mut tally);
-        let run = session.and_then(Session::run);
+        let run = session.and_then(|mut session| session.run());
         run.map_err(|difference| format!("session {number}: {difference}"))?;
     }
     Ok(tally)
 }
 
-struct Session<'a, S, R> {
+pub struct Session<'a, S, R> {
     ends: &'a Lockstep<'a, S, R>,
     rng: Rng,
     tally: &'a mut Tally,
@@ -48,6 +48,8 @@ struct Session<'a, S, R> {
     sender: BufferPair,
     receiver: BufferPair,
     store: BufferPair,
+    /// The length that was reported with the end.
+    ended: Option<usize>,
     /// Of ends that were opened alike.
     delivery: Option<Delivery>,
     channel: ChannelModel,
@@ -55,7 +57,7 @@ struct Session<'a, S, R> {
 }
 
 impl<'a, S: SendingEnd, R: ReceivingEnd> Session<'a, S, R> {
-    fn open(
+    pub fn open(
         ends: &'a Lockstep<'a, S, R>,
         mut rng: Rng,
         order: Order,
@@ -64,13 +66,7 @@ impl<'a, S: SendingEnd, R: ReceivingEnd> Session<'a, S, R> {
         let mut sender = BufferPair::random(&mut rng, SENDER_BYTES);
         let mut receiver = BufferPair::random(&mut rng, RECEIVER_BYTES);
         let sizes = CodeSizes::random(&mut rng);
-        let opening = Opening {
-            k: order.k,
-            speed: 200,
-            loop_ms: 0,
-            length: order.length,
-            code_size: sizes.sender,
-        };
+        let opening = opening(&order, sizes.sender);
         let refused = ends.open_sender(opening, &order.bytes, &mut sender)?;
         assert_eq!(refused, 0, "an opening that the rules accept");
         let refused = ends.open_receiver(order.k, sizes.receiver, &mut receiver)?;
@@ -87,6 +83,7 @@ impl<'a, S: SendingEnd, R: ReceivingEnd> Session<'a, S, R> {
             sender,
             receiver,
             store,
+            ended: None,
             delivery: None,
             channel,
             rates,
@@ -102,7 +99,7 @@ impl<'a, S: SendingEnd, R: ReceivingEnd> Session<'a, S, R> {
         Delivery::new(&self.sender(), &self.receiver(), order, store)
     }
 
-    fn run(mut self) -> Result<(), Difference> {
+    pub fn run(&mut self) -> Result<(), Difference> {
         let may_give_up = self.channel.stuck_at_1 || self.delivery.is_none();
         let most = 3 * self.order.items() + if may_give_up { 400 } else { 40 };
         for _ in 0..self.rng.between(most / 4, most) {
@@ -118,6 +115,22 @@ impl<'a, S: SendingEnd, R: ReceivingEnd> Session<'a, S, R> {
         }
         self.count_session();
         Ok(())
+    }
+
+    /// The store as the machine has it.
+    pub fn store(&self) -> &[u8] {
+        self.store.slice()
+    }
+
+    /// The length in bits that was reported with the end.
+    pub fn ended(&self) -> Option<usize> {
+        self.ended
+    }
+
+    /// The ends were opened alike, and every supposition of demand 3 has held.
+    pub fn is_within_demand_3(&self) -> bool {
+        let delivery = self.delivery.as_ref();
+        delivery.is_some_and(|delivery| delivery.broken().is_none())
     }
 
     fn sender(&self) -> Sender {
@@ -259,6 +272,9 @@ impl<'a, S: SendingEnd, R: ReceivingEnd> Session<'a, S, R> {
         }
         match received {
             Received::Reported { event, used } => {
+                if let Event::Ended(length) = event {
+                    self.ended = Some(length);
+                }
                 let kind = if alarm_stood {
                     "alarm again"
                 } else {
@@ -380,6 +396,16 @@ impl<'a, S: SendingEnd, R: ReceivingEnd> Session<'a, S, R> {
         } else if sender.gave_up() {
             self.tally.count("gave up");
         }
+    }
+}
+
+fn opening(order: &Order, code_size: Option<usize>) -> Opening {
+    Opening {
+        k: order.k,
+        speed: 200,
+        loop_ms: 0,
+        length: order.length,
+        code_size,
     }
 }
 

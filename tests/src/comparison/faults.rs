@@ -1,9 +1,10 @@
 //! That the groups find faults: the second implementation with one fault at a time.
 
 mod marks;
+mod tint;
 
 use super::{any_bytes, receiver, sender, Tally};
-use crate::calls::{Blocks, Line, LoopTimes, Opening, ReceivingEnd, Reference, SendingEnd};
+use crate::calls::{Blocks, Line, LoopTimes, Opening, ReceivingEnd, Reference, SendingEnd, Tints};
 use crate::interface::{decode_sent, is_event, Counts, EVENT_ACCEPTED, EVENT_NONE};
 use crate::interface::{FINISHED, GAVE_UP, MARKS_BYTES, RECEIVER_BYTES, SENDER_BYTES};
 use crate::reference::block::Read;
@@ -11,6 +12,7 @@ use crate::reference::refusal::SHORT;
 use crate::reference::sender::Sent;
 use crate::rng::Rng;
 use marks::OfMarks;
+use tint::{OfTints, TintFault, TINT_FAULTS};
 
 #[derive(Clone, Copy, Debug, PartialEq, Eq)]
 enum Fault {
@@ -49,6 +51,8 @@ enum Fault {
     MarkAfterEnd,
     /// Only the mark of the receiver's own code size is taken.
     OwnMarkAlone,
+    /// One of a tint call.
+    Tint(TintFault),
 }
 
 const FAULTS_OF_EITHER_END: [Fault; 9] = [
@@ -88,6 +92,13 @@ impl Faulty {
         match data.last_mut() {
             Some(byte) if unwritten && self.0 == Fault::LastByte => *byte ^= 1,
             _ => {}
+        }
+    }
+
+    fn tints(&self) -> OfTints {
+        match self.0 {
+            Fault::Tint(fault) => OfTints(fault),
+            _ => OfTints(TintFault::None),
         }
     }
 
@@ -173,6 +184,16 @@ impl ReceivingEnd for Faulty {
     }
 }
 
+impl Tints for Faulty {
+    fn write_tint(&self, doses: &[u16], count: usize, order: &mut [u8], bytes: &mut usize) -> u8 {
+        self.tints().write_tint(doses, count, order, bytes)
+    }
+
+    fn read_tint(&self, order: &[u8], doses: &mut [u16], count: &mut usize) -> u8 {
+        self.tints().read_tint(order, doses, count)
+    }
+}
+
 #[test]
 fn faults_of_a_sender_are_found() {
     for fault in FAULTS_OF_EITHER_END.into_iter().chain(FAULTS_OF_A_SENDER) {
@@ -191,6 +212,15 @@ fn faults_of_a_receiver_are_found() {
     assert!(receiver::compare(&Faulty(Fault::None), 8, 500).is_ok());
 }
 
+#[test]
+fn faults_of_tint_calls_are_found() {
+    for fault in TINT_FAULTS {
+        let compared = super::tint::compare(&Faulty(Fault::Tint(fault)), 17, 20, 0);
+        assert!(compared.is_err(), "{fault:?}");
+    }
+    assert!(super::tint::compare(&Faulty(Fault::None), 17, 20, 20).is_ok());
+}
+
 /// Random bytes are what the fuzzer begins with.
 #[test]
 fn faults_are_found_by_random_bytes() {
@@ -201,7 +231,8 @@ fn faults_are_found_by_random_bytes() {
         })
     };
     let of_one_end = FAULTS_OF_A_SENDER.into_iter().chain(FAULTS_OF_A_RECEIVER);
-    for fault in FAULTS_OF_EITHER_END.into_iter().chain(of_one_end) {
+    let of_the_ends = FAULTS_OF_EITHER_END.into_iter().chain(of_one_end);
+    for fault in of_the_ends.chain(TINT_FAULTS.map(Fault::Tint)) {
         assert!(found(fault, 20_000), "{fault:?}");
     }
     assert!(!found(Fault::None, 500));

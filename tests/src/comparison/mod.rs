@@ -19,6 +19,7 @@ pub mod sender;
 mod services;
 pub mod session;
 mod spoil;
+pub mod tint;
 pub mod two_orders;
 
 #[cfg(test)]
@@ -83,18 +84,18 @@ impl fmt::Display for Tally {
     }
 }
 
-/// Bytes to lend, between guard bytes that no call may write.
+/// Bytes to lend, or 16-bit numbers, between guards that no call may write.
 #[derive(Clone, Debug, PartialEq, Eq)]
-pub struct GuardedBuffer {
-    bytes: Vec<u8>,
+pub struct GuardedBuffer<T = u8> {
+    values: Vec<T>,
 }
 
 const GUARD: usize = 8;
 
 impl GuardedBuffer {
     pub fn random(rng: &mut Rng, length: usize) -> GuardedBuffer {
-        let bytes = rng.bytes(length + 2 * GUARD);
-        GuardedBuffer { bytes }
+        let values = rng.bytes(length + 2 * GUARD);
+        GuardedBuffer { values }
     }
 
     /// These bytes, between random guard bytes.
@@ -103,20 +104,30 @@ impl GuardedBuffer {
         buffer.slice_mut().copy_from_slice(bytes);
         buffer
     }
+}
 
-    /// Every byte the same, guard bytes too: cheap, for long slices.
-    pub fn filled(byte: u8, length: usize) -> GuardedBuffer {
-        let bytes = vec![byte; length + 2 * GUARD];
-        GuardedBuffer { bytes }
+impl GuardedBuffer<u16> {
+    pub fn random_numbers(rng: &mut Rng, length: usize) -> GuardedBuffer<u16> {
+        let number = |_| rng.below(1 << 16) as u16;
+        let values = (0..length + 2 * GUARD).map(number).collect();
+        GuardedBuffer { values }
+    }
+}
+
+impl<T: Copy> GuardedBuffer<T> {
+    /// Every value the same, the guards too: cheap, for long slices.
+    pub fn filled(value: T, length: usize) -> GuardedBuffer<T> {
+        let values = vec![value; length + 2 * GUARD];
+        GuardedBuffer { values }
     }
 
-    pub fn slice(&self) -> &[u8] {
-        &self.bytes[GUARD..self.bytes.len() - GUARD]
+    pub fn slice(&self) -> &[T] {
+        &self.values[GUARD..self.values.len() - GUARD]
     }
 
-    pub fn slice_mut(&mut self) -> &mut [u8] {
-        let end = self.bytes.len() - GUARD;
-        &mut self.bytes[GUARD..end]
+    pub fn slice_mut(&mut self) -> &mut [T] {
+        let end = self.values.len() - GUARD;
+        &mut self.values[GUARD..end]
     }
 }
 
