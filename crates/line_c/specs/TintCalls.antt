@@ -3,11 +3,12 @@
 use mathlib.Core.Path.{_≡_}
 use mathlib.Core.Bool.{_||_}
 use mathlib.Core.List.{List, [], _∷_, _++_}
-use Prim.Native.Nat.{ℕ, _*_}
+use Prim.Native.Nat.{ℕ, _*_, _≤_}
 use lib.Dec.{ltb}
 use lib.ListN.{length, take, drop}
 use Rattle.block.specs.Answer as A
 use Rattle.block.specs.Answer.{Answer, refused, done, refuseIf}
+use Rattle.line.specs.WholeOrder.{Bytes}
 use Rattle.tint.specs.Format.{Dose, orderBytes, judgeDoses}
 use Rattle.tint.specs.Calls.{judgeCounted, writtenSlice, read}
 use Rattle.line_c.specs.BlockCalls.{refusal}
@@ -70,3 +71,16 @@ pub record ReadTintCall (order numbers : List ℕ) (count result : ℕ) (numbers
   pub answers : result ≡ refusal (readTint order numbers)
   pub writes : numbers′ ≡ readNumbers numbers (readTint order numbers)
   pub counts : count′ ≡ readCount count (readTint order numbers)
+
+-- ---- each call undoes the other
+
+pub record TintRoundTrip : Type 0 where
+  -- reading what was written gives the same numbers, in any slice that has room for them
+  pub reads-written : (numbers : List ℕ) (count : ℕ) (slice slice′ : List ℕ) (bytes bytes′ : ℕ) (room room′ : List ℕ) (n n′ result : ℕ)
+      → WriteTintCall numbers count slice bytes 0 slice′ bytes′ → count * 2 ≤ length room
+      → ReadTintCall (take bytes′ slice′) room n result room′ n′
+      → (result ≡ 0) × (n′ ≡ count) × (room′ ≡ take (count * 2) numbers ++ drop (count * 2) room)
+  -- writing what was read gives the same bytes, in any slice that has room for them
+  pub writes-read : (order room room′ : List ℕ) (n n′ : ℕ) (slice slice′ : List ℕ) (bytes bytes′ result : ℕ) → Bytes order
+      → ReadTintCall order room n 0 room′ n′ → length order ≤ length slice → WriteTintCall room′ n′ slice bytes result slice′ bytes′
+      → (result ≡ 0) × (bytes′ ≡ length order) × (slice′ ≡ order ++ drop (length order) slice)

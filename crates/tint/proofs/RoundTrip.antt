@@ -25,10 +25,10 @@ use Rattle.tint.specs.declared.OrderRead.{OrderRead}
 use Rattle.tint.proofs.Entries.{doses-of-entries, length-dosesIn, length-dosesAt, drop-orderBytes, is-format, format-lengths, orderBytes-read, at-most-twelve, judge-good, judged-good, counted-some, counted-good}
 
 -- doses that an order can have
-record Writable (ds : List Dose) : Type 0 where
-  some : 1 ≤ length ds
-  rising : isRising 0 ds ≡ true
-  small : total ds ≤ mostTotal
+pub record Writable (ds : List Dose) : Type 0 where
+  pub some : 1 ≤ length ds
+  pub rising : isRising 0 ds ≡ true
+  pub small : total ds ≤ mostTotal
 
 -- ---- answers
 
@@ -75,11 +75,11 @@ module _ (d : Doses) (slice : List ℕ) where
 
 -- ---- what is read
 
-reads-order : (ds : List Dose) → Writable ds → read (orderBytes ds) ≡ done ds
+pub reads-order : (ds : List Dose) → Writable ds → read (orderBytes ds) ≡ done ds
 unfolding read
 reads-order ds w = rw (is-format ds (w .some), drop-orderBytes ds, doses-of-entries ds) (judge-good ds (done ds) (w .rising) (w .small))
 
-order-read : (order : List ℕ) (ds : List Dose) → read order ≡ done ds
+pub order-read : (order : List ℕ) (ds : List Dose) → read order ≡ done ds
     → Writable ds × (isFormat order ≡ true) × (dosesIn (drop 3 order) ≡ ds)
 unfolding read
 order-read order ds h =
@@ -100,7 +100,7 @@ read-few order ds h =
     omega arith
 
 -- the order is the one encoding of the doses read from it
-encoded : (order : List ℕ) (ds : List Dose) → Bytes order → read order ≡ done ds → orderBytes ds ≡ order
+pub encoded : (order : List ℕ) (ds : List Dose) → Bytes order → read order ≡ done ds → orderBytes ds ≡ order
 encoded order ds b h =
     let r = order-read order ds h in
     ap orderBytes (sym (r .2)) ∙ orderBytes-read order (r .1) b
