@@ -19,7 +19,7 @@ use Rattle.tint.specs.declared.OrderRead.{OrderRead}
 
 -- Doses are written as n bytes. Both ends are opened alike on an order that begins with these, and with L eight times n. Then,
 -- for every list of calls that meets what demand 3 supposes and in which the machine reports the end, reading the store's first
--- L / 8 bytes gives the same doses.
+-- L / 8 bytes gives the same doses. The store is the course's; that the calls leave it so is `Delivered.answers` of demand 3.
 unfoldable pub TintDelivery : Type 0
 TintDelivery =
     (doses : Doses) (slice slice′ : List ℕ) (n : ℕ) → Write doses slice (W.Done n) slice′

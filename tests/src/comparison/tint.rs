@@ -13,6 +13,7 @@ use crate::reference::refusal::{Refusal, ENTRY, FORMAT, SHORT, STEPS};
 use crate::reference::tint::{tint_bytes, to_numbers, DOSE_NUMBERS, MOST_DOSES};
 use crate::rng::Rng;
 
+use doses::FEWEST_ABOVE;
 pub use doses::{EDGES, MOST_STEPS};
 
 /// The refusals of both calls, in their order.
@@ -202,13 +203,15 @@ fn first_of(refusals: &[Refusal]) -> Option<Refusal> {
     in_order.find(|refusal| refusals.contains(refusal))
 }
 
-/// Every choice of the refusals.
-fn choices() -> impl Iterator<Item = Vec<Refusal>> {
+/// Every choice of the refusals that so many doses can be about.
+fn choices(count: usize) -> impl Iterator<Item = Vec<Refusal>> {
     let chosen = |choice: usize| {
         let places = (0..REFUSALS.len()).filter(move |place| choice >> place & 1 == 1);
         places.map(|place| REFUSALS[place]).collect()
     };
-    (0..1 << REFUSALS.len()).map(chosen)
+    let possible =
+        move |refusals: &Vec<Refusal>| count >= FEWEST_ABOVE || !refusals.contains(&STEPS);
+    (0..1 << REFUSALS.len()).map(chosen).filter(possible)
 }
 
 #[cfg(test)]

@@ -1,5 +1,6 @@
 //! Doses for the cases: some that make an order, some with a total, some that make none.
 
+use crate::reference::refusal::{Refusal, ENTRY, STEPS};
 use crate::reference::tint::{Dose, MOST_DOSES, MOST_STEPS_IN_ALL};
 use crate::rng::Rng;
 
@@ -71,6 +72,19 @@ pub fn above(rng: &mut Rng, count: usize) -> Vec<Dose> {
         _ => rng.between(MOST_STEPS_IN_ALL + 1, most),
     };
     with_total(rng, count, total)
+}
+
+/// Doses that these refusals are about, as far as they are about doses: an entry, the steps in all.
+pub fn refused(rng: &mut Rng, count: usize, refusals: &[Refusal]) -> Vec<Dose> {
+    let mut doses = match refusals.contains(&STEPS) {
+        true => above(rng, count),
+        false => valid(rng, count),
+    };
+    if refusals.contains(&ENTRY) {
+        let place = rng.below(count);
+        spoil(rng, &mut doses, place);
+    }
+    doses
 }
 
 /// Puts the dose at this place out of range or order.

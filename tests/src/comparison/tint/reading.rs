@@ -1,6 +1,6 @@
 //! Reading tint orders.
 
-use super::doses::{above, spoil, valid, with_total, EDGES, FEWEST_ABOVE, MOST_STEPS};
+use super::doses::{refused, valid, with_total, EDGES, FEWEST_ABOVE, MOST_STEPS};
 use super::{choices, first_of, Group, NUMBERS};
 use crate::calls::Tints;
 use crate::comparison::{hex, Difference};
@@ -169,20 +169,9 @@ impl<T: Tints> Group<'_, T> {
     /// Orders that each choice of the refusals is about: the first of them comes. Then each order
     /// with every byte changed, a byte less and a byte more.
     pub(super) fn refused_reading(&mut self, count: usize) -> Result<(), Difference> {
-        for refusals in choices() {
-            if refusals.contains(&STEPS) && count < FEWEST_ABOVE {
-                continue;
-            }
+        for refusals in choices(count) {
             let has = |refusal| refusals.contains(&refusal);
-            let mut doses = match has(STEPS) {
-                true => above(&mut self.rng, count),
-                false => valid(&mut self.rng, count),
-            };
-            if has(ENTRY) {
-                let place = self.rng.below(count);
-                spoil(&mut self.rng, &mut doses, place);
-            }
-            let mut order = pack(&doses);
+            let mut order = pack(&refused(&mut self.rng, count, &refusals));
             if has(FORMAT) {
                 self.spoil_format(&mut order);
             }

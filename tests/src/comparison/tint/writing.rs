@@ -1,6 +1,6 @@
 //! Writing tint orders.
 
-use super::doses::{above, spoil, valid, with_total, EDGES, FEWEST_ABOVE, MOST_STEPS};
+use super::doses::{above, refused, spoil, valid, with_total, EDGES, FEWEST_ABOVE, MOST_STEPS};
 use super::{choices, first_of, Group};
 use crate::calls::Tints;
 use crate::comparison::{same, Difference};
@@ -146,21 +146,11 @@ impl<T: Tints> Group<'_, T> {
 
     /// Doses that each choice of the refusals is about: the first of them comes.
     pub(super) fn refused_writing(&mut self, count: usize) -> Result<(), Difference> {
-        for refusals in choices() {
-            if refusals.contains(&STEPS) && count < FEWEST_ABOVE {
-                continue;
-            }
+        for refusals in choices(count) {
             let has = |refusal| refusals.contains(&refusal);
-            let mut doses = match has(STEPS) {
-                true => above(&mut self.rng, count),
-                false => valid(&mut self.rng, count),
-            };
+            let doses = to_numbers(&refused(&mut self.rng, count, &refusals));
             let mut given = count;
             let mut length = tint_bytes(count);
-            if has(ENTRY) {
-                let place = self.rng.below(count);
-                spoil(&mut self.rng, &mut doses, place);
-            }
             match (has(SHORT), count < MOST_DOSES && self.rng.bit()) {
                 (false, _) => {}
                 (true, false) => length = self.rng.pick(&[0, length - 1]),
@@ -169,7 +159,6 @@ impl<T: Tints> Group<'_, T> {
             if has(FORMAT) {
                 given = 0;
             }
-            let doses = to_numbers(&doses);
             let answer = self.write(&doses, given, length)?;
             let case = || format!("refusals {refusals:?}: {doses:?}, count {given}");
             answer.expect(&case, first_of(&refusals))?;
