@@ -7,7 +7,7 @@ use Prim.Native.Nat.{ℕ, _*_, _<_}
 use lib.ListN.{take, getD}
 use Rattle.crc.specs.Bits.{bitsOf}
 use Rattle.line.specs.Order.{orderBits}
-use Rattle.line.specs.Course.{Call, World, opened, course, final}
+use Rattle.line.specs.Course.{Call, opened, course, final}
 use Rattle.line.specs.Delivery.{some, isEnd, Assumptions, Openings}
 use Rattle.line.specs.declared.marks.CodeSize.{CodeSize}
 use Rattle.line.specs.declared.sender.Sender.{Sender}

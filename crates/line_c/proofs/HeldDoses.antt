@@ -11,7 +11,7 @@ use Rattle.block.specs.Answer as A
 use Rattle.block.specs.Answer.{Answer, refused, done, refuseIf}
 use Rattle.block.proofs.Truth.{cond-case}
 use Rattle.tint.specs.Refusals as Refusals
-use Rattle.tint.specs.Format.{Dose, orderBytes, mostTotal, isRising, total, judgeDoses}
+use Rattle.tint.specs.Format.{Dose, orderBytes, mostTotal, inRangeAndOrder, total, judgeDoses}
 use Rattle.tint.specs.Calls.{dosesOf, dosesFrom, judgeCounted, judge, write, writtenCount, writtenAnswer, writtenSlice, Write, read}
 use Rattle.tint.specs.declared.Doses.{Doses}
 use Rattle.tint.specs.declared.Written.{Written}
@@ -65,7 +65,7 @@ module _ (s : List ℕ) where
 always-refused : (P : Answer (List ℕ) → Type 0) → ((n : ℕ) → P (refused n)) → (ds : List Dose) (n : ℕ) → P (judgeDoses ds (refused n))
 unfolding judgeDoses
 always-refused P f ds n =
-    cond-case P (not (isRising 0 ds)) (λ h. f Refusals.entry) (λ h. cond-case P (ltb mostTotal (total ds)) (λ g. f Refusals.steps) (λ g. f n))
+    cond-case P (not (inRangeAndOrder 0 ds)) (λ h. f Refusals.entry) (λ h. cond-case P (ltb mostTotal (total ds)) (λ g. f Refusals.steps) (λ g. f n))
 
 module _ (s : List ℕ) (count : ℕ) (slice : List ℕ) (bytes : ℕ) where
   -- from what the call's definition answers

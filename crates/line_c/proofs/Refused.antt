@@ -25,7 +25,7 @@ use Rattle.line.specs.declared.receiver.Receiver.{Receiver}
 use Rattle.line.specs.declared.receiving.Event.{Event}
 use Rattle.line.specs.declared.receiving.Event.the-variants as E
 use Rattle.tint.specs.Refusals as Tint
-use Rattle.tint.specs.Format.{Dose, orderBytes, dosesIn, isFormat, canisters, mostTotal, isRising, total, judgeDoses}
+use Rattle.tint.specs.Format.{Dose, orderBytes, dosesIn, isFormat, canisters, mostTotal, inRangeAndOrder, total, judgeDoses}
 use Rattle.tint.specs.Calls.{judgeCounted, read}
 use Rattle.line_c.specs.State.{senderSize, holdsSender, senderIn, senderOf, receiverSize, holdsReceiver, receiverIn, receiverOf}
 use Rattle.line_c.specs.BlockCalls.{refusal, readNumber}
@@ -179,7 +179,7 @@ receive-told line count store (done s) h =
 doses-told : {A : Type 0} (ds : List Dose) (next : Answer A) → Plain next → Plain (judgeDoses ds next)
 unfolding judgeDoses
 doses-told ds next h =
-    two refusal (λ n. refl) next h (not (isRising 0 ds)) (ltb mostTotal (total ds)) Tint.entry Tint.steps refl refl
+    two refusal (λ n. refl) next h (not (inRangeAndOrder 0 ds)) (ltb mostTotal (total ds)) Tint.entry Tint.steps refl refl
 
 write-tint-told : (numbers : List ℕ) (count : ℕ) (slice : List ℕ) → Plain (writeTint numbers count slice)
 unfolding writeTint judgeCounted

@@ -1,6 +1,6 @@
 -- Each of the two calls on tint orders undoes the other. Assumes nothing.
 use mathlib.Core.Path.{_≡_, refl, sym, ap, ap₂, _∙_, subst}
-use mathlib.Core.Bool.{Bool, true, false, _||_, true≢false}
+use mathlib.Core.Bool.{true, false, _||_, true≢false}
 use mathlib.Core.List.{List, [], _∷_, _++_}
 use native.Mathlib.Omega.{arith}
 use Prim.Native.Nat.{ℕ, zero, suc, _+_, _*_, _≤_}
@@ -18,7 +18,7 @@ use Rattle.tint.specs.Calls.{judgeCounted, writtenSlice, read}
 use Rattle.tint.proofs.Entries.{judge-good, judged-good, counted-some, counted-good}
 use Rattle.tint.proofs.RoundTrip.{Writable, reads-order, order-read, read-few, encoded}
 use Rattle.line_c.specs.BlockCalls.{refusal}
-use Rattle.line_c.specs.TintCalls.{numbersOf, dosesOfNumbers, dosesHeld, writeTint, writtenBytes, WriteTintCall, judgeRoom, readTint, readNumbers, readCount, ReadTintCall, TintRoundTrip}
+use Rattle.line_c.specs.TintCalls.{numbersOf, dosesHeld, writeTint, writtenBytes, WriteTintCall, judgeRoom, readTint, readNumbers, readCount, ReadTintCall, TintRoundTrip}
 use Rattle.line_c.specs.Refused.{isRefusal, isRefused}
 use Rattle.line_c.proofs.DoseNumbers.{length-numbersOf, length-dosesHeld}
 use Rattle.line_c.proofs.Refused.{refusals-told}
@@ -63,13 +63,13 @@ module _ (numbers : List ℕ) (count : ℕ) (slice : List ℕ) where
       let o = or-false (ltb (length numbers) (count * 2)) (ltb (length slice) (length (orderBytes ds))) (t .0) in
       let room = ltb-false (length numbers) (count * 2) (o .0) in
       let n = length-dosesHeld numbers count room in
-      (record { some = omega (arith, c .0); rising = j .0; small = j .1 }, room, same-done (t .1))
+      (record { some = omega (arith, c .0); in-order = j .0; small = j .1 }, room, same-done (t .1))
 
   writes : Writable ds → 1 ≤ count → count ≤ 12 → count * 2 ≤ length numbers → length (orderBytes ds) ≤ length slice
       → writeTint numbers count slice ≡ done (orderBytes ds)
   unfolding writeTint
   writes w some few room long =
-      counted-some ds _ count some few ∙ judge-good ds _ (w .rising) (w .small)
+      counted-some ds _ count some few ∙ judge-good ds _ (w .in-order) (w .small)
       ∙ rw (le-ltb (length numbers) (count * 2) room, le-ltb (length slice) (length (orderBytes ds)) long) refl
 
 -- ---- what is read

@@ -6,7 +6,7 @@ use native.Mathlib.Omega.{arith}
 use Prim.Native.Nat.{ℕ, suc, _+_, _-_, _≤_, _<_}
 use lib.ListN.{length, getD, take, drop, set, replicate, length-set, length-append, length-drop, take-append-drop}
 use lib.Seq.{take-suc-set, drop-set-lt, drop-drop, take-append-add, drop-append-add, take-at, drop-at, length-take-le}
-use Rattle.tint.specs.Format.{Dose, canisters}
+use Rattle.tint.specs.Format.{canisters}
 use Rattle.tint.specs.Calls.{dosesAt, filledUp}
 
 -- ---- doses in arrays

@@ -14,7 +14,7 @@ use Rattle.block.proofs.Truth.{and-true, either}
 use Rattle.block.proofs.Refusals.{passed-test}
 use Rattle.line.specs.WholeOrder.{Bytes}
 use Rattle.tint.specs.Refusals as Refusals
-use Rattle.tint.specs.Format.{Dose, formatVersion, bigEndian, fromBigEndian, entries, orderBytes, dosesIn, isLengthOf, isFormat, canisters, mostSteps, mostTotal, isInRange, isRising, total, judgeDoses}
+use Rattle.tint.specs.Format.{Dose, formatVersion, bigEndian, fromBigEndian, entries, orderBytes, dosesIn, isLengthOf, isFormat, canisters, mostSteps, mostTotal, isInRange, inRangeAndOrder, total, judgeDoses}
 use Rattle.tint.specs.Calls.{dosesAt, dosesOf, canistersOf, stepsOf, dosesFrom, judgeCounted}
 use Rattle.tint.specs.Code.{headBytes, lowEntries}
 
@@ -115,10 +115,10 @@ orderBytes-read order h b =
 
 -- ---- canisters that rise
 
-rising-first : (last : ℕ) (d : Dose) (ds : List Dose) → isRising last (d ∷ ds) ≡ true
-    → (last < d .canister) × (d .canister ≤ canisters) × (isRising (d .canister) ds ≡ true)
+rising-first : (last : ℕ) (d : Dose) (ds : List Dose) → inRangeAndOrder last (d ∷ ds) ≡ true
+    → (last < d .canister) × (d .canister ≤ canisters) × (inRangeAndOrder (d .canister) ds ≡ true)
 rising-first last d ds h =
-    let a = and-true (isInRange d && ltb last (d .canister)) (isRising (d .canister) ds) h in
+    let a = and-true (isInRange d && ltb last (d .canister)) (inRangeAndOrder (d .canister) ds) h in
     let b = and-true (isInRange d) (ltb last (d .canister)) (a .0) in
     let c = and-true (leb 1 (d .canister) && leb (d .canister) canisters && leb 1 (d .steps)) (leb (d .steps) mostSteps) (b .0) in
     let e = and-true (leb 1 (d .canister) && leb (d .canister) canisters) (leb 1 (d .steps)) (c .0) in
@@ -126,19 +126,19 @@ rising-first last d ds h =
     (ltb-true last (d .canister) (b .1), leb-true (d .canister) canisters (f .1), a .1)
 
 -- no thirteen of them
-pub at-most-twelve : (last : ℕ) (ds : List Dose) → last ≤ canisters → isRising last ds ≡ true → last + length ds ≤ canisters
+pub at-most-twelve : (last : ℕ) (ds : List Dose) → last ≤ canisters → inRangeAndOrder last ds ≡ true → last + length ds ≤ canisters
 at-most-twelve last [] m h = omega arith
 at-most-twelve last (d ∷ ds) m h =
     let a = rising-first last d ds h in
     let b = at-most-twelve (d .canister) ds (a .1) (a .2) in
     omega arith
 
-pub thirteen-fail : (ds : List Dose) → canisters < length ds → isRising 0 ds ≡ false
+pub thirteen-fail : (ds : List Dose) → canisters < length ds → inRangeAndOrder 0 ds ≡ false
 thirteen-fail ds m =
-    ⊎-elim (λ (t : isRising 0 ds ≡ true). let n = at-most-twelve 0 ds (omega arith) t in absurd (omega arith)) (λ f. f) (either (isRising 0 ds))
+    ⊎-elim (λ (t : inRangeAndOrder 0 ds ≡ true). let n = at-most-twelve 0 ds (omega arith) t in absurd (omega arith)) (λ f. f) (either (inRangeAndOrder 0 ds))
 
 -- they are bytes
-pub rising-entries : (last : ℕ) (ds : List Dose) → isRising last ds ≡ true → lowEntries ds ≡ entries ds
+pub rising-entries : (last : ℕ) (ds : List Dose) → inRangeAndOrder last ds ≡ true → lowEntries ds ≡ entries ds
 rising-entries last [] h = refl
 rising-entries last (d ∷ ds) h =
     let a = rising-first last d ds h in
@@ -146,7 +146,7 @@ rising-entries last (d ∷ ds) h =
     ap₂ (λ (c : ℕ) (r : List ℕ). c ∷ (bigEndian (d .steps) ++ r)) e (rising-entries (d .canister) ds (a .2))
 
 -- the bytes of an order, as the code writes them
-pub rising-orderBytes : (ds : List Dose) → isRising 0 ds ≡ true → headBytes (length ds * 3) ++ lowEntries ds ≡ orderBytes ds
+pub rising-orderBytes : (ds : List Dose) → inRangeAndOrder 0 ds ≡ true → headBytes (length ds * 3) ++ lowEntries ds ≡ orderBytes ds
 unfolding orderBytes
 rising-orderBytes ds h =
     let n = at-most-twelve 0 ds (omega arith) h in
@@ -193,24 +193,24 @@ refused-alike true n m f h = cc
 refused-alike false n m f h = f h
 
 module _ {A : Type 0} (ds : List Dose) (next : Answer A) where
-  pub judge-entry : isRising 0 ds ≡ false → judgeDoses ds next ≡ refused Refusals.entry
+  pub judge-entry : inRangeAndOrder 0 ds ≡ false → judgeDoses ds next ≡ refused Refusals.entry
   unfolding judgeDoses
   judge-entry h = rw h refl
 
-  pub judge-steps : isRising 0 ds ≡ true → mostTotal < total ds → judgeDoses ds next ≡ refused Refusals.steps
+  pub judge-steps : inRangeAndOrder 0 ds ≡ true → mostTotal < total ds → judgeDoses ds next ≡ refused Refusals.steps
   unfolding judgeDoses
   judge-steps h t = rw (h, lt-ltb mostTotal (total ds) t) refl
 
-  pub judge-good : isRising 0 ds ≡ true → total ds ≤ mostTotal → judgeDoses ds next ≡ next
+  pub judge-good : inRangeAndOrder 0 ds ≡ true → total ds ≤ mostTotal → judgeDoses ds next ≡ next
   unfolding judgeDoses
   judge-good h t = rw (h, le-ltb mostTotal (total ds) t) refl
 
-  pub judged-good : (x : A) → judgeDoses ds next ≡ done x → (isRising 0 ds ≡ true) × (total ds ≤ mostTotal) × (next ≡ done x)
+  pub judged-good : (x : A) → judgeDoses ds next ≡ done x → (inRangeAndOrder 0 ds ≡ true) × (total ds ≤ mostTotal) × (next ≡ done x)
   unfolding judgeDoses
   judged-good x h =
-      let a = passed-test (not (isRising 0 ds)) Refusals.entry (refuseIf (ltb mostTotal (total ds)) Refusals.steps next) x h in
+      let a = passed-test (not (inRangeAndOrder 0 ds)) Refusals.entry (refuseIf (ltb mostTotal (total ds)) Refusals.steps next) x h in
       let b = passed-test (ltb mostTotal (total ds)) Refusals.steps next x (a .1) in
-      (not-false (isRising 0 ds) (a .0), ltb-false mostTotal (total ds) (b .0), b .1)
+      (not-false (inRangeAndOrder 0 ds) (a .0), ltb-false mostTotal (total ds) (b .0), b .1)
 
   module _ (count : ℕ) where
     pub counted-none : count ≡ 0 → judgeCounted count ds next ≡ refused Refusals.format
@@ -240,7 +240,7 @@ module _ {A B : Type 0} (ds : List Dose) (next : Answer A) (other : Answer B) wh
   pub judged-refused : (n : ℕ) → (next ≡ refused n → other ≡ refused n) → judgeDoses ds next ≡ refused n → judgeDoses ds other ≡ refused n
   unfolding judgeDoses
   judged-refused n f h =
-      refused-alike (not (isRising 0 ds)) Refusals.entry n (refused-alike (ltb mostTotal (total ds)) Refusals.steps n f) h
+      refused-alike (not (inRangeAndOrder 0 ds)) Refusals.entry n (refused-alike (ltb mostTotal (total ds)) Refusals.steps n f) h
 
   pub counted-refused : (count n : ℕ) → (next ≡ refused n → other ≡ refused n) → judgeCounted count ds next ≡ refused n
       → judgeCounted count ds other ≡ refused n

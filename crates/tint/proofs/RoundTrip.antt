@@ -13,7 +13,7 @@ use Rattle.block.specs.Answer.{Answer, refused, done}
 use Rattle.block.proofs.Refusals.{passed-test}
 use Rattle.line.specs.WholeOrder.{Bytes}
 use Rattle.tint.specs.Refusals as Refusals
-use Rattle.tint.specs.Format.{Dose, orderBytes, dosesIn, isFormat, canisters, mostTotal, isRising, total, judgeDoses}
+use Rattle.tint.specs.Format.{Dose, orderBytes, dosesIn, isFormat, canisters, mostTotal, inRangeAndOrder, total, judgeDoses}
 use Rattle.tint.specs.Calls.{dosesOf, write, writtenCount, writtenAnswer, writtenSlice, Write, read, orderReadAnswer, Read}
 use Rattle.tint.specs.RoundTrip.{ReadAs, RoundTrip}
 use Rattle.tint.specs.declared.Doses.{Doses}
@@ -27,7 +27,7 @@ use Rattle.tint.proofs.Entries.{doses-of-entries, length-dosesIn, lengt
 -- doses that an order can have
 pub record Writable (ds : List Dose) : Type 0 where
   pub some : 1 ≤ length ds
-  pub rising : isRising 0 ds ≡ true
+  pub in-order : inRangeAndOrder 0 ds ≡ true
   pub small : total ds ≤ mostTotal
 
 -- ---- answers
@@ -60,8 +60,8 @@ module _ (d : Doses) (slice : List ℕ) where
   writes-order w room =
       let n = length-dosesAt (d .count) (d .canisters) (d .steps) 0 in
       let p = w .some in
-      let m = at-most-twelve 0 (dosesOf d) (omega arith) (w .rising) in
-      counted-some (dosesOf d) _ (d .count) (omega arith) (omega arith) ∙ judge-good (dosesOf d) _ (w .rising) (w .small)
+      let m = at-most-twelve 0 (dosesOf d) (omega arith) (w .in-order) in
+      counted-some (dosesOf d) _ (d .count) (omega arith) (omega arith) ∙ judge-good (dosesOf d) _ (w .in-order) (w .small)
       ∙ rw (le-ltb (length slice) (length (orderBytes (dosesOf d))) room) refl
 
   written-order : (bytes : List ℕ) → write d slice ≡ done bytes → Writable (dosesOf d) × (orderBytes (dosesOf d) ≡ bytes)
@@ -71,13 +71,13 @@ module _ (d : Doses) (slice : List ℕ) where
       let c = counted-good (dosesOf d) _ (d .count) bytes h in
       let j = judged-good (dosesOf d) _ bytes (c .2) in
       let t = passed-test (ltb (length slice) (length (orderBytes (dosesOf d)))) A.short (done (orderBytes (dosesOf d))) bytes (j .2) in
-      (record { some = omega (arith, c .0); rising = j .0; small = j .1 }, same-done (t .1))
+      (record { some = omega (arith, c .0); in-order = j .0; small = j .1 }, same-done (t .1))
 
 -- ---- what is read
 
 pub reads-order : (ds : List Dose) → Writable ds → read (orderBytes ds) ≡ done ds
 unfolding read
-reads-order ds w = rw (is-format ds (w .some), drop-orderBytes ds, doses-of-entries ds) (judge-good ds (done ds) (w .rising) (w .small))
+reads-order ds w = rw (is-format ds (w .some), drop-orderBytes ds, doses-of-entries ds) (judge-good ds (done ds) (w .in-order) (w .small))
 
 pub order-read : (order : List ℕ) (ds : List Dose) → read order ≡ done ds
     → Writable ds × (isFormat order ≡ true) × (dosesIn (drop 3 order) ≡ ds)
@@ -90,13 +90,13 @@ order-read order ds h =
     let j = judged-good in-order (done in-order) ds (f .1) in
     let p : 1 ≤ length in-order = omega (arith, l .1, l .2, length-dosesIn (drop 3 order)) in
     let e : in-order ≡ ds = same-done (j .2) in
-    (subst Writable e (record { some = p; rising = j .0; small = j .1 }), g, e)
+    (subst Writable e (record { some = p; in-order = j .0; small = j .1 }), g, e)
 
 -- no more than an array holds
 pub read-few : (order : List ℕ) (ds : List Dose) → read order ≡ done ds → length ds ≤ canisters
 read-few order ds h =
     let w = order-read order ds h .0 in
-    let m = at-most-twelve 0 ds (omega arith) (w .rising) in
+    let m = at-most-twelve 0 ds (omega arith) (w .in-order) in
     omega arith
 
 -- the order is the one encoding of the doses read from it

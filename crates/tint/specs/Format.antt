@@ -67,9 +67,9 @@ abbrev pub isInRange : Dose → Bool
 isInRange d = leb 1 (d .canister) && leb (d .canister) canisters && leb 1 (d .steps) && leb (d .steps) mostSteps
 
 -- every dose in range, and canisters that rise strictly, the first of them from above `last`
-abbrev pub isRising : ℕ → List Dose → Bool
-isRising last [] = true
-isRising last (d ∷ ds) = isInRange d && ltb last (d .canister) && isRising (d .canister) ds
+abbrev pub inRangeAndOrder : ℕ → List Dose → Bool
+inRangeAndOrder last [] = true
+inRangeAndOrder last (d ∷ ds) = isInRange d && ltb last (d .canister) && inRangeAndOrder (d .canister) ds
 
 abbrev pub total : List Dose → ℕ
 total [] = 0
@@ -77,4 +77,4 @@ total (d ∷ ds) = d .steps + total ds
 
 -- every entry, then the total: 11, 12, and then what follows
 unfoldable pub judgeDoses : {A : Type 0} → List Dose → Answer A → Answer A
-judgeDoses ds next = refuseIf (not (isRising 0 ds)) Refusals.entry (refuseIf (ltb mostTotal (total ds)) Refusals.steps next)
+judgeDoses ds next = refuseIf (not (inRangeAndOrder 0 ds)) Refusals.entry (refuseIf (ltb mostTotal (total ds)) Refusals.steps next)

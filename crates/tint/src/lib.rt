@@ -6,8 +6,8 @@ ghost use Prim.Native.Nat.{ℕ, _+_, _*_, _≤_, _<_};
 ghost use lib.Dec.{ltb};
 ghost use lib.ListN.{length, take, drop};
 ghost use Rattle.block.specs.Answer.{done};
-ghost use Rattle.tint.specs.Format.{Dose, fromBigEndian, dosesIn, isFormat, isInRange, isRising, total, judgeDoses};
-ghost use Rattle.tint.specs.Calls.{dosesAt, dosesOf, dosesFrom, judgedAnswer, orderReadAnswer, Judge, Write, Read};
+ghost use Rattle.tint.specs.Format.{fromBigEndian, dosesIn, isFormat, isInRange, inRangeAndOrder, total, judgeDoses};
+ghost use Rattle.tint.specs.Calls.{dosesAt, dosesOf, dosesFrom, judgedAnswer, Judge, Write, Read};
 ghost use Rattle.tint.specs.Code.{headBytes, lowEntry, lowEntries};
 
 // docs/PROTOCOL.md, "Tint orders"; a slice that is too short is the crate block's refusal.
@@ -78,9 +78,9 @@ fn follows(last: u16, canister: u16, steps: u16) -> bool
 }
 
 // Every dose in range, the canisters rising strictly.
-fn rising(count: usize, canisters: [u16; 12], steps: [u16; 12]) -> bool
+fn in_range_and_order(count: usize, canisters: [u16; 12], steps: [u16; 12]) -> bool
     requires { ⌜ count ≤ 12 ⌝ }
-    ensures { λ r. ⌜ r ≡ isRising 0 (dosesAt count canisters steps 0) ⌝ }
+    ensures { λ r. ⌜ r ≡ inRangeAndOrder 0 (dosesAt count canisters steps 0) ⌝ }
 {
     let mut last = 0;
     let mut i = 0;
@@ -121,7 +121,7 @@ fn judge_doses(doses: Doses) -> Judged
     let count = doses.count;
     let canisters = doses.canisters;
     let steps = doses.steps;
-    if !rising(count, canisters, steps) {
+    if !in_range_and_order(count, canisters, steps) {
         return Judged::Refused(ENTRY);
     }
     if MOST_TOTAL < total_steps(count, steps) {

@@ -8,7 +8,7 @@ use mathlib.Core.Option.{Option}
 use native.Mathlib.Omega.{arith}
 use Prim.Native.Nat.{ℕ, _-_, _*_, _≤_, _<_}
 use lib.Dec.{eqb}
-use lib.ListN.{length, take, getD}
+use lib.ListN.{length, take}
 use lib.Seq.{take-at, take-take}
 use borrow.Author.Tests.{eq-eqb}
 use Rattle.crc.specs.Bits.{Bits, bitsOf, bytesOf, zeros}

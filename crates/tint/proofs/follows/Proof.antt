@@ -1,11 +1,10 @@
 -- `follows`: each test of the definition, in its order. Assumes nothing.
 use borrow.Author.Tests.{lt-leb, le-leb}
-use mathlib.Core.Path.{_≡_, refl}
+use mathlib.Core.Path.{_≡_}
 use mathlib.Core.Bool.{false, _&&_}
-use native.Mathlib.Omega.{arith}
 use Prim.Native.Nat.{ℕ, _≤_, _<_}
 use lib.Dec.{ltb}
-use Rattle.tint.specs.Format.{Dose, isInRange}
+use Rattle.tint.specs.Format.{isInRange}
 use Rattle.tint.proofs.follows.Statement.{statement}
 use Rattle.tint.proofs.follows.Tie as tie
 

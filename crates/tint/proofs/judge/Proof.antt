@@ -1,7 +1,6 @@
 -- `judge`: the number of doses, then the doses. Assumes nothing.
 use borrow.Author.Needs.{needs}
-use mathlib.Core.Path.{_≡_, sym, _∙_}
-use native.Mathlib.Omega.{arith}
+use mathlib.Core.Path.{sym, _∙_}
 use Rattle.block.specs.Answer.{done}
 use Rattle.tint.specs.Calls.{dosesOf}
 use Rattle.tint.proofs.Entries.{positive, counted-none, counted-many, counted-some}

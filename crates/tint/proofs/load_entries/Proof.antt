@@ -1,15 +1,14 @@
 -- The loop of `load_entries`: the numbers taken so far, those to come, and zeros behind. Assumes nothing.
 use borrow.Author.Needs.{needs}
 use mathlib.Core.List.{List, [], _∷_, map}
-use mathlib.Core.Path.{_≡_, refl, ap, ap₂, sym, _∙_}
+use mathlib.Core.Path.{_≡_, ap, ap₂, sym, _∙_}
 use native.Mathlib.Numerals.{add-one}
 use native.Mathlib.Omega.{arith}
-use Prim.Native.Nat.{ℕ, suc, _+_, _-_, _*_, _≤_, _<_}
+use Prim.Native.Nat.{ℕ, suc, _+_, _-_, _*_, _≤_}
 use lib.ListN.{length, getD, drop, drop-of-length-le}
 use lib.Seq.{drop-cons}
 use Rattle.tint.specs.Format.{Dose, fromBigEndian, dosesIn}
 use Rattle.tint.specs.Calls.{canistersOf, stepsOf, filledUp}
-use Rattle.tint.specs.declared.Doses.{Doses}
 use Rattle.tint.proofs.Entries.{length-dosesIn, length-map}
 use Rattle.tint.proofs.Arrays.{Filled, filled-none, filled-more, filled-all}
 use Rattle.tint.proofs.load_entries.Statement.{statement}

@@ -5,12 +5,12 @@ use mathlib.Core.List.{List, []}
 use mathlib.Core.Bool.{true, false}
 use mathlib.Core.Path.{_≡_, refl, sym, ap, _∙_, subst}
 use native.Mathlib.Omega.{arith}
-use Prim.Native.Nat.{ℕ, _-_, _*_, _/_, _≤_, _<_}
+use Prim.Native.Nat.{ℕ, _-_, _/_, _<_}
 use lib.ListN.{length, take, drop, length-drop}
 use lib.Seq.{take-all}
 use Rattle.block.specs.Answer.{Answer, refused, done}
 use Rattle.tint.specs.Refusals as Refusals
-use Rattle.tint.specs.Format.{Dose, dosesIn, isFormat, canisters, judgeDoses}
+use Rattle.tint.specs.Format.{Dose, dosesIn, isFormat, judgeDoses}
 use Rattle.tint.specs.Calls.{dosesOf, dosesFrom, judgedAnswer, read, dosesRead, Read}
 use Rattle.tint.specs.declared.Doses.{Doses}
 use Rattle.tint.specs.declared.Judged.the-variants as J

@@ -1,9 +1,8 @@
 -- `refused`: the number, and no doses. Assumes nothing.
 use borrow.Author.Needs.{needs}
-use mathlib.Core.Path.{_≡_, ap}
+use mathlib.Core.Path.{ap}
 use Rattle.tint.specs.declared.Doses.{Doses}
 use Rattle.tint.specs.declared.Judged.the-variants as J
-use Rattle.tint.specs.declared.OrderRead.{OrderRead}
 use Rattle.tint.proofs.refused.Statement.{statement}
 use Rattle.tint.proofs.refused.Tie as tie
 

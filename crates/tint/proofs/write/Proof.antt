@@ -10,7 +10,7 @@ use lib.Dec.{ltb}
 use lib.ListN.{length, drop}
 use Rattle.block.specs.Answer as A
 use Rattle.block.specs.Answer.{Answer, refused, done, refuseIf}
-use Rattle.tint.specs.Format.{Dose, orderBytes, isRising}
+use Rattle.tint.specs.Format.{Dose, orderBytes, inRangeAndOrder}
 use Rattle.tint.specs.Calls.{dosesOf, judge, judgedAnswer, write, writtenCount, writtenSlice, Write}
 use Rattle.tint.specs.Code.{headBytes, lowEntries}
 use Rattle.tint.specs.declared.Doses.{Doses}
@@ -37,7 +37,7 @@ module _ (d : Doses) (slice : List ℕ) where
     few : (1 ≤ d .count) × (d .count ≤ 12)
     few = let c = counted-good ds (done tt) (d .count) tt (sym e) in (c .0, c .1)
 
-    rises : isRising 0 ds ≡ true
+    rises : inRangeAndOrder 0 ds ≡ true
     rises = judged-good ds (done tt) tt (counted-good ds (done tt) (d .count) tt (sym e) .2) .0
 
     bytes : length (orderBytes ds) ≡ 3 + d .count * 3

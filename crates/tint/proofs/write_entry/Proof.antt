@@ -1,6 +1,5 @@
 -- `write_entry`: three bytes over three. Assumes nothing.
 use borrow.Author.Needs.{needs}
-use mathlib.Core.Path.{_≡_}
 use native.Mathlib.Omega.{arith}
 use lib.ListN.{length-set}
 use Rattle.block.proofs.Packing.{three-stores}

@@ -1,12 +1,9 @@
 -- `order_line_read_tint`: what the crate `tint` answers, then a slice too short for the doses. Assumes nothing.
 use borrow.Author.Needs.{needs}
-use mathlib.Core.List.{List}
 use mathlib.Core.Path.{_≡_, sym, ap, _∙_}
 use native.Mathlib.Omega.{arith}
-use Prim.Native.Nat.{ℕ}
 use lib.ListN.{length}
 use Rattle.block.specs.Answer.{done}
-use Rattle.tint.specs.Format.{Dose}
 use Rattle.tint.specs.Calls.{dosesOf, read, orderReadAnswer}
 use Rattle.tint.specs.declared.Doses.{Doses}
 use Rattle.tint.proofs.Entries.{length-dosesAt}

@@ -1,9 +1,6 @@
 -- `refuse_short`: no dose, or the doses that are there, judged. Assumes nothing.
 use borrow.Author.Needs.{needs}
-use mathlib.Core.Path.{_≡_, sym, ap, _∙_}
-use native.Mathlib.Omega.{arith}
-use Prim.Native.Nat.{ℕ, _/_}
-use lib.ListN.{length}
+use mathlib.Core.Path.{sym, ap, _∙_}
 use Rattle.tint.specs.Calls.{judgedAnswer}
 use Rattle.tint.proofs.Entries.{positive}
 use Rattle.line_c.proofs.HeldDoses.{held-none, held-refused, held-good}

@@ -1,7 +1,7 @@
--- The loop of `rising`: the doses to come rise from above the last canister just if all do. Assumes nothing.
+-- The loop of `in_range_and_order`: the doses to come are, from above the last canister, just if all are. Assumes nothing.
 use borrow.Author.Needs.{needs}
 use borrow.Author.Tests.{not-true, not-false}
-use mathlib.Core.Path.{_≡_, refl, ap, sym, _∙_}
+use mathlib.Core.Path.{_≡_, ap, sym, _∙_}
 use mathlib.Core.Bool.{Bool, true, false, _&&_}
 use mathlib.Core.List.{List}
 use native.Mathlib.Nat.{sub-zero}
@@ -9,19 +9,19 @@ use native.Mathlib.Omega.{arith}
 use Prim.Native.Nat.{ℕ, _+_, _-_, _≤_, _<_}
 use lib.Dec.{ltb}
 use lib.ListN.{getD}
-use Rattle.tint.specs.Format.{Dose, isInRange, isRising}
+use Rattle.tint.specs.Format.{isInRange, inRangeAndOrder}
 use Rattle.tint.specs.Calls.{dosesAt}
 use Rattle.tint.proofs.Arrays.{doses-first, doses-none}
-use Rattle.tint.proofs.rising.Statement.{statement}
-use Rattle.tint.proofs.rising.Tie as tie
+use Rattle.tint.proofs.in_range_and_order.Statement.{statement}
+use Rattle.tint.proofs.in_range_and_order.Tie as tie
 
 -- the doses from place i on rise from above `last`
 abbrev toCome : ℕ → List ℕ → List ℕ → ℕ → ℕ → Bool
-toCome count cs ss last i = isRising last (dosesAt (count - i) cs ss i)
+toCome count cs ss last i = inRangeAndOrder last (dosesAt (count - i) cs ss i)
 
 abbrev Inv-loop : tie.InvT-loop
 Inv-loop count canisters steps last₀ i₀ last i =
-    (i ≤ count) × (count ≤ 12) × (toCome count canisters steps last i ≡ isRising 0 (dosesAt count canisters steps 0))
+    (i ≤ count) × (count ≤ 12) × (toCome count canisters steps last i ≡ inRangeAndOrder 0 (dosesAt count canisters steps 0))
 
 abbrev μ-loop : tie.MeasureT-loop
 μ-loop count canisters steps last₀ i₀ last i = count - i
@@ -29,7 +29,7 @@ abbrev μ-loop : tie.MeasureT-loop
 module _ (count last i : ℕ) (cs ss : List ℕ) (h : i < count) (t : Bool)
     (e : t ≡ isInRange (record { canister = getD cs i 0; steps = getD ss i 0 }) && ltb last (getD cs i 0)) where
   turn : toCome count cs ss last i ≡ t && toCome count cs ss (getD cs i 0) (i + 1)
-  turn = ap (isRising last) (doses-first count i cs ss h) ∙ ap (λ (b : Bool). b && toCome count cs ss (getD cs i 0) (i + 1)) (sym e)
+  turn = ap (inRangeAndOrder last) (doses-first count i cs ss h) ∙ ap (λ (b : Bool). b && toCome count cs ss (getD cs i 0) (i + 1)) (sym e)
 
   stops : t ≡ false → false ≡ toCome count cs ss last i
   stops f = sym (turn ∙ ap (λ (b : Bool). b && toCome count cs ss (getD cs i 0) (i + 1)) f)
@@ -41,7 +41,7 @@ loop-holds : tie.Need-loop-holds Inv-loop μ-loop
 loop-holds c = (
   search needs,
   search needs,
-  ap (λ (n : ℕ). isRising 0 (dosesAt n (c .args .t2) (c .args .t3) 0)) (sub-zero (c .args .count)),
+  ap (λ (n : ℕ). inRangeAndOrder 0 (dosesAt n (c .args .t2) (c .args .t3) 0)) (sub-zero (c .args .count)),
 )
 
 mul-follows : tie.Need-mul-follows Inv-loop μ-loop
@@ -92,10 +92,10 @@ returns-2 : tie.Need-returns-2 Inv-loop μ-loop
 returns-2 c =
     let l = c .before .loop in
     let a = c .before .before .args in
-    sym (ap (isRising (l .last)) (doses-none (a .count) (l .i) (a .t2) (a .t3) (c .loop-test .left))) ∙ l .inv .2
+    sym (ap (inRangeAndOrder (l .last)) (doses-none (a .count) (l .i) (a .t2) (a .t3) (c .loop-test .left))) ∙ l .inv .2
 
-pub rising-spec : {M : Type 1} → statement M
-rising-spec =
+pub in-range-and-order-spec : {M : Type 1} → statement M
+in-range-and-order-spec =
     tie.close
     (tie.spec
     Inv-loop
