@@ -1,9 +1,9 @@
 -- Tint orders by example: one written, what reading answers for byte strings of every refusal, what writing answers for doses of
--- every refusal, and a store that was not cut to the order. Assumes nothing.
+-- every refusal, a store that was not cut to the order, and two orders joined. Assumes nothing.
 use mathlib.Core.Path.{_≡_, refl}
 use mathlib.Core.List.{List, [], _∷_, _++_, map}
 use Prim.Native.Nat.{ℕ}
-use lib.ListN.{replicate}
+use lib.ListN.{take, drop, replicate}
 use Rattle.block.specs.Answer as A
 use Rattle.block.specs.Answer.{Answer, refused, done}
 use Rattle.tint.specs.Refusals as Refusals
@@ -68,6 +68,17 @@ read-cases = refl
 pub whole-store : read ((1 ∷ 0 ∷ 3 ∷ 1 ∷ 0 ∷ 1 ∷ []) ++ replicate 24 0) ≡ refused Refusals.format
 unfolding read judgeDoses
 whole-store = refl
+
+-- ten doses are 33 bytes: at k 240 nine of them are in item 0, and the tenth in item 1
+abbrev ten : ℕ → List Dose
+ten steps =
+    dose 1 steps ∷ dose 2 steps ∷ dose 3 steps ∷ dose 4 steps ∷ dose 5 steps ∷ dose 6 steps ∷ dose 7 steps ∷ dose 8 steps
+    ∷ dose 9 steps ∷ dose 10 steps ∷ []
+
+-- two orders that a machine joined which was not opened anew are read as one
+pub joined : read (take 30 (orderBytes (ten 100)) ++ drop 30 (orderBytes (ten 200))) ≡ done (take 9 (ten 100) ++ drop 9 (ten 200))
+unfolding read judgeDoses orderBytes
+joined = refl
 
 -- ---- writing
 
