@@ -16,13 +16,10 @@ use Rattle.tint.specs.Calls.{dosesOf, dosesFrom, judgeCounted, judge, write, wr
 use Rattle.tint.specs.declared.Doses.{Doses}
 use Rattle.tint.specs.declared.Written.{Written}
 use Rattle.tint.specs.declared.Written.the-variants as W
-use Rattle.tint.proofs.Entries.{dosesOf-dosesFrom, judge-good, judged-good, judged-refused, counted-many, counted-some}
+use Rattle.tint.proofs.Entries.{dosesOf-dosesFrom, not-refused, same-done, judge-good, judged-good, judged-refused, counted-many, counted-some}
 use Rattle.line_c.specs.BlockCalls.{refusal}
 use Rattle.line_c.specs.TintCalls.{numbersOf, dosesOfNumbers, dosesHeld, writeTint, judgeHeld, writtenBytes, WriteTintCall, readTint, ReadTintCall}
 use Rattle.line_c.proofs.DoseNumbers.{length-numbersOf, length-dosesOfNumbers, length-dosesHeld, held-all}
-
-not-done : (n : ℕ) {X : Type 0} → _≡_ {A = Answer (Unit {0})} (done tt) (refused n) → X
-not-done n z = absurd (let y : _≡_ {A = ℕ} 0 1 = cc in omega arith)
 
 -- ---- a slice too short for its count
 
@@ -51,7 +48,7 @@ module _ (s : List ℕ) where
     -- those that it holds are refused
     pub held-refused : (n : ℕ) → refused n ≡ judge d → n ≡ refusal (judgeHeld s)
     held-refused n h =
-        sym (ap refusal (judged-refused (dosesOfNumbers s) (done tt) (refused A.short) n (not-done n) (judged (refused n) h)))
+        sym (ap refusal (judged-refused (dosesOfNumbers s) (refused A.short) n (sym (judged (refused n) h))))
 
     -- those that it holds are good
     pub held-good : done tt ≡ judge d → A.short ≡ refusal (judgeHeld s)
@@ -111,20 +108,16 @@ module _ (s : List ℕ) (count : ℕ) (slice : List ℕ) (bytes : ℕ) where
               let k : _≡_ {A = Answer ℕ} (refused n) (refused m) = sym (ap writtenAnswer g) ∙ w .answers ∙ ap writtenCount f in
               let kept : slice′ ≡ slice = w .writes ∙ ap (writtenSlice slice) f in
               by-answer (refused m) (same-write ∙ f) n bytes slice′ (let e : n ≡ m = cc in e) kept refl
-          go (done x) f =
-              let k : _≡_ {A = Answer ℕ} (refused n) (done (length x)) = sym (ap writtenAnswer g) ∙ w .answers ∙ ap writtenCount f in
-              absurd (let y : _≡_ {A = ℕ} 0 1 = cc in omega arith)
+          go (done x) f = not-refused n (length x) (sym (ap writtenAnswer g) ∙ w .answers ∙ ap writtenCount f)
 
       pub write-done : (n : ℕ) → answer ≡ W.Done n → WriteTintCall s count slice bytes 0 slice′ n
       write-done n g = go (write d slice) refl
         where
           go : (a : Answer (List ℕ)) → write d slice ≡ a → WriteTintCall s count slice bytes 0 slice′ n
-          go (refused m) f =
-              let k : _≡_ {A = Answer ℕ} (done n) (refused m) = sym (ap writtenAnswer g) ∙ w .answers ∙ ap writtenCount f in
-              absurd (let y : _≡_ {A = ℕ} 0 1 = cc in omega arith)
+          go (refused m) f = not-refused m n (sym (sym (ap writtenAnswer g) ∙ w .answers ∙ ap writtenCount f))
           go (done x) f =
-              let k : _≡_ {A = Answer ℕ} (done n) (done (length x)) = sym (ap writtenAnswer g) ∙ w .answers ∙ ap writtenCount f in
-              by-answer (done x) (same-write ∙ f) 0 n slice′ refl (w .writes ∙ ap (writtenSlice slice) f) cc
+              by-answer (done x) (same-write ∙ f) 0 n slice′ refl (w .writes ∙ ap (writtenSlice slice) f)
+              (same-done (sym (ap writtenAnswer g) ∙ w .answers ∙ ap writtenCount f))
 
 -- ---- reading
 

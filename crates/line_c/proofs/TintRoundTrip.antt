@@ -15,7 +15,7 @@ use Rattle.block.proofs.Refusals.{passed-test}
 use Rattle.line.specs.WholeOrder.{Bytes}
 use Rattle.tint.specs.Format.{Dose, orderBytes, judgeDoses}
 use Rattle.tint.specs.Calls.{judgeCounted, writtenSlice, read}
-use Rattle.tint.proofs.Entries.{judge-good, judged-good, counted-some, counted-good}
+use Rattle.tint.proofs.Entries.{not-refused, same-done, judge-good, judged-good, counted-some, counted-good}
 use Rattle.tint.proofs.RoundTrip.{Writable, reads-order, order-read, read-few, encoded}
 use Rattle.line_c.specs.BlockCalls.{refusal}
 use Rattle.line_c.specs.TintCalls.{numbersOf, dosesHeld, writeTint, writtenBytes, WriteTintCall, judgeRoom, readTint, readNumbers, readCount, ReadTintCall, TintRoundTrip}
@@ -26,12 +26,9 @@ use Rattle.line_c.proofs.Refused.{refusals-told}
 -- ---- answers
 
 -- 0 is no refusal
-not-refused : {X : Type 0} (a : Answer X) → isRefusal (refusal a) ≡ isRefused a → 0 ≡ refusal a → (x : X) × (a ≡ done x)
-not-refused (refused n) t e = absurd (true≢false (sym (ap isRefusal e ∙ t)))
-not-refused (done x) t e = (x, refl)
-
-same-done : {X : Type 0} {x y : X} → _≡_ {A = Answer X} (done x) (done y) → x ≡ y
-same-done h = cc
+by-zero : {X : Type 0} (a : Answer X) → isRefusal (refusal a) ≡ isRefused a → 0 ≡ refusal a → (x : X) × (a ≡ done x)
+by-zero (refused n) t e = absurd (true≢false (sym (ap isRefusal e ∙ t)))
+by-zero (done x) t e = (x, refl)
 
 -- ---- numbers and doses
 
@@ -81,7 +78,7 @@ reads order room ds e h =
     ap (judgeRoom room) e ∙ rw (le-ltb (length room) (length (numbersOf ds)) (omega arith)) refl
 
 was-read : (room : List ℕ) (a : Answer (List Dose)) (ds : List Dose) → judgeRoom room a ≡ done ds → a ≡ done ds
-was-read room (refused n) ds h = absurd (let z : _≡_ {A = ℕ} 0 1 = cc in omega arith)
+was-read room (refused n) ds h = not-refused n ds h
 was-read room (done x) ds h = ap done (same-done (passed-test (ltb (length room) (length (numbersOf x))) A.short (done x) ds h .1))
 
 order-of : (order room : List ℕ) (ds : List Dose) → readTint order room ≡ done ds → read order ≡ done ds
@@ -95,7 +92,7 @@ reads-written : (numbers : List ℕ) (count : ℕ) (slice slice′ : List ℕ) (
     → ReadTintCall (take bytes′ slice′) room n result room′ n′
     → (result ≡ 0) × (n′ ≡ count) × (room′ ≡ take (count * 2) numbers ++ drop (count * 2) room)
 reads-written numbers count slice slice′ bytes bytes′ room room′ n n′ result w h r =
-    let a = not-refused (writeTint numbers count slice) (refusals-told .write-tint numbers count slice) (w .answers) in
+    let a = by-zero (writeTint numbers count slice) (refusals-told .write-tint numbers count slice) (w .answers) in
     let order : List ℕ = a .0 in
     let o = written numbers count slice order (a .1) in
     let ds : List Dose = dosesHeld numbers count in
@@ -115,7 +112,7 @@ writes-read : (order room room′ : List ℕ) (n n′ : ℕ) (slice slice′ : L
     → ReadTintCall order room n 0 room′ n′ → length order ≤ length slice → WriteTintCall room′ n′ slice bytes result slice′ bytes′
     → (result ≡ 0) × (bytes′ ≡ length order) × (slice′ ≡ order ++ drop (length order) slice)
 writes-read order room room′ n n′ slice slice′ bytes bytes′ result b r h w =
-    let a = not-refused (readTint order room) (refusals-told .read-tint order room) (r .answers) in
+    let a = by-zero (readTint order room) (refusals-told .read-tint order room) (r .answers) in
     let ds : List Dose = a .0 in
     let e : read order ≡ done ds = order-of order room ds (a .1) in
     let good = order-read order ds e .0 in

@@ -186,6 +186,12 @@ dosesOf-dosesFrom ds =
 
 -- ---- what judging answers
 
+pub not-refused : {X Y : Type 0} (n : ℕ) (x : X) → _≡_ {A = Answer X} (refused n) (done x) → Y
+not-refused n x h = absurd (let z : _≡_ {A = ℕ} 0 1 = cc in omega arith)
+
+pub same-done : {X : Type 0} {x y : X} → _≡_ {A = Answer X} (done x) (done y) → x ≡ y
+same-done h = cc
+
 -- two calls that make the same test, and refuse alike behind it
 refused-alike : {A B : Type 0} (t : Bool) (n m : ℕ) {next : Answer A} {other : Answer B} → (next ≡ refused m → other ≡ refused m)
     → refuseIf t n next ≡ refused m → refuseIf t n other ≡ refused m
@@ -233,17 +239,19 @@ module _ {A : Type 0} (ds : List Dose) (next : Answer A) where
         let b = passed-test (ltb canisters count) Refusals.entry (judgeDoses ds next) x (a .1) in
         (positive count (eqb-false count 0 (a .0)), ltb-false canisters count (b .0), b .1)
 
--- ---- a judgement and what follows it
+-- ---- a judgement refuses whatever follows it
 
-module _ {A B : Type 0} (ds : List Dose) (next : Answer A) (other : Answer B) where
-  -- refused whatever follows
-  pub judged-refused : (n : ℕ) → (next ≡ refused n → other ≡ refused n) → judgeDoses ds next ≡ refused n → judgeDoses ds other ≡ refused n
+module _ {B : Type 0} (ds : List Dose) (other : Answer B) (n : ℕ) where
+  accepted-not : _≡_ {A = Answer (Unit {0})} (done tt) (refused n) → other ≡ refused n
+  accepted-not z = not-refused n tt (sym z)
+
+  pub judged-refused : refused n ≡ judgeDoses {A = Unit {0}} ds (done tt) → judgeDoses ds other ≡ refused n
   unfolding judgeDoses
-  judged-refused n f h =
-      refused-alike (not (inRangeAndOrder 0 ds)) Refusals.entry n (refused-alike (ltb mostTotal (total ds)) Refusals.steps n f) h
+  judged-refused h =
+      refused-alike (not (inRangeAndOrder 0 ds)) Refusals.entry n (refused-alike (ltb mostTotal (total ds)) Refusals.steps n accepted-not) (sym h)
 
-  pub counted-refused : (count n : ℕ) → (next ≡ refused n → other ≡ refused n) → judgeCounted count ds next ≡ refused n
-      → judgeCounted count ds other ≡ refused n
+  pub counted-refused : (count : ℕ) → refused n ≡ judgeCounted {A = Unit {0}} count ds (done tt) → judgeCounted count ds other ≡ refused n
   unfolding judgeCounted
-  counted-refused count n f h =
-      refused-alike (eqb count 0) Refusals.format n (refused-alike (ltb canisters count) Refusals.entry n (judged-refused n f)) h
+  counted-refused count h =
+      refused-alike (eqb count 0) Refusals.format n
+      (refused-alike (ltb canisters count) Refusals.entry n (λ e. judged-refused (sym e))) (sym h)

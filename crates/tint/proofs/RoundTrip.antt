@@ -22,7 +22,7 @@ use Rattle.tint.specs.declared.Judged.the-variants as J
 use Rattle.tint.specs.declared.Written.{Written}
 use Rattle.tint.specs.declared.Written.the-variants as W
 use Rattle.tint.specs.declared.OrderRead.{OrderRead}
-use Rattle.tint.proofs.Entries.{doses-of-entries, length-dosesIn, length-dosesAt, drop-orderBytes, is-format, format-lengths, orderBytes-read, at-most-twelve, judge-good, judged-good, counted-some, counted-good}
+use Rattle.tint.proofs.Entries.{doses-of-entries, length-dosesIn, length-dosesAt, drop-orderBytes, is-format, format-lengths, orderBytes-read, at-most-twelve, not-refused, same-done, judge-good, judged-good, counted-some, counted-good}
 
 -- doses that an order can have
 pub record Writable (ds : List Dose) : Type 0 where
@@ -31,12 +31,6 @@ pub record Writable (ds : List Dose) : Type 0 where
   pub small : total ds ≤ mostTotal
 
 -- ---- answers
-
-not-refused : {X Y : Type 0} (n : ℕ) (x : X) → _≡_ {A = Answer X} (refused n) (done x) → Y
-not-refused n x h = absurd (let z : _≡_ {A = ℕ} 0 1 = cc in omega arith)
-
-same-done : {X : Type 0} {x y : X} → _≡_ {A = Answer X} (done x) (done y) → x ≡ y
-same-done h = cc
 
 -- so many bytes were written, and these
 bytes-written : (a : Answer (List ℕ)) (n : ℕ) → writtenCount a ≡ done n → (bytes : List ℕ) × (a ≡ done bytes) × (length bytes ≡ n)

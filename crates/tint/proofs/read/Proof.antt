@@ -55,11 +55,7 @@ module _ (order : List ℕ) where
 
       bad : (n : ℕ) (r : OrderRead) → r ≡ record { answer = J.Refused n; doses = dosesFrom [] }
           → refused n ≡ judge (dosesOf d) → Read order r
-      bad n r e h =
-          turned n r e (in-format ∙ judged-refused ds (done tt) (done ds) n (λ z. absurd (no z)) (judged (refused n) h))
-        where
-          no : _≡_ {A = Answer (Unit {0})} (done tt) (refused n) → ⊥
-          no z = let y : _≡_ {A = ℕ} 0 1 = cc in omega arith
+      bad n r e h = turned n r e (in-format ∙ judged-refused ds (done ds) n (sym (judged (refused n) h)))
 
       good : done tt ≡ judge (dosesOf d) → Read order (record { answer = J.Good; doses = d })
       good h =

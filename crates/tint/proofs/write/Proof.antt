@@ -9,7 +9,7 @@ use Prim.Native.Nat.{ℕ, _+_, _*_, _≤_, _<_}
 use lib.Dec.{ltb}
 use lib.ListN.{length, drop}
 use Rattle.block.specs.Answer as A
-use Rattle.block.specs.Answer.{Answer, refused, done, refuseIf}
+use Rattle.block.specs.Answer.{refused, done, refuseIf}
 use Rattle.tint.specs.Format.{Dose, orderBytes, inRangeAndOrder}
 use Rattle.tint.specs.Calls.{dosesOf, judge, judgedAnswer, write, writtenCount, writtenSlice, Write}
 use Rattle.tint.specs.Code.{headBytes, lowEntries}
@@ -27,11 +27,8 @@ module _ (d : Doses) (slice : List ℕ) where
   turned : (n : ℕ) → refused n ≡ judge d → Write d slice (W.Refused n) slice
   unfolding write
   turned n e =
-      let r : write d slice ≡ refused n = counted-refused ds (done tt) _ (d .count) n (λ z. absurd (no z)) (sym e) in
+      let r : write d slice ≡ refused n = counted-refused ds _ n (d .count) e in
       record { answers = sym (ap writtenCount r); writes = sym (ap (writtenSlice slice) r) }
-    where
-      no : _≡_ {A = Answer (Unit {0})} (done tt) (refused n) → ⊥
-      no z = let y : _≡_ {A = ℕ} 0 1 = cc in omega arith
 
   module _ (e : done tt ≡ judge d) where
     few : (1 ≤ d .count) × (d .count ≤ 12)

@@ -1,18 +1,10 @@
 -- `write_head`: three bytes over the first three. Assumes nothing.
 use borrow.Author.Needs.{needs}
-use mathlib.Core.Path.{_≡_, refl}
-use mathlib.Core.List.{List, [], _∷_, _++_}
 use native.Mathlib.Omega.{arith}
-use Prim.Native.Nat.{ℕ, _≤_}
-use lib.ListN.{length, drop, set, length-set}
+use lib.ListN.{length-set}
+use Rattle.block.proofs.Packing.{three-stores}
 use Rattle.tint.proofs.write_head.Statement.{statement}
 use Rattle.tint.proofs.write_head.Tie as tie
-
-three-first : (s : List ℕ) (a b c : ℕ) → 3 ≤ length s → set (set (set s 0 a) 1 b) 2 c ≡ (a ∷ b ∷ c ∷ []) ++ drop 3 s
-three-first [] a b c h = absurd (omega arith)
-three-first (x ∷ []) a b c h = absurd (omega arith)
-three-first (x ∷ y ∷ []) a b c h = absurd (omega arith)
-three-first (x ∷ y ∷ z ∷ s) a b c h = refl
 
 slice-write-order : tie.Need-slice-write-order
 slice-write-order c = search needs
@@ -33,7 +25,7 @@ same-length : tie.Need-same-length
 same-length c = search needs
 
 returns : tie.Need-returns
-returns c = three-first (c .args .order .now) _ _ _ (omega arith)
+returns c = three-stores (c .args .order .now) 0 _ _ _ (omega arith)
 
 pub write-head-spec : {M : Type 1} → statement M
 write-head-spec =
