@@ -9,7 +9,7 @@ use native.Mathlib.Omega.{arith}
 use lib.Dec.{leb}
 use lib.ListN.{length, take, drop, length-drop}
 use lib.Seq.{take-at, take-take, length-take-le}
-use types.Run.{OneOf}
+use types.Run.{OneOf, miss}
 use denote.Enum.Declared.{tagOf}
 use Rattle.crc.specs.Bits.{Bits, bitsOf, bytesOf}
 use Rattle.crc.proofs.Bytes.{length-bitsOf, bitsOf-append, bitsOf-bytesOf-exact}
@@ -24,7 +24,7 @@ use Rattle.block.specs.declared.Read.the-variants as B
 use Rattle.block.proofs.Read.{the-type}
 use Rattle.block.proofs.Lengths.{length-facts}
 use Rattle.block.proofs.Refusals.{check-done, move-done}
-use Rattle.line.specs.Receiving.{lastBad, afterBad, Rule, sync-block, check-fails, accepts, meaning, endRule, serviceRule, looksSync, judge, blockRule, stops, Reception, storeAt}
+use Rattle.line.specs.Receiving.{lastBad, afterBad, Rule, sync-block, check-fails, accepts, meaning, endRule, serviceRule, looksSync, judge, orWait, blockRule, stops, Reception, storeAt}
 use Rattle.line.specs.Code.ReceiveSteps.{ruleOf, stepped, handedBack, judged, Handed}
 use Rattle.line.specs.declared.receiver.Receiver.{Receiver}
 use Rattle.line.specs.declared.receiving.Event.the-variants as E
@@ -47,24 +47,20 @@ pub handed-bad : (s : Receiver) (used : ℕ)
 handed-bad s used = ap (λ (t : Bool). stepped (afterBad s t) E.Bad used) (or-false (leb lastBad (s .«bad_row» + 1)))
 
 -- every rule of the code but the first stores nothing
-pub stores-nothing : (r : D.Rule) → OneOf (1 ∷ 2 ∷ 3 ∷ 4 ∷ 5 ∷ 6 ∷ []) (tagOf code.the-type r) → meaning (ruleOf r) .stores ≡ false
-stores-nothing C.Accepts h =
-    ⊎-elim (λ z. absurd (omega arith))
-    (λ h. ⊎-elim (λ z. absurd (omega arith))
-    (λ h. ⊎-elim (λ z. absurd (omega arith))
-    (λ h. ⊎-elim (λ z. absurd (omega arith)) (λ h. ⊎-elim (λ z. absurd (omega arith)) (λ z. absurd (omega arith)) h) h) h) h)
-    h
+pub stores-nothing : (r : D.Rule) → OneOf (1 ∷ 2 ∷ 3 ∷ 4 ∷ 5 ∷ 6 ∷ 7 ∷ []) (tagOf code.the-type r) → meaning (ruleOf r) .stores ≡ false
+stores-nothing C.Accepts h = absurd (miss (1 ∷ 2 ∷ 3 ∷ 4 ∷ 5 ∷ 6 ∷ 7 ∷ []) 0 tt h)
 stores-nothing C.Previous h = refl
 stores-nothing C.OutOfSequence h = refl
 stores-nothing (C.Ends L) h = refl
 stores-nothing C.WrongLength h = refl
 stores-nothing C.EndsAgain h = refl
 stores-nothing C.AnythingElse h = refl
+stores-nothing C.Waits h = refl
 
 module _ (s : Receiver) (row : Bits) (used : ℕ) (store : List ℕ) (r : Step) where
-  pub handed-rule : (rule : Rule) → rule ≡ blockRule s row → meaning rule .stores ≡ false
-      → r ≡ handedBack (stops s rule [] used) → Handed s store (judged s row used) r store
-  handed-rule rule e n h =
+  pub handed-rule : (ready : Bool) (rule : Rule) → rule ≡ blockRule s row ready → meaning rule .stores ≡ false
+      → r ≡ handedBack (stops s rule [] used) → Handed s store (judged s row ready used) r store
+  handed-rule ready rule e n h =
       subst (λ (y : Rule). Handed s store (stops s y row used) r store) e
       (subst (λ (y : Step). Handed s store (stops s rule row used) y store) (sym h) (handed-plain s store (stops s rule row used) n))
 
@@ -83,24 +79,24 @@ module _ (s : Receiver) (row : Bits) (used : ℕ) (store : List ℕ) (r : Step) 
       subst (λ (y : Step). Handed s store (stops s accepts row used) y store′) (sym h)
       (record { answers = rw q; state = rw q; writes = rw q w })
 
-  pub handed-accepts : (store′ : List ℕ) → accepts ≡ blockRule s row
-      → Handed s store (stops s accepts row used) r store′ → Handed s store (judged s row used) r store′
-  handed-accepts store′ e = subst (λ (y : Rule). Handed s store (stops s y row used) r store′) e
+  pub handed-accepts : (ready : Bool) (store′ : List ℕ) → accepts ≡ blockRule s row ready
+      → Handed s store (stops s accepts row used) r store′ → Handed s store (judged s row ready used) r store′
+  handed-accepts ready store′ e = subst (λ (y : Rule). Handed s store (stops s y row used) r store′) e
 
 -- ---- the rule of a row
 
-module _ (s : Receiver) (row : Bits) where
-  pub rule-sync : looksSync (s .setup .k) row ≡ true → sync-block ≡ blockRule s row
+module _ (s : Receiver) (row : Bits) (ready : Bool) where
+  pub rule-sync : looksSync (s .setup .k) row ≡ true → sync-block ≡ blockRule s row ready
   unfolding judge
   rule-sync e = sym (rw e)
 
-  pub rule-failed : looksSync (s .setup .k) row ≡ false → verdict row ≡ failed → check-fails ≡ blockRule s row
+  pub rule-failed : looksSync (s .setup .k) row ≡ false → verdict row ≡ failed → check-fails ≡ blockRule s row ready
   unfolding judge
   rule-failed e v = sym (rw (e, v))
 
   pub rule-passed : (service : ℕ) → looksSync (s .setup .k) row ≡ false → verdict row ≡ passed service
-      → serviceRule (s .setup .marks .«in_use») (s .setup .k) (s .taken) (s .ended) service (payloadOf (s .setup .k) row)
-      ≡ blockRule s row
+      → orWait ready (serviceRule (s .setup .marks .«in_use») (s .setup .k) (s .taken) (s .ended) service (payloadOf (s .setup .k) row))
+      ≡ blockRule s row ready
   unfolding judge
   rule-passed service e v = sym (rw (e, v))
 

@@ -1,5 +1,6 @@
 -- A receiving call in place is the call on the receiver of its head and array. Assumes nothing.
 use mathlib.Core.Path.{_≡_, sym, ap, _∙_}
+use mathlib.Core.Bool.{Bool}
 use mathlib.Core.List.{List}
 use Prim.Native.Nat.{ℕ}
 use borrow.Author.Tests.{eq-eqb, ne-eqb}
@@ -11,20 +12,20 @@ use Rattle.line.specs.Code.ReceiveSteps.{stepWith, turnedAway}
 use Rattle.line.specs.declared.head.Head.{Head}
 use Rattle.line.specs.declared.head.HeadStep.{HeadStep}
 
-module _ (h : Head) (array line : List ℕ) (count : ℕ) (store : List ℕ) where
+module _ (h : Head) (array line : List ℕ) (count : ℕ) (ready : Bool) (store : List ℕ) where
   pub another-length : (length array ≡ arrayBytes → ⊥) → (r : HeadStep) → r ≡ turnedAway h A.spoiled
-      → ReceiveInPlace h array line count store r array store
+      → ReceiveInPlace h array line count ready store r array store
   unfolding receiveInPlace
   another-length n r e =
       let t = ne-eqb (length array) arrayBytes n in
       record { answers = rw (e, t); state = rw (e, t); writes = rw t }
 
   module _ (n : length array ≡ arrayBytes) (r : HeadStep) (array′ store′ : List ℕ) where
-    same-call : receiveInPlace h array line count store ≡ receive (withArray h array) line count store
+    same-call : receiveInPlace h array line count ready store ≡ receive (withArray h array) line count ready store
     unfolding receiveInPlace
     same-call = rw (eq-eqb (length array) arrayBytes n)
 
-    pub in-place : Receive (withArray h array) line count store (stepWith r array′) store′ → ReceiveInPlace h array line count store r array′ store′
+    pub in-place : Receive (withArray h array) line count ready store (stepWith r array′) store′ → ReceiveInPlace h array line count ready store r array′ store′
     in-place p =
         record {
           answers = p .answers ∙ sym (ap reported same-call);
@@ -32,7 +33,7 @@ module _ (h : Head) (array line : List ℕ) (count : ℕ) (store : List ℕ) whe
           writes = p .writes ∙ sym (ap (receiveStore (withArray h array) store) same-call);
         }
 
-    pub by-value : ReceiveInPlace h array line count store r array′ store′ → Receive (withArray h array) line count store (stepWith r array′) store′
+    pub by-value : ReceiveInPlace h array line count ready store r array′ store′ → Receive (withArray h array) line count ready store (stepWith r array′) store′
     by-value p =
         record {
           answers = p .answers ∙ ap reported same-call;

@@ -1,5 +1,6 @@
 -- What is handed back in step: where the block stays unfinished, and where its last bit comes. Assumes nothing.
 use mathlib.Core.Path.{_≡_, refl, sym, ap, ap₂, _∙_, subst}
+use mathlib.Core.Bool.{Bool}
 use mathlib.Core.List.{List, [], _++_, append-assoc}
 use Prim.Native.Nat.{ℕ, _+_, _-_, _*_, _≤_, _<_}
 use native.Mathlib.Omega.{arith}
@@ -53,13 +54,13 @@ module _ (array : List ℕ) (new : Bits) (held : ℕ) (h : held + length new ≤
 abbrev pub held-on : Receiver → Bits → Reception
 held-on s new = record { rule = unfinished; row = []; used = length new; state = holding s new }
 
-module _ (s : Receiver) (new : Bits) where
-  pub step-on : length new < missing s → inStep s new ≡ held-on s new
+module _ (s : Receiver) (new : Bits) (ready : Bool) where
+  pub step-on : length new < missing s → inStep s new ready ≡ held-on s new
   unfolding inStep
   step-on h = rw (lt-ltb (length new) (missing s) h)
 
   -- ... or one is
-  pub step-done : missing s ≤ length new → inStep s new ≡ judged s (finishedRow s new) (missing s)
+  pub step-done : missing s ≤ length new → inStep s new ready ≡ judged s (finishedRow s new) ready (missing s)
   unfolding inStep
   step-done h = rw (le-ltb (length new) (missing s) h)
 
@@ -79,7 +80,7 @@ module _ (s : Receiver) (new : Bits) where
         }) E.None n
 
     pub in-step-more : (array : List ℕ) (n : ℕ) → array ≡ bytesOf arrayBytes (overwrite (s .held) new (bitsOf (s .bits))) → n ≡ length new
-        → n < missing s → Handed s store (inStep s new) (held-with array n) store
+        → n < missing s → Handed s store (inStep s new ready) (held-with array n) store
     in-step-more array n e l h =
         subst (λ (x : Reception). Handed s store x (held-with array n) store) (sym (step-on (subst (λ (k : ℕ). k < missing s) l h)))
         (subst (λ (r : Step). Handed s store (held-on s new) r store) (sym (ap₂ held-with e l)) (handed-plain s store (held-on s new) refl))
@@ -89,13 +90,13 @@ module _ (s : Receiver) (line : List ℕ) where
   abbrev finished : ℕ → Bits
   finished rest = heldBits s ++ take rest (bitsOf line)
 
-  pub in-step-done : (count : ℕ) → count ≤ 8 * length line → missing s ≤ count
-      → judged s (finished (missing s)) (missing s) ≡ inStep s (take count (bitsOf line))
-  in-step-done count h l =
+  pub in-step-done : (count : ℕ) (ready : Bool) → count ≤ 8 * length line → missing s ≤ count
+      → judged s (finished (missing s)) ready (missing s) ≡ inStep s (take count (bitsOf line)) ready
+  in-step-done count ready h l =
       let new : Bits = take count (bitsOf line) in
       let n : length new ≡ count = length-take-le count (bitsOf line) (omega (arith, length-bitsOf line)) in
-      sym (step-done s new (omega arith)
-      ∙ ap (λ (x : Bits). judged s (heldBits s ++ x) (missing s)) (take-take (missing s) count (bitsOf line) l))
+      sym (step-done s new ready (omega arith)
+      ∙ ap (λ (x : Bits). judged s (heldBits s ++ x) ready (missing s)) (take-take (missing s) count (bitsOf line) l))
 
   module _ (rest : ℕ) (k : s .held + rest ≡ blockLength (s .setup .k)) where
     -- it stands whole in the line

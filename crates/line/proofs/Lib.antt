@@ -21,9 +21,12 @@ pub mod StorePlace
 pub mod BlockFinished
 pub mod InStepBits
 pub mod LineSearch
+pub mod OrWait
 pub mod ReceivingCall
+pub mod ReceptionCases
 pub mod KeptSetup
 pub mod InPlace
 pub mod Delivery
+pub mod Readiness
 pub mod Pieces
 pub mod Examples

@@ -16,10 +16,10 @@ use Rattle.line.proofs.Pieces.Calls.{Full, outcome, rowAnswer, receive-
 
 pub pieces : Pieces
 unfolding Pieces
-pieces s store whole first further array held counts bits =
-    ap (outcome s store) (receive-row s store whole full ∙ ap (rowAnswer s store) bits)
-    ∙ next-calls s store array further (lent first) (parts .1)
-    ∙ ap (λ (y : Outcome). nextCalls y further) (ap (outcome s store) (sym (receive-row s store first (parts .0))))
+pieces s ready store whole first further array held counts bits =
+    ap (outcome s store) (receive-row s ready store whole full ∙ ap (rowAnswer s ready store) bits)
+    ∙ next-calls s ready store array further (lent first) (parts .1)
+    ∙ ap (λ (y : Outcome). nextCalls y ready further) (ap (outcome s store) (sym (receive-row s ready store first (parts .0))))
   where
     full : Full whole
     full =

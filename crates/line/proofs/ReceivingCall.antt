@@ -75,18 +75,18 @@ idle-stores P.InStep = refl
 idle-stores P.SequenceAlarm = refl
 idle-stores P.LengthAlarm = refl
 
-module _ (s : Receiver) (store : List ℕ) (new : Bits) (count : ℕ) where
-  pub handed-idle : count ≡ 0 → (r : Step) → r ≡ handedBack (idle s) → Handed s store (reception s new count) r store
+module _ (s : Receiver) (store : List ℕ) (new : Bits) (count : ℕ) (ready : Bool) where
+  pub handed-idle : count ≡ 0 → (r : Step) → r ≡ handedBack (idle s) → Handed s store (reception s new count ready) r store
   unfolding reception
   handed-idle e r h = rw (eq-eqb count 0 e, h) (handed-plain s store (idle s) (idle-stores (s .phase)))
 
   module _ (n : count ≡ 0 → ⊥) where
-    pub reception-some : (p : Phase) → s .phase ≡ p → byPhase s p new ≡ reception s new count
+    pub reception-some : (p : Phase) → s .phase ≡ p → byPhase s p new ready ≡ reception s new count ready
     unfolding reception
     reception-some p e = sym (rw (ne-eqb count 0 n, e))
 
-    pub handed-by : (p : Phase) → s .phase ≡ p → (r : Step) (store′ : List ℕ) → Handed s store (byPhase s p new) r store′
-        → Handed s store (reception s new count) r store′
+    pub handed-by : (p : Phase) → s .phase ≡ p → (r : Step) (store′ : List ℕ) → Handed s store (byPhase s p new ready) r store′
+        → Handed s store (reception s new count ready) r store′
     handed-by p e r store′ h = subst (λ (x : Reception). Handed s store x r store′) (reception-some p e) h
 
 -- a search
@@ -106,8 +106,8 @@ handed-under-alarm s store alarm count n e r h =
 
 -- ---- the call
 
-module _ (s : Receiver) (line : List ℕ) (count : ℕ) (store : List ℕ) where
-  refuses : (n : ℕ) → receive s line count store ≡ refused n → Receive s line count store (record { state = s; answer = R.Refused n }) store
+module _ (s : Receiver) (line : List ℕ) (count : ℕ) (ready : Bool) (store : List ℕ) where
+  refuses : (n : ℕ) → receive s line count ready store ≡ refused n → Receive s line count ready store (record { state = s; answer = R.Refused n }) store
   refuses n e =
       record {
         answers = ap reported (sym e);
@@ -115,22 +115,22 @@ module _ (s : Receiver) (line : List ℕ) (count : ℕ) (store : List ℕ) where
         writes = ap (receiveStore s store) (sym e);
       }
 
-  pub refuses-spoiled : receiverInRange s ≡ false → Receive s line count store (record { state = s; answer = R.Refused A.spoiled }) store
+  pub refuses-spoiled : receiverInRange s ≡ false → Receive s line count ready store (record { state = s; answer = R.Refused A.spoiled }) store
   unfolding receive
   refuses-spoiled e = refuses A.spoiled (rw e)
 
   module _ (e : receiverInRange s ≡ true) where
-    pub refuses-short : tooShort line count ≡ true → Receive s line count store (record { state = s; answer = R.Refused A.short }) store
+    pub refuses-short : tooShort line count ≡ true → Receive s line count ready store (record { state = s; answer = R.Refused A.short }) store
     unfolding receive
     refuses-short t = refuses A.short (rw (e, t))
 
     module _ (t : tooShort line count ≡ false) where
-      goes : judgeStore s store (reception s (take count (bitsOf line)) count) ≡ receive s line count store
+      goes : judgeStore s store (reception s (take count (bitsOf line)) count ready) ≡ receive s line count ready store
       unfolding receive
       goes = sym (rw (e, t))
 
-      pub receives : (r : Step) (store′ : List ℕ) → Handed s store (reception s (take count (bitsOf line)) count) r store′
-          → Receive s line count store r store′
+      pub receives : (r : Step) (store′ : List ℕ) → Handed s store (reception s (take count (bitsOf line)) count ready) r store′
+          → Receive s line count ready store r store′
       receives r store′ h =
           record {
             answers = h .answers ∙ ap reported goes;

@@ -16,10 +16,11 @@ use Rattle.line.specs.declared.receiver.Receiver.{Receiver}
 use Rattle.line.specs.declared.receiver.Step as ReceiverStep
 
 -- A call with its own arguments, the lent slices included. A sending call: the order, the reading, the slice for the
--- block, and the copy of its block's bits that reaches the machine. A receiving call: the line, the number of bits, the store.
+-- block, and the copy of its block's bits that reaches the machine. A receiving call: the line, the number of bits, whether
+-- the machine is ready, the store.
 pub data Call : Type 0 where
   sending : (order : List ℕ) (reading : Bool) (slice : List ℕ) (arrives : Bits) → Call
-  receiving : (line : List ℕ) (count : ℕ) (store : List ℕ) → Call
+  receiving : (line : List ℕ) (count : ℕ) (ready : Bool) (store : List ℕ) → Call
 
 -- ---- the course: what the definitions give, from the openings on
 
@@ -131,12 +132,12 @@ receiveAfter w store (done x) =
 
 abbrev pub entry : World → Call → Entry
 entry w (sending order reading slice arrives) = sendEntry w order reading arrives (send (w .sender) order reading slice)
-entry w (receiving line count store) =
-    receiveEntry w (take count (bitsOf line)) store (receive (w .receiver) line count store)
+entry w (receiving line count ready store) =
+    receiveEntry w (take count (bitsOf line)) store (receive (w .receiver) line count ready store)
 
 abbrev pub next : World → Call → World
 next w (sending order reading slice arrives) = sendAfter w reading arrives (send (w .sender) order reading slice)
-next w (receiving line count store) = receiveAfter w store (receive (w .receiver) line count store)
+next w (receiving line count ready store) = receiveAfter w store (receive (w .receiver) line count ready store)
 
 abbrev pub course : World → List Call → List Entry
 course w [] = []
@@ -156,8 +157,8 @@ abbrev pub result : World → Call → Result
 result w (sending order reading slice arrives) =
     let answer : Answer Block = send (w .sender) order reading slice in
     Result.sender answer (sendState (w .sender) reading answer) (sendBytes (w .sender) order slice answer)
-result w (receiving line count store) =
-    let answer : Answer Reception = receive (w .receiver) line count store in
+result w (receiving line count ready store) =
+    let answer : Answer Reception = receive (w .receiver) line count ready store in
     Result.receiver (reported answer) (receiveState (w .receiver) answer) (receiveStore (w .receiver) store answer)
 
 abbrev pub results : World → List Call → List Result
@@ -170,9 +171,9 @@ pub data Run : Sender → Receiver → List Call → Type 0 where
   sends : {s : Sender} {r : Receiver} {order : List ℕ} {reading : Bool} {slice : List ℕ} {arrives : Bits} {calls : List Call}
       → (step : SenderStep.Step) (slice′ : List ℕ) → Send s order reading slice step slice′
       → Run (step .state) r calls → Run s r (sending order reading slice arrives ∷ calls)
-  receives : {s : Sender} {r : Receiver} {line : List ℕ} {count : ℕ} {store : List ℕ} {calls : List Call}
-      → (step : ReceiverStep.Step) (store′ : List ℕ) → Receive r line count store step store′
-      → Run s (step .state) calls → Run s r (receiving line count store ∷ calls)
+  receives : {s : Sender} {r : Receiver} {line : List ℕ} {count : ℕ} {ready : Bool} {store : List ℕ} {calls : List Call}
+      → (step : ReceiverStep.Step) (store′ : List ℕ) → Receive r line count ready store step store′
+      → Run s (step .state) calls → Run s r (receiving line count ready store ∷ calls)
 
 abbrev pub observed : {s : Sender} {r : Receiver} {calls : List Call} → Run s r calls → List Result
 observed none = []

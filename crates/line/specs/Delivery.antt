@@ -14,7 +14,7 @@ use Rattle.block.specs.Lengths.{blockLength}
 use Rattle.line.specs.Marks.{marksOf}
 use Rattle.line.specs.Order.{itemCount, filled, orderBits}
 use Rattle.line.specs.Sending.{Block, synchronising, item, OpenSender, gaveUp}
-use Rattle.line.specs.Receiving.{meaning, EventKind, eventKind, withLength, OpenReceiver}
+use Rattle.line.specs.Receiving.{Rule, meaning, EventKind, eventKind, withLength, OpenReceiver}
 use Rattle.line.specs.Course.{Call, World, opened, Sent, Heard, Entry, send-refused, receive-refused, sent, heard, onSent, onHeard, course, final, Result, results, Run, observed}
 use Rattle.line.specs.declared.marks.CodeSize.{CodeSize}
 use Rattle.line.specs.declared.sender.Sender.{Sender}
@@ -75,13 +75,21 @@ abbrev pub isItem : Block → Bool
 isItem synchronising = false
 isItem (item i end used cancel) = true
 
+-- read in step with a passing check, and not made to wait
+abbrev pub readGood : Rule → Bool
+readGood rule = meaning rule .checked && not (eventKind (meaning rule .event) .wait)
+
 -- "lost": a request is lost if the return bit is 1 and a used reading is 0
 abbrev pub isLost : Entry → Bool
 isLost = onSent false (λ x. isUsed (x .block) && x .back && not (x .reading))
 
--- "a good block": sent as data or end and read in step with a passing check
+-- "wait"
+abbrev pub isWait : Entry → Bool
+isWait = onHeard false (λ y. kindOf y .wait)
+
+-- "a good block": sent as data or end and read in step with a passing check; a waiting block is none
 abbrev pub isGood : Entry → Bool
-isGood = onHeard false (λ y. isItem (y .block) && meaning (y .rule) .checked)
+isGood = onHeard false (λ y. isItem (y .block) && readGood (y .rule))
 
 -- ---- what is supposed
 
@@ -152,11 +160,12 @@ group (e ∷ es) = grouped e (group es)
 abbrev pub usedBits : List Entry → ℕ
 usedBits = sum (onHeard 0 (λ y. y .used))
 
--- "undisturbed": all n bits arrive as sent, and the reading equals the return bit then standing
+-- "undisturbed": all n bits arrive as sent, the reading equals the return bit then standing, and no block waits
 pub record Undisturbed (k : ℕ) (p : Period) : Type 0 where
   pub reading : p .start .reading ≡ p .start .back
   pub as-sent : p .start .arrives ≡ p .start .bits
   pub all-used : usedBits (p .calls) ≡ blockLength k
+  pub no-wait : some isWait (p .calls) ≡ false
 
 abbrev pub brings : (Entry → Bool) → List Period → Bool
 brings f = some (λ p. some f (p .calls))

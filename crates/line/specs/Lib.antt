@@ -8,6 +8,7 @@ pub mod Sending
 pub mod SendCalls
 pub mod Receiving
 pub mod WithoutMarks
+pub mod Readiness
 pub mod ReceivingInPlace
 pub mod Pieces
 pub mod Course

@@ -1,7 +1,7 @@
 -- A receiving call may be lent its bits in pieces, across a block's end too: the calls come to what one call comes to that
--- is lent all of them. Assumes nothing.
+-- is lent all of them, the machine being ready at all of these calls or at none. Assumes nothing.
 use mathlib.Core.Path.{_≡_}
-use mathlib.Core.Bool.{false, cond}
+use mathlib.Core.Bool.{Bool, false, cond}
 use mathlib.Core.List.{List, [], _∷_, _++_}
 use Prim.Native.Nat.{ℕ, _+_}
 use lib.ListN.{length, take}
@@ -32,9 +32,9 @@ pub record Outcome : Type 0 where
   pub answer : Answer Reception
   pub store : List ℕ
 
-abbrev pub call : Receiver → List ℕ → Piece → Outcome
-call s store p =
-    let answer = receive s (p .line) (p .count) store in
+abbrev pub call : Receiver → Bool → List ℕ → Piece → Outcome
+call s ready store p =
+    let answer = receive s (p .line) (p .count) ready store in
     record { answer = answer; store = receiveStore s store answer }
 
 -- the bits used counted with those of the calls before
@@ -46,20 +46,21 @@ addUsedIfDone before (refused n) = refused n
 addUsedIfDone before (done x) = done (addUsed before x)
 
 -- the next call is made if all bits were used, and is given the state and the store as they were left
-abbrev pub nextCall : Answer Reception → List ℕ → Piece → Outcome
-nextCall (refused n) store p = record { answer = refused n; store = store }
-nextCall (done x) store p =
-    let next = call (x .state) store p in
+abbrev pub nextCall : Answer Reception → Bool → List ℕ → Piece → Outcome
+nextCall (refused n) ready store p = record { answer = refused n; store = store }
+nextCall (done x) ready store p =
+    let next = call (x .state) ready store p in
     cond (meaning (x .rule) .uses-all) (record { answer = addUsedIfDone (x .used) (next .answer); store = next .store })
     (record { answer = done x; store = store })
 
-abbrev pub nextCalls : Outcome → List Piece → Outcome
-nextCalls y [] = y
-nextCalls y (p ∷ ps) = nextCalls (nextCall (y .answer) (y .store) p) ps
+abbrev pub nextCalls : Outcome → Bool → List Piece → Outcome
+nextCalls y ready [] = y
+nextCalls y ready (p ∷ ps) = nextCalls (nextCall (y .answer) ready (y .store) p) ready ps
 
--- However a call's bits are divided among calls, none missing; a receiver's array has its length by its type.
+-- However a call's bits are divided among calls that share its readiness, none missing; a receiver's array has its length by
+-- its type.
 unfoldable pub Pieces : Type 0
 Pieces =
-    (s : Receiver) (store : List ℕ) (whole first : Piece) (further : List Piece) → length (s .bits) ≡ arrayBytes
+    (s : Receiver) (ready : Bool) (store : List ℕ) (whole first : Piece) (further : List Piece) → length (s .bits) ≡ arrayBytes
     → tooShort (whole .line) (whole .count) ≡ false → whole .count ≡ total (first ∷ further)
-    → lent whole ≡ joined (first ∷ further) → call s store whole ≡ nextCalls (call s store first) further
+    → lent whole ≡ joined (first ∷ further) → call s ready store whole ≡ nextCalls (call s ready store first) ready further

@@ -88,6 +88,7 @@ pub data Rule : Type 0 where
   wrong-length : Rule  -- rule 6, the length alarm
   ends-again : Rule  -- rule 6, the end already taken
   anything-else : Rule  -- rule 7
+  waits : Rule  -- rule 3 or rule 6 would take the block, and the machine is not ready
 
 -- what a rule comes to
 pub record Meaning : Type 0 where
@@ -114,22 +115,25 @@ meaning (ends L) = meant (E.Ended L) false false true true
 meaning wrong-length = meant E.LengthAlarm false false true true
 meaning ends-again = meant E.Previous false false true true
 meaning anything-else = meant E.Bad false false false true
+meaning waits = meant E.Wait false false true true
 
--- what an event says: a new block, an alarm, the end with its length
+-- what an event says: a new block, a wait, an alarm, the end with its length
 pub record EventKind : Type 0 where
   pub new : Bool
+  pub wait : Bool
   pub alarm : Bool
   pub length : Option ℕ
 
 abbrev pub eventKind : Event → EventKind
-eventKind E.None = record { new = false; alarm = false; length = none }
-eventKind E.Sync = record { new = false; alarm = false; length = none }
-eventKind E.Bad = record { new = false; alarm = false; length = none }
-eventKind E.Accepted = record { new = true; alarm = false; length = none }
-eventKind E.Previous = record { new = false; alarm = false; length = none }
-eventKind E.SequenceAlarm = record { new = false; alarm = true; length = none }
-eventKind E.LengthAlarm = record { new = false; alarm = true; length = none }
-eventKind (E.Ended L) = record { new = false; alarm = false; length = some L }
+eventKind E.None = record { new = false; wait = false; alarm = false; length = none }
+eventKind E.Sync = record { new = false; wait = false; alarm = false; length = none }
+eventKind E.Bad = record { new = false; wait = false; alarm = false; length = none }
+eventKind E.Accepted = record { new = true; wait = false; alarm = false; length = none }
+eventKind E.Previous = record { new = false; wait = false; alarm = false; length = none }
+eventKind E.SequenceAlarm = record { new = false; wait = false; alarm = true; length = none }
+eventKind E.LengthAlarm = record { new = false; wait = false; alarm = true; length = none }
+eventKind (E.Ended L) = record { new = false; wait = false; alarm = false; length = some L }
+eventKind E.Wait = record { new = false; wait = true; alarm = false; length = none }
 
 -- `f` of the end's length; without the end, `other`
 abbrev pub withLength : {A : Type 0} → A → (ℕ → A) → Option ℕ → A
@@ -199,6 +203,23 @@ looksSync k row =
 unfoldable pub judge : Bool → ℕ → ℕ → Bool → Bits → Rule
 judge in-use k r ended row = cond (looksSync k row) sync-block (verdictRule in-use k r ended row (verdict row))
 
+-- ---- after the judging, the machine's readiness: a block that would be accepted or ended waits where it is not ready
+
+abbrev pub orWait : Bool → Rule → Rule
+orWait ready unfinished = unfinished
+orWait ready (standing alarm) = standing alarm
+orWait ready sequence-found = sequence-found
+orWait ready sync-block = sync-block
+orWait ready check-fails = check-fails
+orWait ready accepts = cond ready accepts waits
+orWait ready previous = previous
+orWait ready out-of-sequence = out-of-sequence
+orWait ready (ends L) = cond ready (ends L) waits
+orWait ready wrong-length = wrong-length
+orWait ready ends-again = ends-again
+orWait ready anything-else = anything-else
+orWait ready waits = waits
+
 -- ---- the state after an event: nothing held
 
 abbrev pub blank : Receiver → ℕ → Bool → ℕ → Bool → Phase → Receiver
@@ -228,6 +249,10 @@ afterBad s search =
     cond search (blank s 0 true (s .taken) (s .ended) P.Search)
     (blank s (s .«bad_row» + 1) true (s .taken) (s .ended) P.InStep)
 
+-- in step with return 1, the bad row cleared
+abbrev pub afterWait : Receiver → Receiver
+afterWait s = blank s 0 true (s .taken) (s .ended) P.InStep
+
 abbrev pub alarmed : Receiver → Phase → Receiver
 alarmed s alarm = blank s 0 true (s .taken) (s .ended) alarm
 
@@ -244,6 +269,7 @@ after s (ends L) = afterGood s (s .taken) true
 after s wrong-length = alarmed s P.LengthAlarm
 after s ends-again = afterGood s (s .taken) (s .ended)
 after s anything-else = afterBad s (leb lastBad (s .«bad_row» + 1) || eqb (s .taken) 0)
+after s waits = afterWait s
 
 -- ---- the bits of a call, up to the next event or to the last
 
@@ -307,18 +333,18 @@ holding s new =
 abbrev pub missing : Receiver → ℕ
 missing s = blockLength (s .setup .k) - s .held
 
--- the rule of a finished block
-abbrev pub blockRule : Receiver → Bits → Rule
-blockRule s row = judge (s .setup .marks .«in_use») (s .setup .k) (s .taken) (s .ended) row
+-- the rule of a finished block, and whether the machine is ready at its last bit
+abbrev pub blockRule : Receiver → Bits → Bool → Rule
+blockRule s row ready = orWait ready (judge (s .setup .marks .«in_use») (s .setup .k) (s .taken) (s .ended) row)
 
 abbrev pub finishedRow : Receiver → Bits → Bits
 finishedRow s new = heldBits s ++ take (missing s) new
 
-unfoldable pub inStep : Receiver → Bits → Reception
-inStep s new =
+unfoldable pub inStep : Receiver → Bits → Bool → Reception
+inStep s new ready =
     cond (ltb (length new) (missing s))
     (record { rule = unfinished; row = []; used = length new; state = holding s new })
-    (stops s (blockRule s (finishedRow s new)) (finishedRow s new) (missing s))
+    (stops s (blockRule s (finishedRow s new) ready) (finishedRow s new) (missing s))
 
 -- A standing alarm: return 1, the bad row cleared, all bits used.
 abbrev pub underAlarm : Receiver → Receiver
@@ -337,11 +363,11 @@ underAlarm s =
 abbrev pub alarmReception : Receiver → Event → ℕ → Reception
 alarmReception s alarm used = record { rule = standing alarm; row = []; used = used; state = underAlarm s }
 
-abbrev pub byPhase : Receiver → Phase → Bits → Reception
-byPhase s P.Search new = search s (heldBits s) new 0
-byPhase s P.InStep new = inStep s new
-byPhase s P.SequenceAlarm new = alarmReception s E.SequenceAlarm (length new)
-byPhase s P.LengthAlarm new = alarmReception s E.LengthAlarm (length new)
+abbrev pub byPhase : Receiver → Phase → Bits → Bool → Reception
+byPhase s P.Search new ready = search s (heldBits s) new 0
+byPhase s P.InStep new ready = inStep s new ready
+byPhase s P.SequenceAlarm new ready = alarmReception s E.SequenceAlarm (length new)
+byPhase s P.LengthAlarm new ready = alarmReception s E.LengthAlarm (length new)
 
 -- 0 bits: nothing changed, but a standing alarm is reported
 abbrev pub idleRule : Phase → Rule
@@ -353,8 +379,8 @@ idleRule P.LengthAlarm = standing E.LengthAlarm
 abbrev pub idle : Receiver → Reception
 idle s = record { rule = idleRule (s .phase); row = []; used = 0; state = s }
 
-unfoldable pub reception : Receiver → Bits → ℕ → Reception
-reception s new count = cond (eqb count 0) (idle s) (byPhase s (s .phase) new)
+unfoldable pub reception : Receiver → Bits → ℕ → Bool → Reception
+reception s new count ready = cond (eqb count 0) (idle s) (byPhase s (s .phase) new ready)
 
 -- ---- a receiving call: 7, then 6
 
@@ -376,10 +402,10 @@ abbrev pub judgeStore : Receiver → List ℕ → Reception → Answer Reception
 judgeStore s store x =
     refuseIf (meaning (x .rule) .stores && tooShort store (s .taken * s .setup .k + s .setup .k)) A.short (done x)
 
-unfoldable pub receive : Receiver → List ℕ → ℕ → List ℕ → Answer Reception
-receive s line count store =
+unfoldable pub receive : Receiver → List ℕ → ℕ → Bool → List ℕ → Answer Reception
+receive s line count ready store =
     refuseIf (not (receiverInRange s)) A.spoiled
-    (refuseIf (tooShort line count) A.short (judgeStore s store (reception s (take count (bitsOf line)) count)))
+    (refuseIf (tooShort line count) A.short (judgeStore s store (reception s (take count (bitsOf line)) count ready)))
 
 abbrev pub receiveState : Receiver → Answer Reception → Receiver
 receiveState s (refused n) = s
@@ -407,7 +433,7 @@ abbrev pub receivedAnswer : Received → Answer Report
 receivedAnswer (R.Used event used) = done (record { event = event; used = used })
 receivedAnswer (R.Refused n) = refused n
 
-pub record Receive (s : Receiver) (line : List ℕ) (count : ℕ) (store : List ℕ) (result : Step) (store′ : List ℕ) : Type 0 where
-  pub answers : receivedAnswer (result .answer) ≡ reported (receive s line count store)
-  pub state : result .state ≡ receiveState s (receive s line count store)
-  pub writes : store′ ≡ receiveStore s store (receive s line count store)
+pub record Receive (s : Receiver) (line : List ℕ) (count : ℕ) (ready : Bool) (store : List ℕ) (result : Step) (store′ : List ℕ) : Type 0 where
+  pub answers : receivedAnswer (result .answer) ≡ reported (receive s line count ready store)
+  pub state : result .state ≡ receiveState s (receive s line count ready store)
+  pub writes : store′ ≡ receiveStore s store (receive s line count ready store)

@@ -1,6 +1,6 @@
 -- A receiving call on a state in two parts: its array lent, its other fields, the head, by value. Assumes nothing.
 use mathlib.Core.Path.{_≡_}
-use mathlib.Core.Bool.{not}
+use mathlib.Core.Bool.{Bool, not}
 use mathlib.Core.List.{List}
 use Prim.Native.Nat.{ℕ}
 use lib.Dec.{eqb}
@@ -27,13 +27,13 @@ withArray h array =
     }
 
 -- an array of another length is no receiver's: spoiled
-unfoldable pub receiveInPlace : Head → List ℕ → List ℕ → ℕ → List ℕ → Answer Reception
-receiveInPlace h array line count store =
-    refuseIf (not (eqb (length array) arrayBytes)) A.spoiled (receive (withArray h array) line count store)
+unfoldable pub receiveInPlace : Head → List ℕ → List ℕ → ℕ → Bool → List ℕ → Answer Reception
+receiveInPlace h array line count ready store =
+    refuseIf (not (eqb (length array) arrayBytes)) A.spoiled (receive (withArray h array) line count ready store)
 
 pub record ReceiveInPlace
-    (h : Head) (array line : List ℕ) (count : ℕ) (store : List ℕ) (result : HeadStep) (array′ store′ : List ℕ)
+    (h : Head) (array line : List ℕ) (count : ℕ) (ready : Bool) (store : List ℕ) (result : HeadStep) (array′ store′ : List ℕ)
     : Type 0 where
-  pub answers : receivedAnswer (result .answer) ≡ reported (receiveInPlace h array line count store)
-  pub state : withArray (result .head) array′ ≡ receiveState (withArray h array) (receiveInPlace h array line count store)
-  pub writes : store′ ≡ receiveStore (withArray h array) store (receiveInPlace h array line count store)
+  pub answers : receivedAnswer (result .answer) ≡ reported (receiveInPlace h array line count ready store)
+  pub state : withArray (result .head) array′ ≡ receiveState (withArray h array) (receiveInPlace h array line count ready store)
+  pub writes : store′ ≡ receiveStore (withArray h array) store (receiveInPlace h array line count ready store)

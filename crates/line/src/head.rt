@@ -142,7 +142,7 @@ impl Head {
         next.after(array, event, used)
     }
 
-    // With return 1, the bad row cleared: an alarm, or a search's start.
+    // With return 1, the bad row cleared: an alarm, a search's start, or a wait.
     fn return_one(self, array: &mut [u8], phase: Phase, event: Event, used: usize) -> HeadStep
         requires { ⌜ length (now array) ≡ arrayBytes ⌝ }
         ensures { λ r. ⌜ stepWith r (now (array .exit)) ≡ stepped (S.alarmed (withArray self (now (array .entry))) phase) event used ⌝ }
@@ -204,6 +204,7 @@ impl Head {
             ),
             Rule::EndsAgain => self.after_good(array, taken, ended, Event::Previous, used),
             Rule::AnythingElse => self.after_bad(array, taken == 0, used),
+            Rule::Waits => self.return_one(array, Phase::InStep, Event::Wait, used),
         }
     }
 
@@ -227,10 +228,17 @@ impl Head {
         self.stop(array, Rule::Accepts, used)
     }
 
-    // A finished block by the rules in their order: rule 1, the check, then the rules of a block that passes.
-    fn judge(self, array: &mut [u8], row: &[u8], used: usize, store: &mut [u8]) -> HeadStep
+    // A finished block by the rules in their order: rule 1, the check, then the rules of a block that passes, which may wait.
+    fn judge(
+        self,
+        array: &mut [u8],
+        row: &[u8],
+        used: usize,
+        ready: bool,
+        store: &mut [u8],
+    ) -> HeadStep
         requires { ⌜ FinishedBlock self (now array) (now row) ⌝ }
-        ensures { λ r. ⌜ Handed (withArray self (now (array .entry))) (now (store .entry)) (judged (withArray self (now (array .entry))) (take (blockLength (self .setup .k)) (bitsOf (now (row .entry)))) used) (stepWith r (now (array .exit))) (now (store .exit)) ⌝ }
+        ensures { λ r. ⌜ Handed (withArray self (now (array .entry))) (now (store .entry)) (judged (withArray self (now (array .entry))) (take (blockLength (self .setup .k)) (bitsOf (now (row .entry)))) ready used) (stepWith r (now (array .exit))) (now (store .exit)) ⌝ }
     {
         let k = self.setup.k;
         let taken = self.taken;
@@ -242,7 +250,8 @@ impl Head {
         let Read::Passed(service) = answer else {
             return self.after_bad(array, false, used);
         };
-        let rule = service_rule(self.setup.marks.in_use, k, taken, ended, service, row);
+        let judged = service_rule(self.setup.marks.in_use, k, taken, ended, service, row);
+        let rule = judged.or_wait(ready);
         match rule {
             Rule::Accepts => {
                 if !self.has_room(store) {
@@ -256,27 +265,41 @@ impl Head {
 
     // The block's last bits have come. A block that stands whole in the line is judged there; and the array stays as it
     // is where the store is refused, so the others are finished in a copy.
-    fn finish(self, array: &mut [u8], line: &[u8], missing: usize, store: &mut [u8]) -> HeadStep
+    fn finish(
+        self,
+        array: &mut [u8],
+        line: &[u8],
+        missing: usize,
+        ready: bool,
+        store: &mut [u8],
+    ) -> HeadStep
         requires { ⌜ (ReadyHead self (now array)) × (self .held + missing ≡ blockLength (self .setup .k)) × (missing ≤ 8 * length (now line)) ⌝ }
-        ensures { λ r. ⌜ Handed (withArray self (now (array .entry))) (now (store .entry)) (judged (withArray self (now (array .entry))) (S.heldBits (withArray self (now (array .entry))) ++ take missing (bitsOf (now (line .entry)))) missing) (stepWith r (now (array .exit))) (now (store .exit)) ⌝ }
+        ensures { λ r. ⌜ Handed (withArray self (now (array .entry))) (now (store .entry)) (judged (withArray self (now (array .entry))) (S.heldBits (withArray self (now (array .entry))) ++ take missing (bitsOf (now (line .entry)))) ready missing) (stepWith r (now (array .exit))) (now (store .exit)) ⌝ }
     {
         if self.held == 0 {
-            return self.judge(array, line, missing, store);
+            return self.judge(array, line, missing, ready, store);
         }
         let mut row = copied(array);
         put_bits(&mut row, self.held, line, missing);
-        self.judge(array, &row, missing, store)
+        self.judge(array, &row, missing, ready, store)
     }
 
     // In step: the bits up to the block's end, or to the last.
-    fn in_step(self, array: &mut [u8], line: &[u8], bits: usize, store: &mut [u8]) -> HeadStep
+    fn in_step(
+        self,
+        array: &mut [u8],
+        line: &[u8],
+        bits: usize,
+        ready: bool,
+        store: &mut [u8],
+    ) -> HeadStep
         requires { ⌜ (ReadyHead self (now array)) × (self .held < blockLength (self .setup .k)) × (bits ≤ 8 * length (now line)) ⌝ }
-        ensures { λ r. ⌜ Handed (withArray self (now (array .entry))) (now (store .entry)) (S.inStep (withArray self (now (array .entry))) (take bits (bitsOf (now (line .entry))))) (stepWith r (now (array .exit))) (now (store .exit)) ⌝ }
+        ensures { λ r. ⌜ Handed (withArray self (now (array .entry))) (now (store .entry)) (S.inStep (withArray self (now (array .entry))) (take bits (bitsOf (now (line .entry)))) ready) (stepWith r (now (array .exit))) (now (store .exit)) ⌝ }
     {
         let held = self.held;
         let missing = self.setup.k + OVERHEAD - held;
         if missing <= bits {
-            return self.finish(array, line, missing, store);
+            return self.finish(array, line, missing, ready, store);
         }
         put_bits(array, held, line, bits);
         HeadStep {
@@ -361,9 +384,16 @@ impl Head {
     }
 
     // The bits of a line up to the next event, or to the last.
-    fn read(self, array: &mut [u8], line: &[u8], bits: usize, store: &mut [u8]) -> HeadStep
+    fn read(
+        self,
+        array: &mut [u8],
+        line: &[u8],
+        bits: usize,
+        ready: bool,
+        store: &mut [u8],
+    ) -> HeadStep
         requires { ⌜ (length (now array) ≡ arrayBytes) × (receiverInRange (withArray self (now array)) ≡ true) × (bits ≤ 8 * length (now line)) ⌝ }
-        ensures { λ r. ⌜ Handed (withArray self (now (array .entry))) (now (store .entry)) (S.reception (withArray self (now (array .entry))) (take bits (bitsOf (now (line .entry)))) bits) (stepWith r (now (array .exit))) (now (store .exit)) ⌝ }
+        ensures { λ r. ⌜ Handed (withArray self (now (array .entry))) (now (store .entry)) (S.reception (withArray self (now (array .entry))) (take bits (bitsOf (now (line .entry)))) bits ready) (stepWith r (now (array .exit))) (now (store .exit)) ⌝ }
     {
         if bits == 0 {
             return self.idle();
@@ -371,15 +401,23 @@ impl Head {
         let phase = self.phase;
         match phase {
             Phase::Search => self.search(array, line, bits),
-            Phase::InStep => self.in_step(array, line, bits, store),
+            Phase::InStep => self.in_step(array, line, bits, ready, store),
             Phase::SequenceAlarm => self.under_alarm(Event::SequenceAlarm, bits),
             Phase::LengthAlarm => self.under_alarm(Event::LengthAlarm, bits),
         }
     }
 
-    // The next event among these bits of a line, with the number of them used; an accepted block's data go to the store.
-    pub fn receive(self, array: &mut [u8], line: &[u8], bits: usize, store: &mut [u8]) -> HeadStep
-        ensures { λ r. ⌜ ReceiveInPlace self (now (array .entry)) (now (line .entry)) bits (now (store .entry)) r (now (array .exit)) (now (store .exit)) ⌝ }
+    // The next event among these bits of a line, with the number of them used; an accepted block's data go to the store. Where
+    // these bits complete a block, ready says whether the machine can take it.
+    pub fn receive(
+        self,
+        array: &mut [u8],
+        line: &[u8],
+        bits: usize,
+        ready: bool,
+        store: &mut [u8],
+    ) -> HeadStep
+        ensures { λ r. ⌜ ReceiveInPlace self (now (array .entry)) (now (line .entry)) bits ready (now (store .entry)) r (now (array .exit)) (now (store .exit)) ⌝ }
     {
         if array.len() != ARRAY_SIZE {
             return self.refused(block::SPOILED);
@@ -390,6 +428,6 @@ impl Head {
         if too_short(line, bits) {
             return self.refused(block::SHORT);
         }
-        self.read(array, line, bits, store)
+        self.read(array, line, bits, ready, store)
     }
 }

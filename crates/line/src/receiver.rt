@@ -104,12 +104,13 @@ impl Receiver {
         }
     }
 
-    // The next event among these bits of a line, with the number of them used; an accepted block's data go to the store.
-    pub fn receive(self, line: &[u8], bits: usize, store: &mut [u8]) -> Step
-        ensures { λ r. ⌜ Receive self (now (line .entry)) bits (now (store .entry)) r (now (store .exit)) ⌝ }
+    // The next event among these bits of a line, with the number of them used; an accepted block's data go to the store. Where
+    // these bits complete a block, ready says whether the machine can take it.
+    pub fn receive(self, line: &[u8], bits: usize, ready: bool, store: &mut [u8]) -> Step
+        ensures { λ r. ⌜ Receive self (now (line .entry)) bits ready (now (store .entry)) r (now (store .exit)) ⌝ }
     {
         let mut array = self.bits;
-        let step = self.head().receive(&mut array, line, bits, store);
+        let step = self.head().receive(&mut array, line, bits, ready, store);
         let answer = step.answer;
         let head = step.head;
         let setup = head.setup;

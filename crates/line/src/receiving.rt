@@ -28,6 +28,8 @@ pub enum Event {
     LengthAlarm,
     // With the order's length in bits.
     Ended(usize),
+    // The machine is not ready for a block that would be accepted or ended.
+    Wait,
 }
 
 pub enum Received {

@@ -8,7 +8,7 @@ ghost use Rattle.crc.specs.Bits.{number, bitsOf};
 ghost use Rattle.block.specs.Lengths.{isLength, blockLength};
 ghost use Rattle.block.specs.Block.{payloadOf};
 ghost use Rattle.line.specs.Order.{longestOrder, mostItems, isLetter};
-ghost use Rattle.line.specs.Receiving.{looksSync, isOf, place, placeRule, makesItems, endRule, markRule, serviceRule};
+ghost use Rattle.line.specs.Receiving.{orWait, looksSync, isOf, place, placeRule, makesItems, endRule, markRule, serviceRule};
 ghost use Rattle.line.specs.Code.ReceiveSteps.{ruleOf};
 use crate::marks::is_mark;
 use crate::order::END;
@@ -32,6 +32,23 @@ pub(crate) enum Rule {
     WrongLength,
     EndsAgain,
     AnythingElse,
+    // Accepts or Ends, and the machine is not ready.
+    Waits,
+}
+
+impl Rule {
+    // After the judging: what the machine's readiness makes of a rule.
+    pub(crate) fn or_wait(self, ready: bool) -> Rule
+        ensures { λ r. ⌜ ruleOf r ≡ orWait ready (ruleOf self) ⌝ }
+    {
+        if ready {
+            return self;
+        }
+        match self {
+            Rule::Accepts | Rule::Ends(_) => Rule::Waits,
+            _ => self,
+        }
+    }
 }
 
 // Rule 1: first four bits 0101, last sixteen the sequence.

@@ -49,13 +49,13 @@ module _ (w : World) (s : Sender) (e : w .sender ≡ s) (order : List ℕ) (read
   send-next : next w (sending order reading slice arrives) .sender ≡ step .state
   send-next = sender-sent w reading arrives (send (w .sender) order reading slice) ∙ rw (e, kept .state)
 
-module _ (w : World) (r : Receiver) (e : w .receiver ≡ r) (line : List ℕ) (count : ℕ) (store : List ℕ)
-    (step : ReceiverStep.Step) (store′ : List ℕ) (kept : Receive r line count store step store′) where
-  receive-result : Result.receiver (receivedAnswer (step .answer)) (step .state) store′ ≡ result w (receiving line count store)
+module _ (w : World) (r : Receiver) (e : w .receiver ≡ r) (line : List ℕ) (count : ℕ) (ready : Bool) (store : List ℕ)
+    (step : ReceiverStep.Step) (store′ : List ℕ) (kept : Receive r line count ready store step store′) where
+  receive-result : Result.receiver (receivedAnswer (step .answer)) (step .state) store′ ≡ result w (receiving line count ready store)
   receive-result = rw (e, kept .answers, kept .state, kept .writes)
 
-  receive-next : next w (receiving line count store) .receiver ≡ step .state
-  receive-next = receiver-heard w store (receive (w .receiver) line count store) ∙ rw (e, kept .state)
+  receive-next : next w (receiving line count ready store) .receiver ≡ step .state
+  receive-next = receiver-heard w store (receive (w .receiver) line count ready store) ∙ rw (e, kept .state)
 
 -- ---- the list
 
@@ -66,10 +66,10 @@ answers (sends {s = s} {order = order} {reading = reading} {slice = slice} {arri
     ap₂ _∷_ (send-result w s e order reading slice arrives step slice′ kept)
     (answers run (next w (sending order reading slice arrives)) (send-next w s e order reading slice arrives step slice′ kept)
     (receiver-sent w reading arrives (send (w .sender) order reading slice) ∙ f))
-answers (receives {r = r} {line = line} {count = count} {store = store} step store′ kept run) w e f =
-    ap₂ _∷_ (receive-result w r f line count store step store′ kept)
-    (answers run (next w (receiving line count store))
-    (sender-heard w store (receive (w .receiver) line count store) ∙ e) (receive-next w r f line count store step store′ kept))
+answers (receives {r = r} {line = line} {count = count} {ready = ready} {store = store} step store′ kept run) w e f =
+    ap₂ _∷_ (receive-result w r f line count ready store step store′ kept)
+    (answers run (next w (receiving line count ready store))
+    (sender-heard w store (receive (w .receiver) line count ready store) ∙ e) (receive-next w r f line count ready store step store′ kept))
 
 -- ---- every list of calls has such a run: the promises can be kept
 
@@ -99,7 +99,7 @@ runs s r (sending order reading slice arrives ∷ calls) =
     let a = send s order reading slice in
     sends (record { state = sendState s reading a; answer = sentOf a }) (sendBytes s order slice a)
     (record { answers = sent-of a; state = refl; writes = refl }) (runs (sendState s reading a) r calls)
-runs s r (receiving line count store ∷ calls) =
-    let a = receive r line count store in
+runs s r (receiving line count ready store ∷ calls) =
+    let a = receive r line count ready store in
     receives (record { state = receiveState r a; answer = receivedOf a }) (receiveStore r store a)
     (record { answers = received-of a; state = refl; writes = refl }) (runs s (receiveState r a) calls)

@@ -13,7 +13,7 @@ use Rattle.block.specs.Lengths.{isLength, blockLength}
 use Rattle.block.proofs.Lengths.{length-facts}
 use Rattle.line.specs.Marks.{marksInRange}
 use Rattle.line.specs.Order.{mostItems}
-use Rattle.line.specs.Receiving.{arrayBytes, lastBad, Rule, unfinished, standing, sequence-found, sync-block, check-fails, accepts, previous, out-of-sequence, ends, wrong-length, ends-again, anything-else, meaning, blockRule, after, heldBits, Reception, stops, holding, missing, inStep, reception, heldInRange, receiverInRange, judgeStore, receive, receiveState}
+use Rattle.line.specs.Receiving.{arrayBytes, lastBad, Rule, unfinished, standing, sequence-found, sync-block, check-fails, accepts, previous, out-of-sequence, ends, wrong-length, ends-again, anything-else, waits, meaning, blockRule, after, heldBits, Reception, stops, holding, missing, inStep, reception, heldInRange, receiverInRange, judgeStore, receive, receiveState}
 use Rattle.line.specs.declared.receiver.Receiver.{Receiver}
 use Rattle.line.specs.declared.receiving.Phase.{Phase}
 use Rattle.line.specs.declared.receiving.Phase.the-variants as P
@@ -22,10 +22,10 @@ use Rattle.line.proofs.Delivery.BlockRules.{Judged, as-sync, fails, as-
 use Rattle.line.proofs.Delivery.WrittenBits.{length-holding, heldBits-holding}
 
 -- one call for each bit, each given the state that the last handed back; the last call's answer
-abbrev pub bitByBit : Receiver → List ℕ → Bits → Answer Reception → Answer Reception
-bitByBit s store [] last = last
-bitByBit s store (b ∷ bs) last =
-    bitByBit (receiveState s (receive s (bytesOf 1 (b ∷ [])) 1 store)) store bs (receive s (bytesOf 1 (b ∷ [])) 1 store)
+abbrev pub bitByBit : Receiver → Bool → List ℕ → Bits → Answer Reception → Answer Reception
+bitByBit s ready store [] last = last
+bitByBit s ready store (b ∷ bs) last =
+    bitByBit (receiveState s (receive s (bytesOf 1 (b ∷ [])) 1 ready store)) ready store bs (receive s (bytesOf 1 (b ∷ [])) 1 ready store)
 
 -- in step, and so many bits of the block missing
 pub record Waiting (s : Receiver) (m : ℕ) : Type 0 where
@@ -53,19 +53,19 @@ unfolding bitsOf bytesOf binary number
 bit-lent true = refl
 bit-lent false = refl
 
-one-call : (s : Receiver) (b : Bool) (store : List ℕ) → receiverInRange s ≡ true → s .phase ≡ P.InStep
-    → receive s (bytesOf 1 (b ∷ [])) 1 store ≡ judgeStore s store (inStep s (b ∷ []))
+one-call : (s : Receiver) (b ready : Bool) (store : List ℕ) → receiverInRange s ≡ true → s .phase ≡ P.InStep
+    → receive s (bytesOf 1 (b ∷ [])) 1 ready store ≡ judgeStore s store (inStep s (b ∷ []) ready)
 unfolding receive reception
-one-call s b store range phase =
+one-call s b ready store range phase =
     rw (range, le-ltb (8 * length (bytesOf 1 (b ∷ []))) 1 (omega (arith, length-bytesOf 1 (b ∷ []))), bit-lent b, phase)
 
-module _ (s : Receiver) (b : Bool) where
+module _ (s : Receiver) (b ready : Bool) where
   abbrev oneMore : Reception
   oneMore = record { rule = unfinished; row = []; used = 1; state = holding s (b ∷ []) }
 
   -- not the block's last
   bit-held : (m : ℕ) → Waiting s (suc (suc m))
-      → inStep s (b ∷ []) ≡ oneMore
+      → inStep s (b ∷ []) ready ≡ oneMore
   unfolding inStep
   bit-held m w = rw (lt-ltb 1 (missing s) (omega (arith, w .held)))
 
@@ -83,7 +83,7 @@ module _ (s : Receiver) (b : Bool) where
 
   -- the block's last
   bit-last : Waiting s 1
-      → inStep s (b ∷ []) ≡ stops s (blockRule s (heldBits s ++ (b ∷ []))) (heldBits s ++ (b ∷ [])) 1
+      → inStep s (b ∷ []) ready ≡ stops s (blockRule s (heldBits s ++ (b ∷ [])) ready) (heldBits s ++ (b ∷ [])) 1
   unfolding inStep
   bit-last w = let one : missing s ≡ 1 = omega (arith, w .held) in rw one refl
 
@@ -106,29 +106,31 @@ after-holding s new {x} (as-data h) = data-or-end x h
     data-or-end wrong-length e = refl
     data-or-end ends-again e = refl
     data-or-end anything-else e = refl
+    data-or-end waits e = refl
 after-holding s new as-other = refl
 
 -- what the whole block comes to, at its last bit
-abbrev pub finished : Receiver → List ℕ → Bits → Answer Reception
-finished s store row = judgeStore s store (stops s (blockRule s row) row 1)
+abbrev pub finished : Receiver → Bool → List ℕ → Bits → Answer Reception
+finished s ready store row = judgeStore s store (stops s (blockRule s row ready) row 1)
 
-finished-holding : (s : Receiver) (store : List ℕ) (new row row′ : Bits) → row ≡ row′ → finished (holding s new) store row ≡ finished s store row′
-finished-holding s store new row row′ e =
-    ap (finished (holding s new) store) e
+finished-holding : (s : Receiver) (ready : Bool) (store : List ℕ) (new row row′ : Bits) → row ≡ row′
+    → finished (holding s new) ready store row ≡ finished s ready store row′
+finished-holding s ready store new row row′ e =
+    ap (finished (holding s new) ready store) e
     ∙ ap (λ (t : Receiver). judgeStore s store (record { rule = rule; row = row′; used = 1; state = t }))
-    (after-holding s new (block-judged s row′))
+    (after-holding s new (block-judged s row′ ready))
   where
     rule : Rule
-    rule = blockRule s row′
+    rule = blockRule s row′ ready
 
-pub bit-by-bit : (s : Receiver) (store : List ℕ) (b : Bool) (row : Bits) (last : Answer Reception) → Waiting s (length (b ∷ row))
-    → bitByBit s store (b ∷ row) last ≡ finished s store (heldBits s ++ (b ∷ row))
-bit-by-bit s store b [] last w =
-    one-call s b store (in-range s 0 w) (w .phase) ∙ ap (judgeStore s store) (bit-last s b w)
-bit-by-bit s store b (c ∷ row) last w =
-    ap (λ (a : Answer Reception). bitByBit (receiveState s a) store (c ∷ row) a)
-    (one-call s b store (in-range s (length (c ∷ row)) w) (w .phase) ∙ ap (judgeStore s store) (bit-held s b (length row) w))
-    ∙ bit-by-bit (holding s (b ∷ [])) store c row (done (oneMore s b)) (waits-on s b (length row) w)
-    ∙ finished-holding s store (b ∷ []) (heldBits (holding s (b ∷ [])) ++ (c ∷ row)) (heldBits s ++ (b ∷ (c ∷ row)))
+pub bit-by-bit : (s : Receiver) (ready : Bool) (store : List ℕ) (b : Bool) (row : Bits) (last : Answer Reception) → Waiting s (length (b ∷ row))
+    → bitByBit s ready store (b ∷ row) last ≡ finished s ready store (heldBits s ++ (b ∷ row))
+bit-by-bit s ready store b [] last w =
+    one-call s b ready store (in-range s 0 w) (w .phase) ∙ ap (judgeStore s store) (bit-last s b ready w)
+bit-by-bit s ready store b (c ∷ row) last w =
+    ap (λ (a : Answer Reception). bitByBit (receiveState s a) ready store (c ∷ row) a)
+    (one-call s b ready store (in-range s (length (c ∷ row)) w) (w .phase) ∙ ap (judgeStore s store) (bit-held s b ready (length row) w))
+    ∙ bit-by-bit (holding s (b ∷ [])) ready store c row (done (oneMore s b ready)) (waits-on s b ready (length row) w)
+    ∙ finished-holding s ready store (b ∷ []) (heldBits (holding s (b ∷ [])) ++ (c ∷ row)) (heldBits s ++ (b ∷ (c ∷ row)))
     (ap (λ (r : Bits). r ++ (c ∷ row)) (heldBits-holding s (b ∷ []) (w .array) (omega (arith, w .held, length-facts (s .setup .k) (w .known))))
     ∙ append-assoc (heldBits s) (b ∷ []) (c ∷ row))

@@ -19,9 +19,10 @@ use Rattle.block.proofs.Block.{length-syncBlock}
 use Rattle.block.proofs.Truth.{cond-case, either, bit-false}
 use Rattle.line.specs.Marks.{isMark}
 use Rattle.line.specs.Order.{longestOrder, mostItems, validLength, itemCount, isLetter, endService, dataService, version, endPayload, itemService, itemPayload, itemBits}
-use Rattle.line.specs.Receiving.{Rule, sync-block, check-fails, accepts, previous, out-of-sequence, ends, wrong-length, ends-again, anything-else, meaning, Place, expected, last, next, other, place, placeRule, makesItems, endRule, markRule, serviceRule, verdictRule, looksSync, judge, blockRule}
+use Rattle.line.specs.Receiving.{Rule, sync-block, check-fails, accepts, previous, out-of-sequence, ends, wrong-length, ends-again, anything-else, meaning, eventKind, Place, expected, last, next, other, place, placeRule, makesItems, endRule, markRule, serviceRule, verdictRule, looksSync, judge, orWait, blockRule}
 use Rattle.line.specs.declared.marks.Marks.{Marks}
 use Rattle.line.specs.declared.receiver.Receiver.{Receiver}
+use Rattle.line.proofs.OrWait.{same-data-or-end}
 use Rattle.line.proofs.ServiceBits.{service-not-sync, place-expected, place-last, place-next, by-place}
 use Rattle.line.proofs.Items.{itemService-data, itemService-end, itemPayload-end, service-itemBits, payload-itemBits, passes-itemBits}
 use Rattle.line.proofs.Delivery.Ends.{Neighbour}
@@ -149,23 +150,26 @@ pub data Judged : Rule → Type 0 where
   as-data : {x : Rule} → meaning x .data-or-end ≡ true → Judged x
   as-other : Judged anything-else
 
+abbrev pub isWaiting : Rule → Bool
+isWaiting x = eventKind (meaning x .event) .wait
+
 -- what holds of rules 3 to 7 holds of the rule by any service bits
-module _ (P : Rule → Type 0) (some : (x : Rule) → meaning x .data-or-end ≡ true → P x) (none : P anything-else)
+module _ (P : Rule → Type 0) (some : (x : Rule) → meaning x .data-or-end ≡ true → isWaiting x ≡ false → P x) (none : P anything-else)
     (in-use : Bool) (k r : ℕ) (ended : Bool) where
   place-case : (p : Place) → P (placeRule r p)
-  place-case expected = cond-case P (ltb r mostItems) (λ e. some _ refl) (λ e. none)
-  place-case last = some _ refl
-  place-case next = some _ refl
+  place-case expected = cond-case P (ltb r mostItems) (λ e. some _ refl refl) (λ e. none)
+  place-case last = some _ refl refl
+  place-case next = some _ refl refl
   place-case other = none
 
   end-case : (payload : Bits) → P (endRule k r ended payload)
   unfolding endRule
   end-case payload =
-      cond-case P ended (λ e. some _ refl)
+      cond-case P ended (λ e. some _ refl refl)
       (λ e. cond-case P
       (eqb (number (take 8 payload)) version && validLength (number (take 32 (drop 8 payload))) && makesItems k
       (number (take 32 (drop 8 payload))) r)
-      (λ e. some _ refl) (λ e. some _ refl))
+      (λ e. some _ refl refl) (λ e. some _ refl refl))
 
   mark-case : (service : ℕ) → P (markRule in-use r ended service)
   unfolding markRule
@@ -176,18 +180,36 @@ module _ (P : Rule → Type 0) (some : (x : Rule) → meaning x .data-or-end ≡
   unfolding serviceRule
   service-case service payload =
       cond-case P (isLetter service)
-      (λ a. cond-case P ended (λ e. some _ refl) (λ e. place-case (place in-use r service)))
+      (λ a. cond-case P ended (λ e. some _ refl refl) (λ e. place-case (place in-use r service)))
       (λ a. cond-case P (eqb service endService) (λ e. end-case payload) (λ e. mark-case service))
 
 verdict-judged : (in-use : Bool) (k r : ℕ) (ended : Bool) (row : Bits) (v : Verdict) → Judged (verdictRule in-use k r ended row v)
 verdict-judged in-use k r ended row failed = fails
 verdict-judged in-use k r ended row (passed service) =
-    service-case Judged (λ x. as-data) as-other in-use k r ended service (payloadOf k row)
+    service-case Judged (λ x d w. as-data d) as-other in-use k r ended service (payloadOf k row)
 
 pub judged : (in-use : Bool) (k r : ℕ) (ended : Bool) (row : Bits) → Judged (judge in-use k r ended row)
 unfolding judge
 judged in-use k r ended row =
     cond-case Judged (looksSync k row) (λ e. as-sync) (λ e. verdict-judged in-use k r ended row (verdict row))
 
-pub block-judged : (s : Receiver) (row : Bits) → Judged (blockRule s row)
-block-judged s = judged (s .setup .marks .«in_use») (s .setup .k) (s .taken) (s .ended)
+-- the judging itself never comes to *wait*
+verdict-never-waits : (in-use : Bool) (k r : ℕ) (ended : Bool) (row : Bits) (v : Verdict) → isWaiting (verdictRule in-use k r ended row v) ≡ false
+verdict-never-waits in-use k r ended row failed = refl
+verdict-never-waits in-use k r ended row (passed service) =
+    service-case (λ (x : Rule). isWaiting x ≡ false) (λ x d w. w) refl in-use k r ended service (payloadOf k row)
+
+pub judge-never-waits : (in-use : Bool) (k r : ℕ) (ended : Bool) (row : Bits) → isWaiting (judge in-use k r ended row) ≡ false
+unfolding judge
+judge-never-waits in-use k r ended row =
+    cond-case (λ (x : Rule). isWaiting x ≡ false) (looksSync k row) (λ e. refl) (λ e. verdict-never-waits in-use k r ended row (verdict row))
+
+-- ready or not
+or-wait-judged : (ready : Bool) {x : Rule} → Judged x → Judged (orWait ready x)
+or-wait-judged ready as-sync = as-sync
+or-wait-judged ready fails = fails
+or-wait-judged ready {x} (as-data h) = as-data (same-data-or-end ready x ∙ h)
+or-wait-judged ready as-other = as-other
+
+pub block-judged : (s : Receiver) (row : Bits) (ready : Bool) → Judged (blockRule s row ready)
+block-judged s row ready = or-wait-judged ready (judged (s .setup .marks .«in_use») (s .setup .k) (s .taken) (s .ended) row)

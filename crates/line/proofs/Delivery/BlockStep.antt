@@ -12,7 +12,7 @@ use borrow.Author.Tests.{eqb-true, leb-true, leb-false, lt-ltb}
 use Rattle.crc.specs.Bits.{bit, bitsOf}
 use Rattle.block.specs.Lengths.{blockLength}
 use Rattle.block.proofs.Truth.{or-true, or-false, or-no, or-yes}
-use Rattle.line.specs.Receiving.{arrayBytes, Rule, unfinished, standing, sequence-found, sync-block, check-fails, accepts, previous, out-of-sequence, ends, wrong-length, ends-again, anything-else, meaning, EventKind, eventKind, lastBad, blank, afterGood, afterBad, alarmed, after, heldBits, heldInRange}
+use Rattle.line.specs.Receiving.{arrayBytes, Rule, unfinished, standing, sequence-found, sync-block, check-fails, accepts, previous, out-of-sequence, ends, wrong-length, ends-again, anything-else, waits, meaning, EventKind, eventKind, lastBad, blank, afterGood, afterBad, afterWait, alarmed, after, heldBits, heldInRange}
 use Rattle.line.specs.declared.sender.Sender.{Sender}
 use Rattle.line.specs.declared.receiver.Receiver.{Receiver}
 use Rattle.line.specs.declared.receiving.Phase.{Phase}
@@ -42,6 +42,7 @@ endsBlock (ends L) = true
 endsBlock wrong-length = true
 endsBlock ends-again = true
 endsBlock anything-else = true
+endsBlock waits = true
 
 -- what it leaves: nothing held, and the items and the end as its event says
 pub record After (r t : Receiver) (stores : Bool) (v : EventKind) : Type 0 where
@@ -56,14 +57,14 @@ pub record After (r t : Receiver) (stores : Bool) (v : EventKind) : Type 0 where
 
 -- nothing, or an alarm
 abbrev only : Bool → EventKind
-only alarm = record { new = false; alarm = alarm; length = none }
+only alarm = record { new = false; wait = false; alarm = alarm; length = none }
 
 module _ (r : Receiver) where
-  blank-after : (bad-row : ℕ) (back : Bool) (taken : ℕ) (ended : Bool) (phase : Phase) (stores : Bool) (end : Option ℕ)
-      → let v : EventKind = record { new = stores; alarm = alarmStands phase; length = end } in
+  blank-after : (bad-row : ℕ) (back : Bool) (taken : ℕ) (ended : Bool) (phase : Phase) (stores wait : Bool) (end : Option ℕ)
+      → let v : EventKind = record { new = stores; wait = wait; alarm = alarmStands phase; length = end } in
       bad-row < lastBad → taken ≡ bit stores + r .taken → ended ≡ (r .ended || ending v)
       → After r (blank r bad-row back taken ended phase) stores v
-  blank-after bad-row back taken ended phase stores end h t e =
+  blank-after bad-row back taken ended phase stores wait end h t e =
       record {
         setup = refl;
         array = length-zeroArray;
@@ -79,14 +80,14 @@ module _ (r : Receiver) where
   same-end = sym (or-no (r .ended))
 
   good-after : After r (afterGood r (r .taken) (r .ended)) false (only false)
-  good-after = blank-after 0 false (r .taken) (r .ended) P.InStep false none (omega arith) (omega arith) same-end
+  good-after = blank-after 0 false (r .taken) (r .ended) P.InStep false false none (omega arith) (omega arith) same-end
 
   alarm-after : (alarm : Phase) → After r (alarmed r alarm) false (only (alarmStands alarm))
-  alarm-after alarm = blank-after 0 true (r .taken) (r .ended) alarm false none (omega arith) (omega arith) same-end
+  alarm-after alarm = blank-after 0 true (r .taken) (r .ended) alarm false false none (omega arith) (omega arith) same-end
 
   bad-after : (search : Bool) → (search ≡ false → r .«bad_row» + 1 < lastBad) → After r (afterBad r search) false (only false)
-  bad-after true h = blank-after 0 true (r .taken) (r .ended) P.Search false none (omega arith) (omega arith) same-end
-  bad-after false h = blank-after (r .«bad_row» + 1) true (r .taken) (r .ended) P.InStep false none (h refl) (omega arith) same-end
+  bad-after true h = blank-after 0 true (r .taken) (r .ended) P.Search false false none (omega arith) (omega arith) same-end
+  bad-after false h = blank-after (r .«bad_row» + 1) true (r .taken) (r .ended) P.InStep false false none (h refl) (omega arith) same-end
 
   pub after-is : (x : Rule) → endsBlock x ≡ true → After r (after r x) (meaning x .stores) (eventKind (meaning x .event))
   after-is unfinished e = absurd (false≢true e)
@@ -94,15 +95,16 @@ module _ (r : Receiver) where
   after-is sequence-found e = good-after
   after-is sync-block e = good-after
   after-is check-fails e = bad-after (leb lastBad (r .«bad_row» + 1)) (leb-false lastBad (r .«bad_row» + 1))
-  after-is accepts e = blank-after 0 false (r .taken + 1) (r .ended) P.InStep true none (omega arith) (omega arith) same-end
+  after-is accepts e = blank-after 0 false (r .taken + 1) (r .ended) P.InStep true false none (omega arith) (omega arith) same-end
   after-is previous e = good-after
   after-is out-of-sequence e = alarm-after P.SequenceAlarm
-  after-is (ends L) e = blank-after 0 false (r .taken) true P.InStep false (some L) (omega arith) (omega arith) (sym (or-yes (r .ended)))
+  after-is (ends L) e = blank-after 0 false (r .taken) true P.InStep false false (some L) (omega arith) (omega arith) (sym (or-yes (r .ended)))
   after-is wrong-length e = alarm-after P.LengthAlarm
   after-is ends-again e = good-after
   after-is anything-else e =
       bad-after (leb lastBad (r .«bad_row» + 1) || eqb (r .taken) 0)
       (λ f. leb-false lastBad (r .«bad_row» + 1) (or-false (leb lastBad (r .«bad_row» + 1)) (eqb (r .taken) 0) f .0))
+  after-is waits e = blank-after 0 true (r .taken) (r .ended) P.InStep false true none (omega arith) (omega arith) same-end
 
 pub none-held : (p : Phase) (k : ℕ) → heldInRange p (blockLength k) 0 ≡ true
 none-held P.Search k = refl
@@ -149,6 +151,12 @@ module _ (o : Session) (s : Sender) (r : Receiver) (l d : ℕ) (step : r .phase 
   unharmed-reads i x (J.end-short h e t) =
       D.wrong-length (same-sender s r (after r wrong-length) l d 0) in-step h (ap bit e) t
       (record { taken = refl; ended = refl; alarm = refl; danger = refl })
+
+  -- the machine is not ready
+  pub waits-reads : (i : ℕ) → Reads (N o) (S.ends s r l d) (S.ends s (afterWait r) l d) (LineBlock.item i 1) E.Wait
+  waits-reads i =
+      D.waits (same-sender s r (afterWait r) l d d) in-step
+      (record { search = refl; bad-row = refl; back = refl; taken = refl; ended = refl; alarm = refl; danger = refl })
 
   -- a bad block
   bad-reads : (f : LineBlock) (search : Bool) → NotWhole f → r .«bad_row» ≤ 7

@@ -1,7 +1,7 @@
 -- A receiving call while a block is on the line, whatever number of the next bits it is lent. Assumes nothing.
 use mathlib.Core.Path.{_≡_, refl, ap, ap₂, sym, _∙_, subst}
 use mathlib.Core.Logic.{inl}
-use mathlib.Core.Bool.{true, true≢false}
+use mathlib.Core.Bool.{Bool, true, true≢false}
 use mathlib.Core.List.{List, [], _++_, append-nil}
 use Prim.Native.Nat.{ℕ}
 use native.Mathlib.Omega.{arith}
@@ -100,19 +100,19 @@ module _ (o : Session) (fit : Fit o) (w : World) (l d : ℕ) (copy : Bits) (f : 
 
   -- ---- any call
 
-  some-lent : (p : Phase) → r .phase ≡ p → Kept (byPhase r p lent)
-  some-lent P.Search e = in-search o fit w l d copy f line base lent store e
-  some-lent P.InStep e = in-step o fit w l d copy f line base lent store e
-  some-lent P.SequenceAlarm e =
+  some-lent : (ready : Bool) (p : Phase) → r .phase ≡ p → Kept (byPhase r p lent ready)
+  some-lent ready P.Search e = in-search o fit w l d copy f line base lent store e
+  some-lent ready P.InStep e = in-step o fit w l d copy f line base lent ready store e
+  some-lent ready P.SequenceAlarm e =
       alarm-stands E.SequenceAlarm
       (subst (λ (p : Phase). Quiet (alarmStands p) (standing E.SequenceAlarm)) (sym e) (quiet-idle P.SequenceAlarm))
       (ap alarmStands e)
-  some-lent P.LengthAlarm e =
+  some-lent ready P.LengthAlarm e =
       alarm-stands E.LengthAlarm
       (subst (λ (p : Phase). Quiet (alarmStands p) (standing E.LengthAlarm)) (sym e) (quiet-idle P.LengthAlarm))
       (ap alarmStands e)
 
-  pub reception-guaranteed : (count : ℕ) → length lent ≡ count → Kept (reception r lent count)
+  pub reception-guaranteed : (count : ℕ) (ready : Bool) → length lent ≡ count → Kept (reception r lent count ready)
   unfolding reception
-  reception-guaranteed count size =
-      cond-case Kept (eqb count 0) (λ e. none-lent (size ∙ eqb-true count 0 e)) (λ e. some-lent (r .phase) refl)
+  reception-guaranteed count ready size =
+      cond-case Kept (eqb count 0) (λ e. none-lent (size ∙ eqb-true count 0 e)) (λ e. some-lent ready (r .phase) refl)

@@ -13,7 +13,7 @@ use Rattle.crc.specs.Bits.{Bits}
 use Rattle.block.specs.Lengths.{blockLength}
 use Rattle.block.proofs.Lengths.{length-facts}
 use Rattle.block.proofs.Truth.{cond-case}
-use Rattle.line.specs.Receiving.{Rule, unfinished, meaning, judge, blockRule, Reception, stops, search, holding, missing, finishedRow, inStep, heldInRange}
+use Rattle.line.specs.Receiving.{Rule, unfinished, meaning, judge, orWait, blockRule, Reception, stops, search, holding, missing, finishedRow, inStep, heldInRange}
 use Rattle.line.specs.Course.{World}
 use Rattle.line.specs.declared.receiver.Receiver.{Receiver}
 use Rattle.line.specs.declared.receiving.Phase.{Phase}
@@ -28,7 +28,7 @@ use Rattle.line.proofs.Delivery.State.{Session, Fit, alarmStands, Base,
 use Rattle.line.proofs.Delivery.State as S
 
 module _ (o : Session) (fit : Fit o) (w : World) (l d : ℕ) (copy : Bits) (f : LineBlock)
-    (line : BusyLine o w l d copy f) (base : Base o w) (lent : Bits) (store : List ℕ) where
+    (line : BusyLine o w l d copy f) (base : Base o w) (lent : Bits) (ready : Bool) (store : List ℕ) where
   abbrev r : Receiver
   r = w .receiver
 
@@ -80,7 +80,7 @@ module _ (o : Session) (fit : Fit o) (w : World) (l d : ℕ) (copy : Bits) (f : 
             (omega (arith, ltb-true (length lent) (missing r) e, missing-is, held-used))
 
     abbrev rule : Rule
-    rule = blockRule r (finishedRow r lent)
+    rule = blockRule r (finishedRow r lent) ready
 
     step-end : ltb (length lent) (missing r) ≡ false
         → Kept (stops r rule (finishedRow r lent) (missing r))
@@ -91,19 +91,19 @@ module _ (o : Session) (fit : Fit o) (w : World) (l d : ℕ) (copy : Bits) (f : 
         let row : finishedRow r lent ≡ copy =
         ap₂ _++_ (line .held .step step) (take-all (missing r) lent (omega (arith, missing-is)))
         ∙ sym (whole-copy o w l d copy f line lent (ok .line .0) (ok .line .1) z) in
-        let same : rule ≡ judge (o .marks .«in_use») (o .k) (r .taken) (r .ended) copy =
-        ap (blockRule r) row
-        ∙ ap₂ (λ (m : Bool) (k : ℕ). judge m k (r .taken) (r .ended) copy) (base .receiver-setup .in-use) (base .receiver-setup .k)
+        let same : rule ≡ orWait ready (judge (o .marks .«in_use») (o .k) (r .taken) (r .ended) copy) =
+        ap (λ (y : Bits). blockRule r y ready) row
+        ∙ ap₂ (λ (m : Bool) (k : ℕ). orWait ready (judge m k (r .taken) (r .ended) copy)) (base .receiver-setup .in-use) (base .receiver-setup .k)
         in
         finish o fit w l d copy f line base lent store (ok .store) rule (finishedRow r lent)
         (missing r)
         (omega (arith, missing-is, ap length (ok .line .1), length-append lent (ok .line .0), ap length z)) (λ t. row)
         (ap alarmStands step)
         (subst (Ruling o fit w l d copy f line) (sym same)
-        (step-ruling o fit w l d copy f line step
+        (step-ruling o fit w l d copy f line step ready
         (λ s. ok .sync-at-last (ap (λ (x : Rule). meaning x .event) same ∙ s) .0)
         (λ b. ap (λ (x : Rule). meaning x .data-or-end) (sym same) ∙ ok .sync-not-data b)))
 
-    pub in-step : Kept (inStep r lent)
+    pub in-step : Kept (inStep r lent ready)
     unfolding inStep
     in-step = cond-case Kept (ltb (length lent) (missing r)) step-on step-end

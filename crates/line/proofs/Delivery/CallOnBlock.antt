@@ -16,7 +16,7 @@ use Rattle.block.proofs.Truth.{or-no, and-no}
 use Rattle.line.specs.Order.{itemBits, itemPayload}
 use Rattle.line.specs.Receiving.{arrayBytes, lastBad, Rule, unfinished, meaning, EventKind, eventKind, after, Reception, stops, idleRule, heldInRange, storeAt}
 use Rattle.line.specs.Course.{World, receiveEntry, receiveAfter}
-use Rattle.line.specs.Delivery.{isItem}
+use Rattle.line.specs.Delivery.{isItem, readGood}
 use Rattle.line.specs.declared.receiver.Receiver.{Receiver}
 use Rattle.line.specs.declared.receiving.Phase.{Phase}
 use Rattle.line.specs.declared.receiving.Phase.the-variants as P
@@ -33,24 +33,24 @@ use Rattle.line.proofs.Delivery.State as S
 -- ---- a rule that ends no block
 
 pub record Quiet (alarm : Bool) (x : Rule) : Type 0 where
-  pub kind : eventKind (meaning x .event) ≡ record { new = false; alarm = alarm; length = none }
-  pub checked : meaning x .checked ≡ false
+  pub kind : eventKind (meaning x .event) ≡ record { new = false; wait = false; alarm = alarm; length = none }
+  pub good : readGood x ≡ false
   pub stores : meaning x .stores ≡ false
 
 -- 0 bits
 pub quiet-idle : (p : Phase) → Quiet (alarmStands p) (idleRule p)
-quiet-idle P.Search = record { kind = refl; checked = refl; stores = refl }
-quiet-idle P.InStep = record { kind = refl; checked = refl; stores = refl }
-quiet-idle P.SequenceAlarm = record { kind = refl; checked = refl; stores = refl }
-quiet-idle P.LengthAlarm = record { kind = refl; checked = refl; stores = refl }
+quiet-idle P.Search = record { kind = refl; good = refl; stores = refl }
+quiet-idle P.InStep = record { kind = refl; good = refl; stores = refl }
+quiet-idle P.SequenceAlarm = record { kind = refl; good = refl; stores = refl }
+quiet-idle P.LengthAlarm = record { kind = refl; good = refl; stores = refl }
 
 pub quiet-unfinished : {alarm : Bool} → alarm ≡ false → Quiet alarm unfinished
 quiet-unfinished e = subst (λ (b : Bool). Quiet b unfinished) (sym e) (quiet-idle P.InStep)
 
 pub not-danger : (alarm : Bool) (x : Rule) → Quiet alarm x → (good : Bool) (d : ℕ)
-    → cond (good && meaning x .checked) 0 d ≡ d
+    → cond (good && readGood x) 0 d ≡ d
 not-danger alarm x q good d =
-    ap (λ (b : Bool). cond (good && b) 0 d) (q .checked) ∙ ap (λ (b : Bool). cond b 0 d) (and-no good)
+    ap (λ (b : Bool). cond (good && b) 0 d) (q .good) ∙ ap (λ (b : Bool). cond b 0 d) (and-no good)
 
 -- the receiver after such a call, with the bits that are then used
 pub record Still (o : Session) (r t : Receiver) : Type 0 where
@@ -128,7 +128,7 @@ module _ (o : Session) (fit : Fit o) (w : World) (l d : ℕ) (copy : Bits) (f : 
     now : drop n (w .left) ≡ remaining
     now = ap₂ drop all split ∙ drop-at lent remaining (length lent) refl
 
-    danger-kept : cond (isItem (w .block) && meaning x .checked) 0 d ≡ d
+    danger-kept : cond (isItem (w .block) && readGood x) 0 d ≡ d
     danger-kept = not-danger (alarmStands (w .receiver .phase)) x q (isItem (w .block)) d
 
     pub pass : Held t (line .used ++ lent) → Busy (N o) t-ends (w .sender .next) f
@@ -147,6 +147,7 @@ module _ (o : Session) (fit : Fit o) (w : World) (l d : ℕ) (copy : Bits) (f : 
                 reads = subst (λ (m : ℕ). Reads (N o) (endsOf w l d) (S.ends (w .sender) t l m) f (meaning x .event))
                     (sym danger-kept) (last z .reads);
                 news = refl;
+                wait = refl;
                 clean = last z .clean;
               }))
               (λ z. inl (
@@ -203,6 +204,7 @@ module _ (o : Session) (fit : Fit o) (w : World) (l d : ℕ) (copy : Bits) (f : 
             event = meaning x .event;
             reads = g .reads;
             news = refl;
+            wait = refl;
             clean = λ p c z. g .clean p c;
           });
           guaranteed = record {

@@ -140,6 +140,8 @@ pub data Reads (N : ℕ) (s t : Ends) : LineBlock → Event → Type 0 where
       → Reads N s t (item i 1) E.Previous
   wrong-length : {i : ℕ} → SameSender s t → Synchronised s → N ≤ i → s .ended ≡ 0 → (s .taken ≡ N → ⊥) → Alarms s t 0
       → Reads N s t (item i 1) E.LengthAlarm
+  -- rule 3 or rule 6 of one, the machine not ready: like a bad block that does not count in the row
+  waits : {i : ℕ} → SameSender s t → Synchronised s → Rejected s t 0 0 → Reads N s t (item i 1) E.Wait
 
 -- ---- the invariant
 

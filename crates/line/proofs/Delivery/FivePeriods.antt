@@ -125,6 +125,7 @@ module _ (o : Session) (fit : Fit o) where
                 whole = clean .1;
               };
           used = u .all-used ∙ sym (ok .line .1);
+          no-wait = u .no-wait;
           ended = g .ended;
           bound = omega (arith, g .bound, rank-low (endsOf w 0 d) (w .sender .next));
         }
@@ -144,7 +145,7 @@ module _ (o : Session) (fit : Fit o) where
     short-send : (a : Answer Block) → SendAnswered (w .sender) reading a
         → Short o fit w d limit (sendEntry w order reading copy a ∷ course (sendAfter w reading copy a) cs)
     short-send a (refuses {n = n} h) base m ok nl ps behind e un quiet br =
-        ih w d limit base (skip o fit (send-refused n) (course w cs) w d limit (omega arith) m)
+        ih w d limit base (skip o fit (send-refused n) (course w cs) w d limit (omega arith) refl m)
         (okays-same o (alarmStands (w .receiver .phase)) d (course w cs) (ok .1)) nl ps behind e un quiet br
     short-send a (begins fin run) base (inr g) ok nl ps behind e un quiet br = absurd (g .line .more (ok .0 .line .0))
     short-send a (begins fin run) base (inl g) ok nl [] behind e un quiet br =
@@ -173,9 +174,9 @@ module _ (o : Session) (fit : Fit o) where
   shorts (sending order reading slice copy ∷ cs) w d limit base m =
       short-send cs (shorts cs) w d limit order reading copy (send (w .sender) order reading slice)
       (send-answered (w .sender) order reading slice (sender-in-range o fit w 0 d (inv-of base m))) base m
-  shorts (receiving line n store ∷ cs) w d limit base m =
-      short-hear o fit cs (shorts cs) w d limit (take n (bitsOf line)) n store (receive (w .receiver) line n store)
-      (receive-answered (w .receiver) line n store (receiver-in-range o fit w 0 d (inv-of base m))) base m
+  shorts (receiving line n ready store ∷ cs) w d limit base m =
+      short-hear o fit cs (shorts cs) w d limit (take n (bitsOf line)) n store (receive (w .receiver) line n ready store)
+      (receive-answered (w .receiver) line n ready store (receiver-in-range o fit w 0 d (inv-of base m))) base m
 
   -- ---- anywhere in the list
 
@@ -241,9 +242,9 @@ module _ (o : Session) (fit : Fit o) where
   lacks (sending order reading slice copy ∷ cs) w d h =
       lack-send cs (lacks cs) w d order reading copy (send (w .sender) order reading slice)
       (send-answered (w .sender) order reading slice (sender-in-range o fit w 0 d h)) h
-  lacks (receiving line n store ∷ cs) w d h =
-      lack-hear cs (lacks cs) w d (take n (bitsOf line)) n store (receive (w .receiver) line n store)
-      (receive-answered (w .receiver) line n store (receiver-in-range o fit w 0 d h)) h
+  lacks (receiving line n ready store ∷ cs) w d h =
+      lack-hear cs (lacks cs) w d (take n (bitsOf line)) n store (receive (w .receiver) line n ready store)
+      (receive-answered (w .receiver) line n ready store (receiver-in-range o fit w 0 d h)) h
 
   -- ---- before the first period nothing is reported
 
@@ -275,9 +276,9 @@ module _ (o : Session) (fit : Fit o) where
   loose-none [] w d g base = λ en ok. refl
   loose-none (sending order reading slice copy ∷ cs) w d g base =
       loose-send cs (loose-none cs) w d order reading copy (send (w .sender) order reading slice) g base
-  loose-none (receiving line n store ∷ cs) w d g base =
-      loose-hear cs (loose-none cs) w d (take n (bitsOf line)) n store (receive (w .receiver) line n store)
-      (receive-answered (w .receiver) line n store (receiver-in-range o fit w 0 d (record { base = base; phase = inl g }))) g base
+  loose-none (receiving line n ready store ∷ cs) w d g base =
+      loose-hear cs (loose-none cs) w d (take n (bitsOf line)) n store (receive (w .receiver) line n ready store)
+      (receive-answered (w .receiver) line n ready store (receiver-in-range o fit w 0 d (record { base = base; phase = inl g }))) g base
 
   -- from a state with no block on the line, nothing lost and the end not taken
   pub within-five : (cs : List Call) (w : World) (d : ℕ) → IdleLine o w 0 d → Base o w → w .receiver .ended ≡ false

@@ -145,3 +145,5 @@ module _ {N : ℕ} {s t : Ends} {n : Next} where
       (λ b c. let v = c .as-end i in record { basic = omega arith; all = λ y. omega arith; state = inr (omega arith) })
   read-keeps h (D.wrong-length q a i e0 m r) =
       kept-whole h (a .alarm) (λ b c. let v = c .as-end i in alarmed h q r (omega arith) e0)
+  read-keeps h (D.waits q a r) =
+      kept h (a .alarm) (r .taken) (r .ended) (λ b c. (omega arith, inr (omega (arith, newer-le n))))

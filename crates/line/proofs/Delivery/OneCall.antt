@@ -21,7 +21,7 @@ use Rattle.line.specs.Order.{longestOrder, validLength, itemCount, order
 use Rattle.line.specs.Sending.{Block, transmit, gaveUp, send, senderInRange, plainBits}
 use Rattle.line.specs.Receiving.{meaning, Reception, byPhase, idleRule, idle, reception, receive, receiverInRange, heldInRange}
 use Rattle.line.specs.Course.{World, Call, sending, receiving, Heard, Entry, receive-refused, onHeard, sendEntry, sendAfter, receiveEntry, receiveAfter, entry, next}
-use Rattle.line.specs.Delivery.{OnlyRefused, isItem, isNew}
+use Rattle.line.specs.Delivery.{OnlyRefused, isItem, readGood, isNew}
 use Rattle.line.specs.declared.sender.Sender.{Sender}
 use Rattle.line.specs.declared.receiver.Receiver.{Receiver}
 use Rattle.line.proofs.SenderRange.{range-in}
@@ -42,7 +42,7 @@ pub data SendAnswered (s : Sender) (reading : Bool) : Answer Block → Type 0 wh
 
 pub data ReceiveAnswered (r : Receiver) (lent : Bits) (count : ℕ) : Answer Reception → Type 0 where
   refuses : ReceiveAnswered r lent count (refused A.short)
-  hears : length lent ≡ count → ReceiveAnswered r lent count (done (reception r lent count))
+  hears : (ready : Bool) → length lent ≡ count → ReceiveAnswered r lent count (done (reception r lent count ready))
 
 in-range : {b : Bool} → b ≡ true → not b ≡ true → ⊥
 in-range {b} h e = false≢true (sym (ap not h) ∙ e)
@@ -57,17 +57,17 @@ send-answered s order reading slice h =
     (tooShort order (s .setup .length) || tooShort slice (blockLength (s .setup .k)))
     (λ e. refuses (inl refl)) (λ e. let q = or-false (s .finished) (gaveUp s) g in begins (q .0) (q .1))))
 
-pub receive-answered : (r : Receiver) (line : List ℕ) (count : ℕ) (store : List ℕ) → receiverInRange r ≡ true
-    → ReceiveAnswered r (take count (bitsOf line)) count (receive r line count store)
+pub receive-answered : (r : Receiver) (line : List ℕ) (count : ℕ) (ready : Bool) (store : List ℕ) → receiverInRange r ≡ true
+    → ReceiveAnswered r (take count (bitsOf line)) count (receive r line count ready store)
 unfolding receive
-receive-answered r line count store h =
+receive-answered r line count ready store h =
     cond-case (ReceiveAnswered r (take count (bitsOf line)) count) (not (receiverInRange r)) (λ e. absurd (in-range h e))
     (λ e. cond-case (ReceiveAnswered r (take count (bitsOf line)) count) (tooShort line count)
     (λ e. ReceiveAnswered.refuses)
     (λ g. cond-case (ReceiveAnswered r (take count (bitsOf line)) count)
-    (meaning (reception r (take count (bitsOf line)) count .rule) .stores && tooShort store
+    (meaning (reception r (take count (bitsOf line)) count ready .rule) .stores && tooShort store
     (r .taken * r .setup .k + r .setup .k))
-    (λ e. ReceiveAnswered.refuses) (λ e. hears (size g))))
+    (λ e. ReceiveAnswered.refuses) (λ e. hears ready (size g))))
   where
     size : tooShort line count ≡ false → length (take count (bitsOf line)) ≡ count
     size g = length-take-le count (bitsOf line) (omega (arith, ltb-false (8 * length line) count g, length-bitsOf line))
@@ -147,7 +147,7 @@ module _ (o : Session) (fit : Fit o) where
             (quiet-idle (w .receiver .phase)) (still-same o w b);
       }
     where
-      danger : cond (isItem (w .block) && meaning (idleRule (w .receiver .phase)) .checked) 0 d ≡ d
+      danger : cond (isItem (w .block) && readGood (idleRule (w .receiver .phase))) 0 d ≡ d
       danger = not-danger (alarmStands (w .receiver .phase)) (idleRule (w .receiver .phase))
           (quiet-idle (w .receiver .phase)) (isItem (w .block)) d
 
@@ -155,9 +155,9 @@ module _ (o : Session) (fit : Fit o) where
   nothing-lent [] remaining e = refl
   nothing-lent (b ∷ lent) remaining e = absurd (let z : _≡_ {A = ℕ} 0 1 = cc in omega arith)
 
-  idle-is : (r : Receiver) (lent : Bits) (count : ℕ) → count ≡ 0 → reception r lent count ≡ idle r
+  idle-is : (r : Receiver) (lent : Bits) (count : ℕ) (ready : Bool) → count ≡ 0 → reception r lent count ready ≡ idle r
   unfolding reception
-  idle-is r lent count e = ap (λ (t : Bool). cond t (idle r) (byPhase r (r .phase) lent)) (eq-eqb count 0 e)
+  idle-is r lent count ready e = ap (λ (t : Bool). cond t (idle r) (byPhase r (r .phase) lent ready)) (eq-eqb count 0 e)
 
   pub idle-hears : (w : World) (l d : ℕ) → IdleLine o w l d → Base o w
       → (lent : Bits) (count : ℕ) (store : List ℕ) (a : Answer Reception)
@@ -166,10 +166,10 @@ module _ (o : Session) (fit : Fit o) where
       → Stays o w l d (receiveEntry w lent store a) (receiveAfter w store a)
   idle-hears w l d g b lent count store a ReceiveAnswered.refuses ok =
       record { line = g; same = refl; next = refl; guaranteed = short-told o w b }
-  idle-hears w l d g b lent count store a (hears size) ok =
+  idle-hears w l d g b lent count store a (hears ready size) ok =
       let n : lent ≡ [] = nothing-lent lent (ok .line .0) (sym (g .left) ∙ ok .line .1) in
-      let e : reception (w .receiver) lent count ≡ idle (w .receiver) =
-      idle-is (w .receiver) lent count (sym size ∙ ap length n) in
+      let e : reception (w .receiver) lent count ready ≡ idle (w .receiver) =
+      idle-is (w .receiver) lent count ready (sym size ∙ ap length n) in
       subst (λ (y : Reception). Stays o w l d (receiveEntry w lent store (done y)) (receiveAfter w store (done y))) (sym e)
       (stays-idle w l d g b lent store (ok .store))
 
@@ -224,8 +224,8 @@ module _ (o : Session) (fit : Fit o) where
       → Result o w l d copy f (receiveEntry w lent store a) (receiveAfter w store a)
   busy-hears w l d copy f line b lent count store a ReceiveAnswered.refuses ok =
       record { next = inl (line, refl, (λ q. refl)); guaranteed = short-told o w b }
-  busy-hears w l d copy f line b lent count store a (hears size) ok =
-      reception-guaranteed o fit w l d copy f line b lent store count size ok
+  busy-hears w l d copy f line b lent count store a (hears ready size) ok =
+      reception-guaranteed o fit w l d copy f line b lent store count ready size ok
 
   -- after reading to the last bit, no block is on the line
   pub done-idle : (w : World) (l d : ℕ) (copy : Bits) (f : LineBlock) (e : Entry) (w′ : World)
@@ -291,6 +291,6 @@ module _ (o : Session) (fit : Fit o) where
   call-keeps w l d h (sending order reading slice copy) ok =
       send-call w l d h order reading copy (send (w .sender) order reading slice)
       (send-answered (w .sender) order reading slice (sender-in-range w l d h)) ok
-  call-keeps w l d h (receiving line count store) ok =
-      hear-call w l d h (take count (bitsOf line)) count store (receive (w .receiver) line count store)
-      (receive-answered (w .receiver) line count store (receiver-in-range w l d h)) ok
+  call-keeps w l d h (receiving line count ready store) ok =
+      hear-call w l d h (take count (bitsOf line)) count store (receive (w .receiver) line count ready store)
+      (receive-answered (w .receiver) line count ready store (receiver-in-range w l d h)) ok

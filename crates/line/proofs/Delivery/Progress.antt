@@ -2,7 +2,7 @@
 -- that is at most 5. Assumes nothing.
 use mathlib.Core.Path.{_≡_, refl}
 use mathlib.Core.Logic.{_⊎_, inl, inr, ⊎-elim}
-use mathlib.Core.Bool.{Bool, true, false, _||_}
+use mathlib.Core.Bool.{Bool, true, false, _||_, true≢false}
 use Prim.Native.Nat.{ℕ, _+_, _*_, _≤_, _<_}
 use native.Mathlib.Omega.{arith}
 use lib.Dec.{eqb}
@@ -61,6 +61,7 @@ sender-kept (D.out-of-sequence q a i e0 m r) = q
 sender-kept (D.ends q a i e0 m r) = q
 sender-kept (D.ends-again q a i e0 r) = q
 sender-kept (D.wrong-length q a i e0 m r) = q
+sender-kept (D.waits q a r) = q
 
 module _ {N : ℕ} {s t : Ends} where
   sync-read : {f : LineBlock} → Reads N s t f E.Sync → s .alarm ≡ 0 → t .search ≡ 0
@@ -68,28 +69,30 @@ module _ {N : ℕ} {s t : Ends} where
   sync-read (D.syncs q a r) z = r .search
 
 module _ {N : ℕ} {s t : Ends} {n : Next} where
-  -- a whole item read in step, with nothing lost, brings news, or it is the one before
+  -- a whole item read in step, with nothing lost, brings news, or it is the one before, or it waits
   whole-read : {i w : ℕ} {e : Event} → Busy N s n (item i w) → Reads N s t (item i w) e → w ≡ 1 → s .lost ≡ 0
-      → s .search ≡ 0 → s .ended ≡ 0 → (isNewOrEnd e ≡ true) ⊎ ((t .back ≡ 0) × (i < s .taken))
-  whole-read h (D.under-alarm q r a) w1 n0 z0 e0 = absurd (⊎-elim (λ b. omega arith) (λ b. omega arith) (h .state))
-  whole-read h (D.searches q r d a z) w1 n0 z0 e0 = absurd (omega arith)
-  whole-read {i} {w} h (D.bad-step q a lt f r) w1 n0 z0 e0 = absurd (not-whole i w f w1)
-  whole-read {i} {w} h (D.bad-eighth q a w′ f r) w1 n0 z0 e0 = absurd (not-whole i w f w1)
-  whole-read h (D.accepts q a i e0 m r) w1 n0 z0 e1 = inl refl
-  whole-read h (D.repeats q a i e0 m r) w1 n0 z0 e1 = inr (omega arith)
-  whole-read h (D.out-of-sequence q a i e0 m r) w1 n0 z0 e1 =
+      → s .search ≡ 0 → s .ended ≡ 0 → eventKind e .wait ≡ false → (isNewOrEnd e ≡ true) ⊎ ((t .back ≡ 0) × (i < s .taken))
+  whole-read h (D.under-alarm q r a) w1 n0 z0 e0 nw = absurd (⊎-elim (λ b. omega arith) (λ b. omega arith) (h .state))
+  whole-read h (D.searches q r d a z) w1 n0 z0 e0 nw = absurd (omega arith)
+  whole-read {i} {w} h (D.bad-step q a lt f r) w1 n0 z0 e0 nw = absurd (not-whole i w f w1)
+  whole-read {i} {w} h (D.bad-eighth q a w′ f r) w1 n0 z0 e0 nw = absurd (not-whole i w f w1)
+  whole-read h (D.accepts q a i e0 m r) w1 n0 z0 e1 nw = inl refl
+  whole-read h (D.repeats q a i e0 m r) w1 n0 z0 e1 nw = inr (omega arith)
+  whole-read h (D.out-of-sequence q a i e0 m r) w1 n0 z0 e1 nw =
       absurd (⊎-elim (λ b. omega arith) (λ b. omega arith) (read-keeps h (D.out-of-sequence q a i e0 m r) .state))
-  whole-read h (D.ends q a i e0 m r) w1 n0 z0 e1 = inl refl
-  whole-read h (D.ends-again q a i e0 r) w1 n0 z0 e1 = absurd (omega arith)
-  whole-read h (D.wrong-length q a i e0 m r) w1 n0 z0 e1 =
+  whole-read h (D.ends q a i e0 m r) w1 n0 z0 e1 nw = inl refl
+  whole-read h (D.ends-again q a i e0 r) w1 n0 z0 e1 nw = absurd (omega arith)
+  whole-read h (D.wrong-length q a i e0 m r) w1 n0 z0 e1 nw =
       absurd (⊎-elim (λ b. omega arith) (λ b. omega arith) (read-keeps h (D.wrong-length q a i e0 m r) .state))
+  whole-read h (D.waits q a r) w1 n0 z0 e1 nw = absurd (true≢false nw)
 
--- what an undisturbed period is at block level: the reading equals the return bit, a synchronising block is found, and an
--- item that is not cancelled arrives whole
+-- what an undisturbed period is at block level: the reading equals the return bit, a synchronising block is found, an item
+-- that is not cancelled arrives whole, and none waits
 pub record Undisturbed (s : Ends) (n : Next) (reading : ℕ) (f : LineBlock) (e : Event) : Type 0 where
   pub read : reading ≡ s .back
   pub synced : f ≡ sync → e ≡ E.Sync
   pub whole : (i w : ℕ) → f ≡ item i w → (n ≡ Newer → reading ≡ 0) → w ≡ 1
+  pub no-wait : eventKind e .wait ≡ false
 
 older-newer : Older ≡ Newer → ⊥
 older-newer p = let z : _≡_ {A = ℕ} 0 1 = cc in omega arith
@@ -109,13 +112,13 @@ module _ {N : ℕ} {s t u : Ends} {reading : ℕ} where
       let b′ = between-of (read-keeps k y) (omega arith) in
       ⊎-elim
       (λ z. ⊎-elim inl (λ p. inr (omega arith))
-      (whole-read k y (c .whole i w refl (λ p. absurd (older-newer p))) n (omega arith) (omega arith)))
+      (whole-read k y (c .whole i w refl (λ p. absurd (older-newer p))) n (omega arith) (omega arith) (c .no-wait)))
       (λ z. inr (omega arith))
       (zero-or-one (s .search) (b .search))
   rank-falls h (D.wholes {i = j} {w = w} r z e le l i u o f x) y c m n e0 =
       let b = between-of h m in
       let k = send-keeps h (D.wholes r z e le l i u o f x) in
-      ⊎-elim inl (λ p. absurd (omega arith)) (whole-read k y (c .whole j w refl (λ p. z)) n (omega arith) (omega arith))
+      ⊎-elim inl (λ p. absurd (omega arith)) (whole-read k y (c .whole j w refl (λ p. z)) n (omega arith) (omega arith) (c .no-wait))
   rank-falls h (D.lasts r z e le w i u o f l) y c m n e0 =
       let b = between-of h m in
       absurd (omega arith)

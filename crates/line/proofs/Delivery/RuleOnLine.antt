@@ -9,23 +9,24 @@ use borrow.Author.Tests.{eqb-true, le-leb}
 use lib.ListN.{length}
 use Rattle.crc.specs.Bits.{Bits, bit}
 use Rattle.block.specs.Block.{syncBlock}
-use Rattle.block.proofs.Truth.{and-no}
+use Rattle.block.proofs.Truth.{and-no, cond-case}
 use Rattle.line.specs.Order.{longestOrder, mostItems, validLength, itemCount, itemBits}
 use Rattle.line.specs.Sending.{Block, synchronising, item}
-use Rattle.line.specs.Receiving.{Rule, sequence-found, sync-block, check-fails, ends, anything-else, meaning, eventKind, after, judge}
+use Rattle.line.specs.Receiving.{Rule, sequence-found, sync-block, check-fails, accepts, previous, out-of-sequence, ends, wrong-length, ends-again, anything-else, waits, meaning, eventKind, after, judge, orWait}
 use Rattle.line.specs.Course.{World}
-use Rattle.line.specs.Delivery.{isItem}
+use Rattle.line.specs.Delivery.{isItem, readGood}
 use Rattle.line.specs.declared.receiver.Receiver.{Receiver}
 use Rattle.line.specs.declared.receiving.Phase.the-variants as P
 use Rattle.line.specs.declared.receiving.Event.the-variants as E
 use Rattle.line.proofs.Items.{itemCount-fits}
+use Rattle.line.proofs.OrWait.{same-data-or-end}
 use Rattle.line.proofs.Delivery.Ends.{LineBlock, Reads, During}
 use Rattle.line.proofs.Delivery.Ends as D
 use Rattle.line.proofs.Delivery.Invariant.{neighbour}
 use Rattle.line.proofs.Delivery.Progress.{endingWith}
 use Rattle.line.proofs.Delivery.BlockRules as J
 use Rattle.line.proofs.Delivery.BlockRules.{Unharmed, Judged, judged, judge-item, judge-fails, judge-sync}
-use Rattle.line.proofs.Delivery.BlockStep.{endsBlock, same-sender, good-in-step, unharmed-reads, fails-reads, other-reads}
+use Rattle.line.proofs.Delivery.BlockStep.{endsBlock, same-sender, good-in-step, unharmed-reads, waits-reads, fails-reads, other-reads}
 use Rattle.line.proofs.Delivery.State.{Session, N, Fit, alarmStands, endsOf, BusyLine, CopyOf, syncing, whole, damaged}
 use Rattle.line.proofs.Delivery.State as S
 
@@ -38,7 +39,7 @@ few o fit = itemCount-fits (o .k) (o .L) (fit .known)
 
 -- its rule ends the block with a passing check, reports no length but L, and stores no item but item r
 unharmed-facts : {k L r : ℕ} {ended : Bool} {i : ℕ} {x : Rule} → Unharmed k L r ended i x
-    → (endsBlock x ≡ true) × (meaning x .checked ≡ true) × ((M : ℕ) → endingWith M (eventKind (meaning x .event)) ≡ true → M ≡ L)
+    → (endsBlock x ≡ true) × (readGood x ≡ true) × ((M : ℕ) → endingWith M (eventKind (meaning x .event)) ≡ true → M ≡ L)
     × (meaning x .stores ≡ true → (i ≡ r) × (i < itemCount k L))
 unharmed-facts (J.expected-item h e m) = (refl, refl, λ M n. absurd (false≢true n), λ n. (m, h))
 unharmed-facts (J.last-item h e m) = (refl, refl, λ M n. absurd (false≢true n), λ n. absurd (false≢true n))
@@ -62,7 +63,7 @@ module _ (o : Session) (fit : Fit o) (w : World) (l d : ℕ) (copy : Bits) (f : 
 
   -- the danger left by a rule, and the reading of a block by it, at block level
   abbrev danger-left : Rule → ℕ
-  danger-left x = cond (isItem (w .block) && meaning x .checked) 0 d
+  danger-left x = cond (isItem (w .block) && readGood x) 0 d
 
   abbrev ReadBy : Rule → ℕ → LineBlock → Type 0
   ReadBy x m g = Reads (N o) (endsOf w l d) (S.ends (w .sender) (after r x) l m) g (meaning x .event)
@@ -143,13 +144,13 @@ module _ (o : Session) (fit : Fit o) (w : World) (l d : ℕ) (copy : Bits) (f : 
         ap (judge (o .marks .«in_use») (o .k) (r .taken) (r .ended)) c
         ∙ judge-sync (o .marks .«in_use») (o .k) (r .taken) (r .ended) (fit .known)
 
-    synchronising-read : {x : Rule} → Judged x → x ≡ rule → f ≡ LineBlock.sync → w .block ≡ synchronising
-        → meaning x .data-or-end ≡ false → Ruling x
-    synchronising-read J.as-sync e q z a = sync-ruling quiet q
-    synchronising-read J.fails e q z a =
+    synchronising-read : (ready : Bool) {x : Rule} → Judged x → x ≡ rule → f ≡ LineBlock.sync → w .block ≡ synchronising
+        → meaning (orWait ready x) .data-or-end ≡ false → Ruling (orWait ready x)
+    synchronising-read ready J.as-sync e q z a = sync-ruling quiet q
+    synchronising-read ready J.fails e q z a =
         fails-ruling (inl q) (λ p c. let v = whole-sync c in let y : _≡_ {A = ℕ} 0 1 = cc in omega arith)
-    synchronising-read (J.as-data n) e q z a = absurd (true≢false (sym n ∙ a))
-    synchronising-read J.as-other e q z a =
+    synchronising-read ready {x} (J.as-data n) e q z a = absurd (true≢false (sym n ∙ sym (same-data-or-end ready x) ∙ a))
+    synchronising-read ready J.as-other e q z a =
         other-ruling q z (λ c. let v = whole-sync c in let y : _≡_ {A = ℕ} 0 1 = cc in omega arith)
 
     module _ (i : ℕ) (q : f ≡ LineBlock.item i 1) (good : isItem (w .block) ≡ true)
@@ -166,24 +167,45 @@ module _ (o : Session) (fit : Fit o) (w : World) (l d : ℕ) (copy : Bits) (f : 
             clean = λ p y. absurd (not-sync q p);
           }
 
-    -- the rule of the block on the line, whatever it is, where sync comes only of a synchronising block and no
+      -- the machine is not ready
+      waits-ruling : Ruling waits
+      waits-ruling =
+          record {
+            ends-block = refl;
+            reads = subst₂ (ReadBy waits) (sym (not-good false (inl refl))) (sym q) (waits-reads o (w .sender) r l d step i);
+            length = λ M n. absurd (false≢true n);
+            takes = λ n. absurd (false≢true n);
+            clean = λ p y. absurd (not-sync q p);
+          }
+
+      or-waits : (ready : Bool) (x : Rule) → Unharmed (o .k) (o .L) (r .taken) (r .ended) i x → Ruling (orWait ready x)
+      or-waits ready x (J.expected-item h e m) =
+          cond-case Ruling ready (λ y. unharmed-read accepts (J.expected-item h e m)) (λ y. waits-ruling)
+      or-waits ready x (J.last-item h e m) = unharmed-read previous (J.last-item h e m)
+      or-waits ready x (J.next-item h e m) = unharmed-read out-of-sequence (J.next-item h e m)
+      or-waits ready x (J.end-again h e) = unharmed-read ends-again (J.end-again h e)
+      or-waits ready x (J.end-all h e t) =
+          cond-case Ruling ready (λ y. unharmed-read (ends (o .L)) (J.end-all h e t)) (λ y. waits-ruling)
+      or-waits ready x (J.end-short h e t) = unharmed-read wrong-length (J.end-short h e t)
+
+    -- the rule of the block on the line, whatever it is, ready or not, where sync comes only of a synchronising block and no
     -- synchronising block is read as data or end
-    pub step-ruling : (meaning rule .event ≡ E.Sync → w .block ≡ synchronising)
-        → (w .block ≡ synchronising → meaning rule .data-or-end ≡ false) → Ruling rule
-    step-ruling so sd = go (line .copy-of) refl
+    pub step-ruling : (ready : Bool) → (meaning (orWait ready rule) .event ≡ E.Sync → w .block ≡ synchronising)
+        → (w .block ≡ synchronising → meaning (orWait ready rule) .data-or-end ≡ false) → Ruling (orWait ready rule)
+    step-ruling ready so sd = go (line .copy-of) refl
       where
-        go : {g : LineBlock} → CopyOf o (w .block) copy g → f ≡ g → Ruling rule
+        go : {g : LineBlock} → CopyOf o (w .block) copy g → f ≡ g → Ruling (orWait ready rule)
         go (syncing z) q =
-            synchronising-read (judged (o .marks .«in_use») (o .k) (r .taken) (r .ended) copy) refl q z (sd z)
+            synchronising-read ready (judged (o .marks .«in_use») (o .k) (r .taken) (r .ended) copy) refl q z (sd z)
         go (whole {i = i} z c) q =
-            unharmed-read i q (ap isItem z) c rule
+            or-waits i q (ap isItem z) c ready rule
             (subst (λ (y : Bits). Unharmed (o .k) (o .L) (r .taken) (r .ended) i (judge (o .marks .«in_use») (o .k) (r .taken) (r .ended) y)) (sym c)
             (judge-item (o .marks) (o .k) (o .L) (o .content) (fit .known) (fit .low) (fit .high) (fit .content) (r .taken) (r .ended) i
             (few o fit) (neighbour (rw q at (line .busy)) (ap bit quiet))))
         go (damaged {i = i} z p) q =
             ⊎-elim
-            (λ y. absurd (not-item z (so (ap (λ (x : Rule). meaning x .event) y))))
-            (λ y. subst Ruling (sym y) (fails-ruling (inr (i, q)) (λ a b. not-sync q a)))
+            (λ y. absurd (not-item z (so (ap (λ (x : Rule). meaning (orWait ready x) .event) y))))
+            (λ y. subst (λ (x : Rule). Ruling (orWait ready x)) (sym y) (fails-ruling (inr (i, q)) (λ a b. not-sync q a)))
             (judge-fails (o .marks .«in_use») (o .k) (r .taken) (r .ended) copy p)
 
   -- a synchronising block on the line is one at block level

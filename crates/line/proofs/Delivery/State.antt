@@ -13,9 +13,9 @@ use Rattle.block.specs.Block.{syncBlock}
 use Rattle.line.specs.Marks.{marksInRange}
 use Rattle.line.specs.Order.{longestOrder, itemCount, filled, itemBits}
 use Rattle.line.specs.Sending.{Block, synchronising, item, lastRun}
-use Rattle.line.specs.Receiving.{arrayBytes, lastBad, heldBits, latest, heldInRange}
+use Rattle.line.specs.Receiving.{arrayBytes, eventKind, lastBad, heldBits, latest, heldInRange}
 use Rattle.line.specs.Course.{World, Entry}
-use Rattle.line.specs.Delivery.{OnLine, SameOrder, SameStore, Admitted, NotWhole, SyncAtLast, SyncNotData, OnlyRefused, isNew, isEnd, isAlarm, isLost, isGood, reportsEnd}
+use Rattle.line.specs.Delivery.{OnLine, SameOrder, SameStore, Admitted, NotWhole, SyncAtLast, SyncNotData, OnlyRefused, isNew, isEnd, isAlarm, isLost, isWait, isGood, reportsEnd}
 use Rattle.line.specs.declared.marks.Marks.{Marks}
 use Rattle.line.specs.declared.sender.Sender.{Sender}
 use Rattle.line.specs.declared.sender.Setup as S
@@ -187,6 +187,7 @@ pub record Done (o : Session) (w : World) (l d : ℕ) (copy : Bits) (f : LineBlo
   pub event : Event
   pub reads : Reads (N o) (endsOf w l d) (endsOf w′ (lost′ l e) (danger′ d e)) f event
   pub news : isNewOrEnd event ≡ (isNew e || isEnd e)
+  pub wait : eventKind event .wait ≡ isWait e
   pub clean : f ≡ LineBlock.sync → copy ≡ syncBlock (o .k) → alarmStands (w .receiver .phase) ≡ false → event ≡ E.Sync
 
 -- a receiving call while a block is on the line: it goes on, and while no alarm stands the numbers are as before, or it is done

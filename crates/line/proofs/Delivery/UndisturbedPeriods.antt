@@ -13,7 +13,7 @@ use Rattle.block.proofs.Truth.{or-false, or-no, bit-false}
 use Rattle.line.specs.Sending.{item}
 use Rattle.line.specs.Receiving.{Reception}
 use Rattle.line.specs.Course.{World, Call, Entry, receive-refused, receiveEntry, receiveAfter, course}
-use Rattle.line.specs.Delivery.{some, isNew, isEnd, isAlarm, isLost, Period, group, usedBits, Undisturbed, All, brings}
+use Rattle.line.specs.Delivery.{some, isNew, isEnd, isAlarm, isLost, isWait, Period, group, usedBits, Undisturbed, All, brings}
 use Rattle.line.specs.declared.sender.Next.{Next}
 use Rattle.line.specs.declared.sender.Next.the-variants.{Newer}
 use Rattle.line.proofs.Delivery.Ends.{Ends, LineBlock, Sends, Idle}
@@ -41,13 +41,14 @@ pub record Began (o : Session) (w : World) (d : ℕ) (copy : Bits) (f : LineBloc
   pub synced : f ≡ LineBlock.sync → copy ≡ syncBlock (o .k)
   pub whole : (i v : ℕ) → f ≡ LineBlock.item i v → (next ≡ Newer → reading ≡ 0) → v ≡ 1
 
--- a block is on the line, and the calls up to the next period use all that is left of it
+-- a block is on the line, and the calls up to the next period use all that is left of it, and none waits
 pub record During (o : Session) (w : World) (d limit : ℕ) (es : List Entry) : Type 0 where
   pub copy : Bits
   pub line-block : LineBlock
   pub line : BusyLine o w 0 d copy line-block
   pub began : Began o w d copy line-block
   pub used : usedBits (group es .loose) ≡ length (w .left)
+  pub no-wait : some isWait (group es .loose) ≡ false
   pub ended : w .receiver .ended ≡ false
   pub bound : rank (began .start) (began .next) ≤ limit + 1
 
@@ -100,9 +101,10 @@ module _ (o : Session) (fit : Fit o) where
   -- a refused call: nothing is used, and the states stay
   pub skip : (x : Entry) (es : List Entry) (w : World) (d limit : ℕ)
       → usedBits (group (x ∷ es) .loose) ≡ usedBits (group es .loose)
+      → some isWait (group (x ∷ es) .loose) ≡ some isWait (group es .loose)
       → Between o w d limit ⊎ During o w d limit (x ∷ es) → Between o w d limit ⊎ During o w d limit es
-  skip x es w d limit u (inl g) = inl g
-  skip x es w d limit u (inr g) =
+  skip x es w d limit u v (inl g) = inl g
+  skip x es w d limit u v (inr g) =
       inr
       (record {
         copy = g .copy;
@@ -110,6 +112,7 @@ module _ (o : Session) (fit : Fit o) where
         line = g .line;
         began = g .began;
         used = sym u ∙ g .used;
+        no-wait = sym v ∙ g .no-wait;
         ended = g .ended;
         bound = g .bound;
       })
@@ -119,7 +122,7 @@ module _ (o : Session) (fit : Fit o) where
   module _ (cs : List Call) (ih : Shorts cs) (w : World) (d limit : ℕ) (lent : Bits) (count : ℕ) (store : List ℕ) where
     hear-refused : (n : ℕ) → Short w d limit (receive-refused n ∷ course w cs)
     hear-refused n base m ok nl ps behind e un q b =
-        ih w d limit base (skip (receive-refused n) (course w cs) w d limit (omega arith) m)
+        ih w d limit base (skip (receive-refused n) (course w cs) w d limit (omega arith) refl m)
         (okays-same o (alarmStands (w .receiver .phase)) d (course w cs) (ok .1)) nl ps behind e un q b
 
     module _ (y : Reception) where
@@ -162,6 +165,7 @@ module _ (o : Session) (fit : Fit o) where
                   read = g .began .read;
                   synced = λ p. v .clean p (g .began .synced p) (quiet-busy (g .line));
                   whole = g .began .whole;
+                  no-wait = v .wait ∙ or-false (isWait x) (some isWait (group (course w′ cs) .loose)) (g .no-wait) .0;
                 })
                 (g .began .lost) refl (g .began .ended));
           }
@@ -190,6 +194,7 @@ module _ (o : Session) (fit : Fit o) where
                   whole = g .began .whole;
                 };
             used = omega (arith, length-drop (y .used) (w .left), g .used);
+            no-wait = or-false (isWait x) (some isWait (group (course w′ cs) .loose)) (g .no-wait) .1;
             ended = ended;
             bound = g .bound;
           }

@@ -19,7 +19,7 @@ service-not-one : (in-use : Bool) (k r : ℕ) (ended : Bool) (service : ℕ) (pa
     → serviceRule in-use k r ended service payload ≡ sync-block → ⊥
 service-not-one =
     service-case (λ (x : Rule). x ≡ sync-block → ⊥)
-    (λ x d q. true≢false (sym d ∙ ap (λ (y : Rule). meaning y .data-or-end) q))
+    (λ x d w q. true≢false (sym d ∙ ap (λ (y : Rule). meaning y .data-or-end) q))
     (λ q. let v : _≡_ {A = ℕ} 0 1 = cc in omega arith)
 
 -- an item is never read by rule 1

@@ -81,8 +81,8 @@ heard-bytes w lent store (done x) h b =
 
 call-bytes : (w : World) (c : Call) → SameStore (entry w c) → Bytes (w .store) → Bytes (next w c .store)
 call-bytes w (sending order reading slice arrives) h = sent-bytes w reading arrives (send (w .sender) order reading slice)
-call-bytes w (receiving line count store) h =
-    heard-bytes w (take count (bitsOf line)) store (receive (w .receiver) line count store) h
+call-bytes w (receiving line count ready store) h =
+    heard-bytes w (take count (bitsOf line)) store (receive (w .receiver) line count ready store) h
 
 kept-bytes : (calls : List Call) (w : World) → All SameStore (course w calls) → Bytes (w .store) → Bytes (final w calls .store)
 kept-bytes [] w h b = b

@@ -29,16 +29,16 @@ Full p = length (lent p) ≡ p .count
 abbrev pub outcome : Receiver → List ℕ → Answer Reception → Outcome
 outcome s store answer = record { answer = answer; store = receiveStore s store answer }
 
-abbrev pub rowAnswer : Receiver → List ℕ → Bits → Answer Reception
-rowAnswer s store row = refuseIf (not (receiverInRange s)) A.spoiled (judgeStore s store (reads s row))
+abbrev pub rowAnswer : Receiver → Bool → List ℕ → Bits → Answer Reception
+rowAnswer s ready store row = refuseIf (not (receiverInRange s)) A.spoiled (judgeStore s store (reads s ready row))
 
-abbrev rowOutcome : Receiver → List ℕ → Bits → Outcome
-rowOutcome s store row = outcome s store (rowAnswer s store row)
+abbrev rowOutcome : Receiver → Bool → List ℕ → Bits → Outcome
+rowOutcome s ready store row = outcome s store (rowAnswer s ready store row)
 
-pub receive-row : (s : Receiver) (store : List ℕ) (p : Piece) → Full p
-    → receive s (p .line) (p .count) store ≡ rowAnswer s store (lent p)
+pub receive-row : (s : Receiver) (ready : Bool) (store : List ℕ) (p : Piece) → Full p
+    → receive s (p .line) (p .count) ready store ≡ rowAnswer s ready store (lent p)
 unfolding receive
-receive-row s store p h =
+receive-row s ready store p h =
     let enough : tooShort (p .line) (p .count) ≡ false =
     le-ltb (8 * length (p .line)) (p .count) (omega (arith, length-take (p .count) (bitsOf (p .line)), length-bitsOf (p .line))) in
     rw (enough, h)
@@ -58,34 +58,34 @@ module _ (s t : Receiver) (store : List ℕ) (k : t .setup .k ≡ s .setup .k) (
   store-addUsed (refused m) = refl
   store-addUsed (done y) = rw (k, taken)
 
-module _ (s : Receiver) (store : List ℕ) (a : Bits) (q : Piece) where
+module _ (s : Receiver) (ready : Bool) (store : List ℕ) (a : Bits) (q : Piece) where
   abbrev first : Reception
-  first = reads s a
+  first = reads s ready a
 
   abbrev Same : Answer Reception → Type 0
-  Same answer = outcome s store (judgeStore s store (reads s (a ++ lent q))) ≡ nextCall answer (receiveStore s store answer) q
+  Same answer = outcome s store (judgeStore s store (reads s ready (a ++ lent q))) ≡ nextCall answer ready (receiveStore s store answer) q
 
-  calls-on : Onward s a first → Full q → Same (judgeStore s store first)
+  calls-on : Onward s ready a first → Full q → Same (judgeStore s store first)
   calls-on o h =
       let t : Receiver = first .state in
       let row : Bits = lent q in
       let keeps : meaning (first .rule) .stores ≡ false = rw (o .quiet) at (quiet-rule (first .rule) .0) in
       rw (
         o .more row,
-        judge-addUsed s t store (o .k) (o .taken) (length a) (reads t row),
-        store-addUsed s t store (o .k) (o .taken) (length a) (judgeStore t store (reads t row)),
+        judge-addUsed s t store (o .k) (o .taken) (length a) (reads t ready row),
+        store-addUsed s t store (o .k) (o .taken) (length a) (judgeStore t store (reads t ready row)),
         keeps,
         keeps,
         o .quiet,
         o .used,
-        receive-row t store q h,
+        receive-row t ready store q h,
         o .range,
       )
 
-  calls-stop : Within s a first → Same (judgeStore s store first)
+  calls-stop : Within s ready a first → Same (judgeStore s store first)
   calls-stop w =
       ap (λ (y : Reception). outcome s store (judgeStore s store y)) (w .more (lent q))
-      ∙ cond-case (λ (y : Answer Reception). outcome s store y ≡ nextCall y (receiveStore s store y) q)
+      ∙ cond-case (λ (y : Answer Reception). outcome s store y ≡ nextCall y ready (receiveStore s store y) q)
       (meaning (first .rule) .stores && tooShort store (s .taken * s .setup .k + s .setup .k)) (λ t. refl) (λ t. rw (w .event))
 
 -- ---- any number of calls
@@ -103,18 +103,18 @@ full-rest p ps e =
     many [] = omega arith
     many (p ∷ ps) = omega (arith, length-append (lent p) (joined ps), one p, many ps)
 
-module _ (s : Receiver) (store : List ℕ) (array : length (s .bits) ≡ arrayBytes) where
+module _ (s : Receiver) (ready : Bool) (store : List ℕ) (array : length (s .bits) ≡ arrayBytes) where
   next-call : (a : Bits) (q : Piece) → Full q
-      → rowOutcome s store (a ++ lent q) ≡ nextCall (rowAnswer s store a) (receiveStore s store (rowAnswer s store a)) q
+      → rowOutcome s ready store (a ++ lent q) ≡ nextCall (rowAnswer s ready store a) ready (receiveStore s store (rowAnswer s ready store a)) q
   next-call a q h =
       ⊎-elim
-      (λ range. rw range (⊎-elim (λ o. calls-on s store a q o h) (calls-stop s store a q) (splits s (in-range s range) array a)))
+      (λ range. rw range (⊎-elim (λ o. calls-on s ready store a q o h) (calls-stop s ready store a q) (splits s ready (in-range s range) array a)))
       (λ range. rw range) (either (receiverInRange s))
 
   pub next-calls : (ps : List Piece) (a : Bits) → length (joined ps) ≡ total ps
-      → rowOutcome s store (a ++ joined ps) ≡ nextCalls (rowOutcome s store a) ps
-  next-calls [] a e = ap (rowOutcome s store) (append-nil a)
+      → rowOutcome s ready store (a ++ joined ps) ≡ nextCalls (rowOutcome s ready store a) ready ps
+  next-calls [] a e = ap (rowOutcome s ready store) (append-nil a)
   next-calls (q ∷ ps) a e =
       let full = full-rest q ps e in
-      ap (rowOutcome s store) (sym (append-assoc a (lent q) (joined ps))) ∙ next-calls ps (a ++ lent q) (full .1)
-      ∙ ap (λ (y : Outcome). nextCalls y ps) (next-call a q (full .0))
+      ap (rowOutcome s ready store) (sym (append-assoc a (lent q) (joined ps))) ∙ next-calls ps (a ++ lent q) (full .1)
+      ∙ ap (λ (y : Outcome). nextCalls y ready ps) (next-call a q (full .0))

@@ -1,7 +1,7 @@
 -- A block split anywhere, in step: what is held of it, and its row when it is complete. Assumes nothing.
 use mathlib.Core.Path.{_≡_, refl, ap, ap₂, sym, _∙_}
 use mathlib.Core.Logic.{⊎-elim}
-use mathlib.Core.Bool.{true, false, _&&_}
+use mathlib.Core.Bool.{Bool, true, false, _&&_}
 use mathlib.Core.List.{List, [], _++_, append-assoc}
 use native.Mathlib.Omega.{arith}
 use Prim.Native.Nat.{ℕ, _+_, _*_, _≤_, _<_}
@@ -13,7 +13,7 @@ use Rattle.crc.specs.Bits.{Bits, bitsOf, bytesOf}
 use Rattle.crc.proofs.Bytes.{length-bitsOf, bitsOf-bytesOf-exact}
 use Rattle.block.specs.Lengths.{isLength}
 use Rattle.block.proofs.Lengths.{length-facts}
-use Rattle.line.specs.Receiving.{arrayBytes, Rule, unfinished, standing, sequence-found, sync-block, check-fails, accepts, previous, out-of-sequence, ends, wrong-length, ends-again, anything-else, meaning, blockRule, heldBits, stops, overwrite, holding, missing, finishedRow, inStep}
+use Rattle.line.specs.Receiving.{arrayBytes, Rule, unfinished, standing, sequence-found, sync-block, check-fails, accepts, previous, out-of-sequence, ends, wrong-length, ends-again, anything-else, waits, meaning, blockRule, heldBits, stops, overwrite, holding, missing, finishedRow, inStep}
 use Rattle.line.specs.Pieces.{addUsed}
 use Rattle.line.specs.declared.receiver.Receiver.{Receiver}
 use Rattle.line.proofs.InStepBits.{step-on, step-done}
@@ -72,40 +72,40 @@ module _ (s : Receiver) (array : length (s .bits) ≡ arrayBytes) (a : Bits) (ro
 
 -- a first piece that completes no block
 module _ (s : Receiver) (array : length (s .bits) ≡ arrayBytes) (known : isLength (s .setup .k) ≡ true)
-    (a : Bits) (h : length a < missing s) where
+    (a : Bits) (h : length a < missing s) (ready : Bool) where
   room : s .held + length a ≤ 3864
   room = omega (arith, length-facts (s .setup .k) known)
 
-  pub step-addUsed : (b : Bits) → inStep s (a ++ b) ≡ addUsed (length a) (inStep (holding s a) b)
+  pub step-addUsed : (b : Bits) → inStep s (a ++ b) ready ≡ addUsed (length a) (inStep (holding s a) b ready)
   step-addUsed b = ⊎-elim (λ t. on (ltb-true (length b) (missing (holding s a)) t))
       (λ t. complete (ltb-false (length b) (missing (holding s a)) t)) (either (ltb (length b) (missing (holding s a))))
     where
-      on : length b < missing (holding s a) → inStep s (a ++ b) ≡ addUsed (length a) (inStep (holding s a) b)
+      on : length b < missing (holding s a) → inStep s (a ++ b) ready ≡ addUsed (length a) (inStep (holding s a) b ready)
       on l =
-          step-on s (a ++ b) (omega (arith, length-append a b))
+          step-on s (a ++ b) ready (omega (arith, length-append a b))
           ∙ ap₂ (λ (n : ℕ) (t : Receiver). record { rule = unfinished; row = []; used = n; state = t })
           (length-append a b) (sym (holding-again s array a room b))
-          ∙ ap (addUsed (length a)) (sym (step-on (holding s a) b l))
+          ∙ ap (addUsed (length a)) (sym (step-on (holding s a) b ready l))
 
-      complete : missing (holding s a) ≤ length b → inStep s (a ++ b) ≡ addUsed (length a) (inStep (holding s a) b)
+      complete : missing (holding s a) ≤ length b → inStep s (a ++ b) ready ≡ addUsed (length a) (inStep (holding s a) b ready)
       complete l =
           let n : missing s ≡ length a + missing (holding s a) = omega arith in
           let row : Bits = finishedRow (holding s a) b in
-          let rule : Rule = blockRule s row in
-          step-done s (a ++ b) (omega (arith, length-append a b))
-          ∙ ap₂ (λ (x : Bits) (m : ℕ). stops s (blockRule s x) x m)
+          let rule : Rule = blockRule s row ready in
+          step-done s (a ++ b) ready (omega (arith, length-append a b))
+          ∙ ap₂ (λ (x : Bits) (m : ℕ). stops s (blockRule s x ready) x m)
           (sym (finishedRow-again s array a room b (omega arith))) n
           ∙ ap (λ (t : Receiver). record { rule = rule; row = row; used = length a + missing (holding s a); state = t })
-          (sym (after-holding s a (block-judged s row)))
-          ∙ ap (addUsed (length a)) (sym (step-done (holding s a) b l))
+          (sym (after-holding s a (block-judged s row ready)))
+          ∙ ap (addUsed (length a)) (sym (step-done (holding s a) b ready l))
 
 -- a block is complete, and bits behind it change nothing
-pub step-within : (s : Receiver) (a b : Bits) → missing s ≤ length a → inStep s (a ++ b) ≡ inStep s a
-step-within s a b h =
-    step-done s (a ++ b) (omega (arith, length-append a b))
-    ∙ ap (λ (x : Bits). stops s (blockRule s (heldBits s ++ x)) (heldBits s ++ x) (missing s))
+pub step-within : (s : Receiver) (a b : Bits) (ready : Bool) → missing s ≤ length a → inStep s (a ++ b) ready ≡ inStep s a ready
+step-within s a b ready h =
+    step-done s (a ++ b) ready (omega (arith, length-append a b))
+    ∙ ap (λ (x : Bits). stops s (blockRule s (heldBits s ++ x) ready) (heldBits s ++ x) (missing s))
     (take-append-le (missing s) a b h)
-    ∙ sym (step-done s a h)
+    ∙ sym (step-done s a ready h)
 
 -- a rule that uses all bits stores nothing, and reads no block
 pub quiet-rule : (x : Rule)
@@ -122,6 +122,7 @@ quiet-rule (ends L) = (refl, refl)
 quiet-rule wrong-length = (refl, refl)
 quiet-rule ends-again = (refl, refl)
 quiet-rule anything-else = (refl, refl)
+quiet-rule waits = (refl, refl)
 
 pub judged-event : {x : Rule} → Judged x → meaning x .uses-all ≡ false
 judged-event as-sync = refl

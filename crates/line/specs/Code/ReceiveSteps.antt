@@ -1,7 +1,7 @@
 -- What the receiver's private functions ask and promise: the code's rules, and what is handed back for a reception.
 -- Assumes nothing.
 use mathlib.Core.Path.{_≡_}
-use mathlib.Core.Bool.{true}
+use mathlib.Core.Bool.{Bool, true}
 use mathlib.Core.List.{List}
 use Prim.Native.Nat.{ℕ, _*_, _^_, _≤_, _<_}
 use lib.ListN.{length}
@@ -21,7 +21,7 @@ use Rattle.line.specs.declared.receiver.Opened.{Opened}
 use Rattle.line.specs.declared.receiver.Opening.the-variants as O
 use Rattle.line.specs.Marks.{marksOf}
 use Rattle.line.specs.Order.{mostItems}
-use Rattle.line.specs.Receiving.{arrayBytes, freshReceiver, lastBad, Rule, accepts, previous, out-of-sequence, ends, wrong-length, ends-again, anything-else, meaning, blockRule, stops, Reception, judgeStore, receivedAnswer, reported, receiveState, receiveStore}
+use Rattle.line.specs.Receiving.{arrayBytes, freshReceiver, lastBad, Rule, accepts, previous, out-of-sequence, ends, wrong-length, ends-again, anything-else, waits, meaning, blockRule, stops, Reception, judgeStore, receivedAnswer, reported, receiveState, receiveStore}
 use Rattle.line.specs.ReceivingInPlace.{withArray}
 
 -- ---- what the private functions ask of their arguments
@@ -54,6 +54,7 @@ ruleOf (C.Ends L) = ends L
 ruleOf C.WrongLength = wrong-length
 ruleOf C.EndsAgain = ends-again
 ruleOf C.AnythingElse = anything-else
+ruleOf C.Waits = waits
 
 -- the bits that a window holds
 abbrev pub windowBits : Window → Bits
@@ -79,8 +80,8 @@ abbrev pub refusedOpening : ℕ → Opened
 refusedOpening n = record { state = freshReceiver 0 (marksOf Size.NotGiven); answer = O.Refused n }
 
 -- what is read where these n bits complete a block
-abbrev pub judged : Receiver → Bits → ℕ → Reception
-judged s row used = stops s (blockRule s row) row used
+abbrev pub judged : Receiver → Bits → Bool → ℕ → Reception
+judged s row ready used = stops s (blockRule s row ready) row used
 
 -- what a call hands back for what it read, the store judged
 pub record Handed (s : Receiver) (store : List ℕ) (x : Reception) (result : Step) (store′ : List ℕ) : Type 0 where

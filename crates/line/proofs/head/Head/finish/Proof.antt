@@ -1,5 +1,6 @@
 -- `Head::finish` meets its contract: the finished row stands in the line, or in the copy of the array. Assumes nothing.
 use mathlib.Core.Path.{_≡_, ap, _∙_, subst}
+use mathlib.Core.Bool.{Bool}
 use mathlib.Core.List.{List}
 use Prim.Native.Nat.{ℕ}
 use native.Mathlib.Omega.{arith}
@@ -18,11 +19,11 @@ use Rattle.line.proofs.head.Head.finish.Statement.{statement}
 use Rattle.line.proofs.head.Head.finish.Tie as tie
 
 -- the same row, judged
-by-row : (h : Head) (array store : List ℕ) (used : ℕ) (row row′ : Bits) (r : HeadStep) (array′ store′ : List ℕ) → row ≡ row′
-    → Handed (withArray h array) store (judged (withArray h array) row used) (stepWith r array′) store′
-    → Handed (withArray h array) store (judged (withArray h array) row′ used) (stepWith r array′) store′
-by-row h array store used row row′ r array′ store′ e =
-    subst (λ (x : Bits). Handed (withArray h array) store (judged (withArray h array) x used) (stepWith r array′) store′) e
+by-row : (h : Head) (array store : List ℕ) (used : ℕ) (ready : Bool) (row row′ : Bits) (r : HeadStep) (array′ store′ : List ℕ) → row ≡ row′
+    → Handed (withArray h array) store (judged (withArray h array) row ready used) (stepWith r array′) store′
+    → Handed (withArray h array) store (judged (withArray h array) row′ ready used) (stepWith r array′) store′
+by-row h array store used ready row row′ r array′ store′ e =
+    subst (λ (x : Bits). Handed (withArray h array) store (judged (withArray h array) x ready used) (stepWith r array′) store′) e
 
 judge-requires : tie.Need-judge-requires
 judge-requires c κs =
@@ -38,7 +39,7 @@ same-length-2 c = search needs
 returns : tie.Need-returns
 returns c =
     let a = c .before .before .before .before .before .before .before .before .before .before .before .before in
-    by-row _ _ _ _ _ _ _ _ _ (finished-in-line (withArray (a .args .self) (a .args .array .now)) (a .args .line .now) (a .args .missing) (a .pre .1) (c .before .before .before .before .before .before .before .if1 .taken))
+    by-row _ _ _ _ _ _ _ _ _ _ (finished-in-line (withArray (a .args .self) (a .args .array .now)) (a .args .line .now) (a .args .missing) (a .pre .1) (c .before .before .before .before .before .before .before .if1 .taken))
     (c .before .before .before .before .judge .ensures)
 
 copied-requires : tie.Need-copied-requires
@@ -79,7 +80,7 @@ returns-2 c =
     let put : c .before .before .before .before .before .before .before .before .before .put-bits .last .0 ≡ bytesOf arrayBytes (overwrite (a .args .self .held) new (bitsOf (a .args .array .now))) =
     c .before .before .before .before .before .before .before .before .before .put-bits .ensures
     ∙ ap (λ (x : List ℕ). bytesOf arrayBytes (overwrite (a .args .self .held) new (bitsOf x))) (c .before .before .before .before .before .before .before .before .before .before .before .copied .ensures) in
-    by-row _ _ _ _ _ _ _ _ _
+    by-row _ _ _ _ _ _ _ _ _ _
     (ap (λ (x : List ℕ). take n (bitsOf x)) put
     ∙ finished-in-array (withArray (a .args .self) (a .args .array .now)) (a .args .line .now) (a .args .missing) (a .pre .1) (a .pre .2) (a .pre .0 .array-length) (omega arith))
     (c .before .before .before .before .judge2 .ensures)

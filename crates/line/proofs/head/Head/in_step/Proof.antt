@@ -38,8 +38,8 @@ returns : tie.Need-returns
 returns c =
     let a = c .before .before .before .before .before .before .before .before .before .before .before .before in
     let call = c .before .before .before .before .finish in
-    subst (λ (x : Reception). Handed (withArray (a .args .self) (a .args .array .now)) (a .args .store .now) x (stepWith (call .result) (call .last .1 .0)) (call .last .1 .1 .1 .1 .0))
-    (in-step-done (withArray (a .args .self) (a .args .array .now)) (a .args .line .now) (a .args .bits) (a .pre .2) (omega arith))
+    subst (λ (x : Reception). Handed (withArray (a .args .self) (a .args .array .now)) (a .args .store .now) x (stepWith (call .result) (call .last .1 .0)) (call .last .1 .1 .1 .1 .1 .0))
+    (in-step-done (withArray (a .args .self) (a .args .array .now)) (a .args .line .now) (a .args .bits) (a .args .ready) (a .pre .2) (omega arith))
     (call .ensures)
 
 put-bits-requires : tie.Need-put-bits-requires
@@ -48,8 +48,8 @@ put-bits-requires c κs =
     let f = length-facts (a .args .self .setup .k) (a .pre .0 .known) in
     (a .pre .0 .array-length, omega arith, omega arith)
 
-add-t8 : tie.Need-add-t8
-add-t8 c =
+add-t9 : tie.Need-add-t9
+add-t9 c =
     let a = c .before .before .before .before .before .before .before .before .before in
     let f = length-facts (a .args .self .setup .k) (a .pre .0 .known) in
     omega arith
@@ -63,7 +63,7 @@ returns-2 c =
     let p = c .before .before .before .before .before .before .before .before .before .before .pre in
     let n : a .bits ≡ length (take (a .bits) (bitsOf (a .line .now))) =
     sym (length-take-le (a .bits) (bitsOf (a .line .now)) (omega (arith, length-bitsOf (a .line .now)))) in
-    in-step-more (withArray (a .self) (a .array .now)) (take (a .bits) (bitsOf (a .line .now))) (a .store .now) _ (a .bits) (c .before .before .before .put-bits .ensures) n (omega arith)
+    in-step-more (withArray (a .self) (a .array .now)) (take (a .bits) (bitsOf (a .line .now))) (a .ready) (a .store .now) _ (a .bits) (c .before .before .before .put-bits .ensures) n (omega arith)
 
 pub in-step-spec : {M : Type 1} → statement M
 in-step-spec =
@@ -76,6 +76,6 @@ in-step-spec =
     same-length-2
     returns
     put-bits-requires
-    add-t8
+    add-t9
     same-length-3
     returns-2)

@@ -8,7 +8,7 @@ use lib.ListN.{take}
 use Rattle.crc.specs.Bits.{Bits, bitsOf}
 use Rattle.block.specs.Lengths.{blockLength}
 use Rattle.block.specs.Calls.{tooShort}
-use Rattle.line.specs.Receiving.{sync-block, check-fails, blockRule}
+use Rattle.line.specs.Receiving.{sync-block, check-fails, orWait, blockRule}
 use Rattle.line.specs.ReceivingInPlace.{withArray}
 use Rattle.line.specs.Code.ReceiveSteps.{ruleOf, stepWith}
 use Rattle.line.specs.declared.head.HeadStep.{HeadStep}
@@ -18,20 +18,22 @@ use Rattle.line.proofs.head.Head.judge.Statement.{statement}
 use Rattle.line.proofs.head.Head.judge.Tie as tie
 
 -- the rule of a block that passes
-abbrev start : tie.After-service-rule → tie.Start
-start c = c .before .before .before .before .before .before .before .before .before .before
+abbrev start : tie.After-or-wait → tie.Start
+start c = c .before .before .before .before .before .before .before .before .before .before .before
 
-abbrev row : tie.After-service-rule → Bits
+abbrev row : tie.After-or-wait → Bits
 row c = take (blockLength (start c .args .self .setup .k)) (bitsOf (start c .args .row .now))
 
-passed-rule : (c : tie.After-service-rule)
-    → ruleOf (c .service-rule .result) ≡ blockRule (withArray (start c .args .self) (start c .args .array .now)) (row c)
+passed-rule : (c : tie.After-or-wait)
+    → ruleOf (c .or-wait .result) ≡ blockRule (withArray (start c .args .self) (start c .args .array .now)) (row c) (start c .args .ready)
 passed-rule c =
     let a = start c in
-    let k = c .before .before .before .before in
+    let j = c .before in
+    let k = j .before .before .before .before in
     let e = sym (k .before .before .looks-sync .ensures) ∙ k .before .if1 .left in
-    let v = check-passes (a .args .self .setup .k) (a .pre .ready .known) (a .args .row .now) (a .pre .held) _ (k .check-block .ensures) _ (c .before .before .answer .given .1) in
-    c .service-rule .ensures ∙ rule-passed (withArray (a .args .self) (a .args .array .now)) _ _ e v
+    let v = check-passes (a .args .self .setup .k) (a .pre .ready .known) (a .args .row .now) (a .pre .held) _ (k .check-block .ensures) _ (j .before .before .answer .given .1) in
+    c .or-wait .ensures ∙ ap (orWait (a .args .ready)) (j .service-rule .ensures)
+    ∙ rule-passed (withArray (a .args .self) (a .args .array .now)) _ (a .args .ready) _ e v
 
 looks-sync-requires : tie.Need-looks-sync-requires
 looks-sync-requires c κs = search needs
@@ -47,7 +49,7 @@ returns c =
     let t = c .before .before .before .before in
     let a = t .before .before .before .before .before .args in
     let e = sym (t .before .looks-sync .ensures) ∙ t .if1 .taken in
-    handed-rule _ _ _ _ _ sync-block (rule-sync (withArray (a .self) (a .array .now)) _ e) refl (c .before .before .after-good .ensures)
+    handed-rule _ _ _ _ _ (a .ready) sync-block (rule-sync (withArray (a .self) (a .array .now)) _ (a .ready) e) refl (c .before .before .after-good .ensures)
 
 check-block-requires : tie.Need-check-block-requires
 check-block-requires c κs = search needs
@@ -68,11 +70,14 @@ returns-2 c =
     let a = b .before .before .before .before .before in
     let e = sym (b .before .looks-sync .ensures) ∙ b .if1 .left in
     let v = check-not-passed (a .args .self .setup .k) (a .pre .ready .known) (a .args .row .now) (a .pre .held) _ (m .before .check-block .ensures) (m .match .keys2) in
-    handed-rule _ _ _ _ _ check-fails (rule-failed (withArray (a .args .self) (a .args .array .now)) _ e v) refl
+    handed-rule _ _ _ _ _ (a .args .ready) check-fails (rule-failed (withArray (a .args .self) (a .args .array .now)) _ (a .args .ready) e v) refl
     (c .before .before .after-bad .ensures ∙ handed-bad (withArray (a .args .self) (a .args .array .now)) (a .args .used))
 
 service-rule-requires : tie.Need-service-rule-requires
 service-rule-requires c κs = search needs
+
+or-wait-requires : tie.Need-or-wait-requires
+or-wait-requires c κs = search needs
 
 enum-told : tie.Need-enum-told
 enum-told c = search needs
@@ -93,7 +98,7 @@ returns-3 c =
     let a = start (t .before .before) .args in
     let short : tooShort (a .store .now) (a .self .taken * a .self .setup .k + a .self .setup .k) ≡ true =
     not-false _ (sym (h .has-room .ensures) ∙ not-true _ (c .before .if2 .taken)) in
-    handed-accepts _ _ _ _ _ _ (ap ruleOf (sym (t .enum-told .given .1)) ∙ passed-rule (t .before .before))
+    handed-accepts _ _ _ _ _ _ _ (ap ruleOf (sym (t .enum-told .given .1)) ∙ passed-rule (t .before .before))
     (handed-short (withArray (a .self) (a .array .now)) _ _ _ _ short (ap (λ (r : HeadStep). stepWith r (a .array .now)) (c .refused .ensures)))
 
 store-item-requires : tie.Need-store-item-requires
@@ -115,7 +120,7 @@ returns-4 : tie.Need-returns-4
 returns-4 c =
     let i = c .before .before .before .before in
     let t = i .before .before .before .before .before .before in
-    handed-accepts _ _ _ _ _ _ (ap ruleOf (sym (t .enum-told .given .1)) ∙ passed-rule (t .before .before)) (i .store-item .ensures)
+    handed-accepts _ _ _ _ _ _ _ (ap ruleOf (sym (t .enum-told .given .1)) ∙ passed-rule (t .before .before)) (i .store-item .ensures)
 
 same-length-6 : tie.Need-same-length-6
 same-length-6 c = search needs
@@ -123,7 +128,7 @@ same-length-6 c = search needs
 returns-5 : tie.Need-returns-5
 returns-5 c =
     let m = c .before .before .before .before in
-    handed-rule _ _ _ _ _ _ (passed-rule (m .before)) (stores-nothing (m .before .service-rule .result) (m .match2 .keys2)) (c .before .before .stop .ensures)
+    handed-rule _ _ _ _ _ _ _ (passed-rule (m .before)) (stores-nothing (m .before .or-wait .result) (m .match2 .keys2)) (c .before .before .stop .ensures)
 
 pub judge-spec : {M : Type 1} → statement M
 judge-spec =
@@ -139,6 +144,7 @@ judge-spec =
     same-length-2
     returns-2
     service-rule-requires
+    or-wait-requires
     enum-told
     has-room-requires
     refused-requires

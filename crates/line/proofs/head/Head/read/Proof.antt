@@ -18,7 +18,7 @@ idle-requires c κs = search needs
 returns : tie.Need-returns
 returns c =
     let a = c .before .before .before .before .before .args in
-    handed-idle (withArray (a .self) (a .array .now)) (a .store .now) (take (a .bits) (bitsOf (a .line .now))) (a .bits) (c .before .if1 .taken) _ (c .idle .ensures (a .array .now))
+    handed-idle (withArray (a .self) (a .array .now)) (a .store .now) (take (a .bits) (bitsOf (a .line .now))) (a .bits) (a .ready) (c .before .if1 .taken) _ (c .idle .ensures (a .array .now))
 
 enum-told : tie.Need-enum-told
 enum-told c = search needs
@@ -59,7 +59,7 @@ returns-2 c =
     let a = c .before .before .before .before .before .before .before .before .before .before .args in
     let s = withArray (a .self) (a .array .now) in
     let new = take (a .bits) (bitsOf (a .line .now)) in
-    handed-by s (a .store .now) new (a .bits) (c .before .before .before .before .before .before .if1 .left) _ (c .before .before .before .before .enum-told .given .1) _ _
+    handed-by s (a .store .now) new (a .bits) (a .ready) (c .before .before .before .before .before .before .if1 .left) _ (c .before .before .before .before .enum-told .given .1) _ _
     (handed-search s (a .store .now) (heldBits s) new 0 _ (c .before .before .search .ensures))
 
 same-length-2 : tie.Need-same-length-2
@@ -71,21 +71,21 @@ same-length-3 c = search needs
 returns-3 : tie.Need-returns-3
 returns-3 c =
     let a = c .before .before .before .before .before .before .before .before .before .before .before .before .before .args in
-    handed-by (withArray (a .self) (a .array .now)) (a .store .now) (take (a .bits) (bitsOf (a .line .now))) (a .bits) (c .before .before .before .before .before .before .before .before .before .if1 .left)
+    handed-by (withArray (a .self) (a .array .now)) (a .store .now) (take (a .bits) (bitsOf (a .line .now))) (a .bits) (a .ready) (c .before .before .before .before .before .before .before .before .before .if1 .left)
     _ (c .before .before .before .before .before .before .before .enum-told2 .given .1) _ _ (c .before .before .before .before .in-step .ensures)
 
 returns-4 : tie.Need-returns-4
 returns-4 c =
     let a = c .before .before .before .before .before .before .before in
     let n = length-take-le (a .args .bits) (bitsOf (a .args .line .now)) (omega (arith, length-bitsOf (a .args .line .now))) in
-    handed-by (withArray (a .args .self) (a .args .array .now)) (a .args .store .now) (take (a .args .bits) (bitsOf (a .args .line .now))) (a .args .bits) (c .before .before .before .if1 .left)
+    handed-by (withArray (a .args .self) (a .args .array .now)) (a .args .store .now) (take (a .args .bits) (bitsOf (a .args .line .now))) (a .args .bits) (a .args .ready) (c .before .before .before .if1 .left)
     _ (c .before .enum-told3 .given .1) _ _ (handed-under-alarm _ _ _ _ _ (sym n) _ (c .under-alarm .ensures (a .args .array .now)))
 
 returns-5 : tie.Need-returns-5
 returns-5 c =
     let a = c .before .before .before .before .before .before .before in
     let n = length-take-le (a .args .bits) (bitsOf (a .args .line .now)) (omega (arith, length-bitsOf (a .args .line .now))) in
-    handed-by (withArray (a .args .self) (a .args .array .now)) (a .args .store .now) (take (a .args .bits) (bitsOf (a .args .line .now))) (a .args .bits) (c .before .before .before .if1 .left)
+    handed-by (withArray (a .args .self) (a .args .array .now)) (a .args .store .now) (take (a .args .bits) (bitsOf (a .args .line .now))) (a .args .bits) (a .args .ready) (c .before .before .before .if1 .left)
     _ (c .before .enum-told4 .given .1) _ _ (handed-under-alarm _ _ _ _ _ (sym n) _ (c .under-alarm2 .ensures (a .args .array .now)))
 
 pub read-spec : {M : Type 1} → statement M

@@ -24,7 +24,7 @@ refused-requires c κs = search needs
 returns : tie.Need-returns
 returns c =
     let a = c .before .before .before .before .before .args in
-    another-length (a .self) (a .array .now) (a .line .now) (a .bits) (a .store .now) (c .before .if1 .taken) _ (c .refused .ensures)
+    another-length (a .self) (a .array .now) (a .line .now) (a .bits) (a .ready) (a .store .now) (c .before .if1 .taken) _ (c .refused .ensures)
 
 in-range-requires : tie.Need-in-range-requires
 in-range-requires c κs = search needs
@@ -36,8 +36,8 @@ returns-2 : tie.Need-returns-2
 returns-2 c =
     let a = c .before .before .before .before .before .before .before .args in
     let e = sym (c .before .before .in-range .ensures (a .array .now)) ∙ not-true _ (c .before .if2 .taken) in
-    in-place (a .self) (a .array .now) (a .line .now) (a .bits) (a .store .now) (enough (c .before .before .before)) _ _ _
-    (rw (c .refused2 .ensures) (refuses-spoiled (withArray (a .self) (a .array .now)) (a .line .now) (a .bits) (a .store .now) e))
+    in-place (a .self) (a .array .now) (a .line .now) (a .bits) (a .ready) (a .store .now) (enough (c .before .before .before)) _ _ _
+    (rw (c .refused2 .ensures) (refuses-spoiled (withArray (a .self) (a .array .now)) (a .line .now) (a .bits) (a .ready) (a .store .now) e))
 
 too-short-requires : tie.Need-too-short-requires
 too-short-requires c κs = search needs
@@ -49,8 +49,8 @@ returns-3 : tie.Need-returns-3
 returns-3 c =
     let a = c .before .before .before .before .before .before .before .before .before .args in
     let t = sym (c .before .before .too-short .ensures) ∙ c .before .if3 .taken in
-    in-place (a .self) (a .array .now) (a .line .now) (a .bits) (a .store .now) (enough (c .before .before .before .before .before)) _ _ _
-    (rw (c .refused3 .ensures) (refuses-short (withArray (a .self) (a .array .now)) (a .line .now) (a .bits) (a .store .now) (ranged (c .before .before .before)) t))
+    in-place (a .self) (a .array .now) (a .line .now) (a .bits) (a .ready) (a .store .now) (enough (c .before .before .before .before .before)) _ _ _
+    (rw (c .refused3 .ensures) (refuses-short (withArray (a .self) (a .array .now)) (a .line .now) (a .bits) (a .ready) (a .store .now) (ranged (c .before .before .before)) t))
 
 read-requires : tie.Need-read-requires
 read-requires c κs = (
@@ -69,8 +69,8 @@ returns-4 : tie.Need-returns-4
 returns-4 c =
     let a = c .before .before .before .before .before .before .before .before .before .before .before .before .before .before .before .args in
     let t = sym (c .before .before .before .before .before .before .before .before .too-short .ensures) ∙ c .before .before .before .before .before .before .before .if3 .left in
-    in-place (a .self) (a .array .now) (a .line .now) (a .bits) (a .store .now) (enough (c .before .before .before .before .before .before .before .before .before .before .before)) _ _ _
-    (receives (withArray (a .self) (a .array .now)) (a .line .now) (a .bits) (a .store .now) (ranged (c .before .before .before .before .before .before .before .before .before)) t _ _ (c .before .before .before .before .read .ensures))
+    in-place (a .self) (a .array .now) (a .line .now) (a .bits) (a .ready) (a .store .now) (enough (c .before .before .before .before .before .before .before .before .before .before .before)) _ _ _
+    (receives (withArray (a .self) (a .array .now)) (a .line .now) (a .bits) (a .ready) (a .store .now) (ranged (c .before .before .before .before .before .before .before .before .before)) t _ _ (c .before .before .before .before .read .ensures))
 
 pub receive-spec : {M : Type 1} → statement M
 receive-spec =

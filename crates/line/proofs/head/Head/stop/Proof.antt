@@ -61,6 +61,12 @@ enum-told-6 c = search needs
 after-bad-requires : tie.Need-after-bad-requires
 after-bad-requires c κs = search needs
 
+enum-told-7 : tie.Need-enum-told-7
+enum-told-7 c = search needs
+
+return-one-requires-3 : tie.Need-return-one-requires-3
+return-one-requires-3 c κs = search needs
+
 same-length : tie.Need-same-length
 same-length c = search needs
 
@@ -103,6 +109,12 @@ same-length-7 c = search needs
 returns-7 : tie.Need-returns-7
 returns-7 c = by-rule _ _ _ _ _ _ (c .before .before .after-bad .ensures) (c .before .before .before .before .enum-told6 .given .1)
 
+same-length-8 : tie.Need-same-length-8
+same-length-8 c = search needs
+
+returns-8 : tie.Need-returns-8
+returns-8 c = by-rule _ _ _ _ _ _ (c .before .before .return-one3 .ensures) (c .before .before .before .before .enum-told7 .given .1)
+
 pub stop-spec : {M : Type 1} → statement M
 stop-spec =
     tie.close
@@ -122,6 +134,8 @@ stop-spec =
     after-good-requires-4
     enum-told-6
     after-bad-requires
+    enum-told-7
+    return-one-requires-3
     same-length
     returns
     same-length-2
@@ -135,4 +149,6 @@ stop-spec =
     same-length-6
     returns-6
     same-length-7
-    returns-7)
+    returns-7
+    same-length-8
+    returns-8)

@@ -24,7 +24,7 @@ returns c =
     let head = call .before .before .before in
     let start = head .before .before .before .before in
     let n : length (start .args .self .bits) ≡ 483 = search needs in
-    rw (← (head .head .ensures)) (by-value _ _ _ _ _ n _ _ _ (call .receive .ensures))
+    rw (← (head .head .ensures)) (by-value _ _ _ _ _ _ n _ _ _ (call .receive .ensures))
 
 pub receive-spec : {M : Type 1} → statement M
 receive-spec =
