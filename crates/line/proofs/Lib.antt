@@ -1,10 +1,10 @@
 -- Lemmas of the two ends. Those of one function of the code stand in the folder of its file (sender/, head/, ...).
 -- Loop times: Table, LoopTime (without rounding). Marks: CodeSizes, WithoutMarks (what is left without them). An item:
 -- ServiceBits, Items, LastItem (its filling), ItemBlocks (the block that is built). The sender's range: SenderRange. Bits moved
--- by bytes: BitMoves. A receiving call: ReceivingCall, KeptSetup (what opening fixed stays), and in place InPlace; in search
--- SearchWindow, LineSearch; in step InStepBits, BlockFields (what a block's bytes say), StorePlace (where its data go),
--- BlockFinished (what is handed back). Demand 3: Delivery. Calls lent in pieces: Pieces. The examples of docs/PROTOCOL.md:
--- Examples.
+-- by bytes: BitMoves. A receiving call: ReceivingCall, ReceptionCases (the ways it can end), KeptSetup (what opening fixed stays),
+-- and in place InPlace; in search SearchWindow, LineSearch; in step InStepBits, BlockFields (what a block's bytes say),
+-- StorePlace (where its data go), OrWait (the step to *wait*), BlockFinished (what is handed back). Demand 3: Delivery. Ready or
+-- not: Readiness. Calls lent in pieces: Pieces. The examples of docs/PROTOCOL.md: Examples.
 pub mod Table
 pub mod LoopTime
 pub mod CodeSizes

@@ -1,17 +1,18 @@
 -- A receiving call: its range, its refusals, and what it reads by its phase. Assumes nothing.
 use mathlib.Core.Path.{_≡_, refl, sym, ap, _∙_, subst}
-use mathlib.Core.Bool.{Bool, true, false, _&&_}
+use mathlib.Core.Bool.{Bool, true, false, not, _&&_}
 use mathlib.Core.List.{List, []}
-use Prim.Native.Nat.{ℕ, _≤_, _<_}
-use borrow.Author.Tests.{ltb-true, leb-true, lt-ltb, le-leb, eq-eqb, ne-eqb}
+use Prim.Native.Nat.{ℕ, _+_, _*_, _≤_, _<_}
+use borrow.Author.Tests.{not-false, ltb-true, leb-true, lt-ltb, le-leb, eq-eqb, ne-eqb}
 use lib.Dec.{ltb, leb}
 use lib.ListN.{take}
 use Rattle.crc.specs.Bits.{Bits, bitsOf}
 use Rattle.block.specs.Answer as A
-use Rattle.block.specs.Answer.{refused}
+use Rattle.block.specs.Answer.{refused, done}
 use Rattle.block.specs.Lengths.{isLength, blockLength}
 use Rattle.block.specs.Calls.{tooShort}
 use Rattle.block.proofs.Truth.{and-left, and-right}
+use Rattle.block.proofs.Refusals.{passed-test}
 use Rattle.line.specs.Marks.{marksInRange}
 use Rattle.line.specs.Order.{mostItems}
 use Rattle.line.specs.Receiving as S
@@ -118,6 +119,16 @@ module _ (s : Receiver) (line : List ℕ) (count : ℕ) (ready : Bool) (store : 
   pub refuses-spoiled : receiverInRange s ≡ false → Receive s line count ready store (record { state = s; answer = R.Refused A.spoiled }) store
   unfolding receive
   refuses-spoiled e = refuses A.spoiled (rw e)
+
+  -- a call that is not refused: its state is in range, and it reads these bits
+  pub heard : (x : Reception) → receive s line count ready store ≡ done x
+      → (receiverInRange s ≡ true) × (reception s (take count (bitsOf line)) count ready ≡ x)
+  unfolding receive
+  heard x e =
+      let p = passed-test (not (receiverInRange s)) A.spoiled _ x e in
+      let q = passed-test (tooShort line count) A.short _ x (p .1) in
+      let w = passed-test (meaning (reception s (take count (bitsOf line)) count ready .rule) .stores && tooShort store (s .taken * s .setup .k + s .setup .k)) A.short _ x (q .1) in
+      (not-false (receiverInRange s) (p .0), cc (w .1))
 
   module _ (e : receiverInRange s ≡ true) where
     pub refuses-short : tooShort line count ≡ true → Receive s line count ready store (record { state = s; answer = R.Refused A.short }) store

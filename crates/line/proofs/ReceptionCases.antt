@@ -1,22 +1,20 @@
 -- What holds of each way in which a call can end holds of every call. Assumes nothing.
 use mathlib.Core.Path.{_≡_, subst}
-use mathlib.Core.Bool.{Bool, not, _&&_}
+use mathlib.Core.Bool.{Bool}
 use mathlib.Core.List.{List, [], _∷_, _++_}
-use Prim.Native.Nat.{ℕ, suc, _+_, _*_}
+use Prim.Native.Nat.{ℕ, suc}
 use lib.Dec.{eqb, ltb}
 use lib.ListN.{length, take}
 use Rattle.crc.specs.Bits.{Bits, bitsOf}
-use Rattle.block.specs.Answer as A
 use Rattle.block.specs.Answer.{done}
-use Rattle.block.specs.Calls.{tooShort}
 use Rattle.block.proofs.Truth.{cond-case}
-use Rattle.block.proofs.Refusals.{passed-test}
-use Rattle.line.specs.Receiving.{unfinished, sequence-found, meaning, blockRule, heldBits, Reception, stops, latest, searching, isSequence, search, missing, finishedRow, inStep, alarmReception, byPhase, idle, reception, receiverInRange, receive}
+use Rattle.line.specs.Receiving.{unfinished, sequence-found, blockRule, heldBits, Reception, stops, latest, searching, isSequence, search, missing, finishedRow, inStep, alarmReception, byPhase, idle, reception, receive}
 use Rattle.line.specs.declared.receiver.Receiver.{Receiver}
 use Rattle.line.specs.declared.receiving.Phase.{Phase}
 use Rattle.line.specs.declared.receiving.Phase.the-variants as P
 use Rattle.line.specs.declared.receiving.Event.the-variants as E
 use Rattle.line.proofs.InStepBits.{held-on}
+use Rattle.line.proofs.ReceivingCall.{heard}
 
 module _ (s : Receiver) (ready : Bool) (Holds : Reception → Type 0) (none-lent : Holds (idle s))
     (not-found : (window : Bits) (used : ℕ) → Holds (record { rule = unfinished; row = []; used = used; state = searching s window }))
@@ -45,11 +43,4 @@ module _ (s : Receiver) (ready : Bool) (Holds : Reception → Type 0) (none-lent
   reception-case new count = cond-case Holds (eqb count 0) (λ e. none-lent) (λ e. phase-case (s .phase) new)
 
   pub received-case : (line : List ℕ) (count : ℕ) (store : List ℕ) (x : Reception) → receive s line count ready store ≡ done x → Holds x
-  unfolding receive
-  received-case line count store x e =
-      let new : Bits = take count (bitsOf line) in
-      let p = passed-test (not (receiverInRange s)) A.spoiled _ x e in
-      let q = passed-test (tooShort line count) A.short _ x (p .1) in
-      let w = passed-test (meaning (reception s new count ready .rule) .stores && tooShort store (s .taken * s .setup .k + s .setup .k)) A.short _ x (q .1) in
-      let g : reception s new count ready ≡ x = cc (w .1) in
-      subst Holds g (reception-case new count)
+  received-case line count store x e = subst Holds (heard s line count ready store x e .1) (reception-case (take count (bitsOf line)) count)

@@ -1,11 +1,11 @@
 -- The machine's readiness: at ready the step to *wait* is the identity, and no call waits; not ready, a call takes nothing and
 -- does not look at the store. Assumes nothing.
 use mathlib.Core.Path.{_≡_}
-use mathlib.Core.Bool.{Bool, true, false}
+use mathlib.Core.Bool.{true, false}
 use mathlib.Core.List.{List}
 use Prim.Native.Nat.{ℕ}
 use Rattle.crc.specs.Bits.{Bits}
-use Rattle.block.specs.Answer.{Answer, done}
+use Rattle.block.specs.Answer.{done}
 use Rattle.line.specs.Receiving.{Rule, meaning, eventKind, judge, orWait, blockRule, Reception, receive, receiveStore}
 use Rattle.line.specs.declared.receiver.Receiver.{Receiver}
 

@@ -18,14 +18,11 @@ use Rattle.line.specs.Course.{World}
 use Rattle.line.specs.declared.receiver.Receiver.{Receiver}
 use Rattle.line.specs.declared.receiving.Phase.{Phase}
 use Rattle.line.specs.declared.receiving.Phase.the-variants as P
-use Rattle.line.specs.declared.receiving.Event.the-variants as E
 use Rattle.line.proofs.Delivery.Ends.{LineBlock}
-use Rattle.line.proofs.Delivery.Ends as D
 use Rattle.line.proofs.Delivery.WrittenBits.{length-heldBits, length-holding, heldBits-holding}
 use Rattle.line.proofs.Delivery.RuleOnLine.{Ruling, step-ruling}
 use Rattle.line.proofs.Delivery.CallOnBlock.{ReceptionKept, used-with, whole-copy, none-of-length, search-step, quiet-unfinished, pass, finish}
 use Rattle.line.proofs.Delivery.State.{Session, Fit, alarmStands, Base, BusyLine}
-use Rattle.line.proofs.Delivery.State as S
 
 module _ (o : Session) (fit : Fit o) (w : World) (l d : ℕ) (copy : Bits) (f : LineBlock)
     (line : BusyLine o w l d copy f) (base : Base o w) (lent : Bits) (ready : Bool) (store : List ℕ) where
