@@ -1,11 +1,13 @@
 -- Laws of the step to *wait*: at ready it is the identity; it makes no data of what is none; not ready, nothing is taken.
 -- Assumes nothing.
 use mathlib.Core.Path.{_≡_, refl}
-use mathlib.Core.Bool.{Bool, true, false, _||_}
-use Prim.Native.Nat.{_+_}
+use mathlib.Core.Bool.{Bool, true, false, _||_, true≢false}
+use mathlib.Core.Option.{none}
+use Prim.Native.Nat.{ℕ, _+_}
+use native.Mathlib.Omega.{arith}
 use lib.Dec.{eqb, leb}
 use Rattle.block.proofs.Truth.{cond-case}
-use Rattle.line.specs.Receiving.{Rule, unfinished, standing, sequence-found, sync-block, check-fails, accepts, previous, out-of-sequence, ends, wrong-length, ends-again, anything-else, waits, meaning, orWait, lastBad, afterBad, after}
+use Rattle.line.specs.Receiving.{Rule, unfinished, standing, sequence-found, sync-block, check-fails, accepts, previous, out-of-sequence, ends, wrong-length, ends-again, anything-else, waits, meaning, eventKind, orWait, lastBad, afterBad, after}
 use Rattle.line.specs.declared.receiver.Receiver.{Receiver}
 
 pub at-ready : (x : Rule) → orWait true x ≡ x
@@ -39,6 +41,22 @@ same-data-or-end ready anything-else = refl
 same-data-or-end ready waits = refl
 
 -- ---- not ready
+
+-- what reports neither a new block nor the end stays
+pub others-stay : (x : Rule) → eventKind (meaning x .event) .new ≡ false → eventKind (meaning x .event) .length ≡ none → orWait false x ≡ x
+others-stay unfinished n e = refl
+others-stay (standing alarm) n e = refl
+others-stay sequence-found n e = refl
+others-stay sync-block n e = refl
+others-stay check-fails n e = refl
+others-stay accepts n e = absurd (true≢false n)
+others-stay previous n e = refl
+others-stay out-of-sequence n e = refl
+others-stay (ends L) n e = absurd (let z : _≡_ {A = ℕ} 0 1 = cc in omega arith)
+others-stay wrong-length n e = refl
+others-stay ends-again n e = refl
+others-stay anything-else n e = refl
+others-stay waits n e = refl
 
 pub stores-nothing : (x : Rule) → meaning (orWait false x) .stores ≡ false
 stores-nothing unfinished = refl

@@ -14,7 +14,7 @@ use Rattle.line.specs.Readiness.{TakesNothing, Readiness}
 use Rattle.line.specs.declared.receiver.Receiver.{Receiver}
 use Rattle.line.specs.declared.receiving.Phase.{Phase}
 use Rattle.line.specs.declared.receiving.Phase.the-variants as P
-use Rattle.line.proofs.OrWait.{at-ready, stores-nothing, takes-nothing}
+use Rattle.line.proofs.OrWait.{at-ready, others-stay, stores-nothing, takes-nothing}
 use Rattle.line.proofs.ReceivingCall.{idle-stores}
 use Rattle.line.proofs.ReceptionCases.{reception-case, received-case}
 use Rattle.line.proofs.Delivery.BlockRules.{isWaiting, judge-never-waits}
@@ -79,6 +79,7 @@ readiness =
       at-ready = at-ready;
       judged = λ s row. at-ready (judge (s .setup .marks .«in_use») (s .setup .k) (s .taken) (s .ended) row);
       no-wait = no-wait;
+      others = others-stay;
       takes-nothing = λ s line count store. nothing s store line count;
       any-store = any-store;
     }

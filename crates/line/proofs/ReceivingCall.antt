@@ -120,15 +120,15 @@ module _ (s : Receiver) (line : List ℕ) (count : ℕ) (ready : Bool) (store : 
   unfolding receive
   refuses-spoiled e = refuses A.spoiled (rw e)
 
-  -- a call that is not refused: its state is in range, and it reads these bits
+  -- a call that is not refused: its state is in range, its bits are there, and it reads them
   pub heard : (x : Reception) → receive s line count ready store ≡ done x
-      → (receiverInRange s ≡ true) × (reception s (take count (bitsOf line)) count ready ≡ x)
+      → (receiverInRange s ≡ true) × (tooShort line count ≡ false) × (reception s (take count (bitsOf line)) count ready ≡ x)
   unfolding receive
   heard x e =
       let p = passed-test (not (receiverInRange s)) A.spoiled _ x e in
       let q = passed-test (tooShort line count) A.short _ x (p .1) in
       let w = passed-test (meaning (reception s (take count (bitsOf line)) count ready .rule) .stores && tooShort store (s .taken * s .setup .k + s .setup .k)) A.short _ x (q .1) in
-      (not-false (receiverInRange s) (p .0), cc (w .1))
+      (not-false (receiverInRange s) (p .0), q .0, cc (w .1))
 
   module _ (e : receiverInRange s ≡ true) where
     pub refuses-short : tooShort line count ≡ true → Receive s line count ready store (record { state = s; answer = R.Refused A.short }) store

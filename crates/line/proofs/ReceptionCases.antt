@@ -43,4 +43,4 @@ module _ (s : Receiver) (ready : Bool) (Holds : Reception → Type 0) (none-lent
   reception-case new count = cond-case Holds (eqb count 0) (λ e. none-lent) (λ e. phase-case (s .phase) new)
 
   pub received-case : (line : List ℕ) (count : ℕ) (store : List ℕ) (x : Reception) → receive s line count ready store ≡ done x → Holds x
-  received-case line count store x e = subst Holds (heard s line count ready store x e .1) (reception-case (take count (bitsOf line)) count)
+  received-case line count store x e = subst Holds (heard s line count ready store x e .2) (reception-case (take count (bitsOf line)) count)

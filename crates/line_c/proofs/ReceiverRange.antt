@@ -18,7 +18,7 @@ use Rattle.block.proofs.Lengths.{length-facts}
 use Rattle.block.proofs.Truth.{cond-case}
 use Rattle.block.proofs.Refusals.{passed-test}
 use Rattle.line.specs.Marks.{marksOf}
-use Rattle.line.specs.Receiving.{arrayBytes, freshReceiver, openReceiver, Rule, unfinished, standing, sequence-found, sync-block, check-fails, accepts, previous, out-of-sequence, ends, wrong-length, ends-again, anything-else, meaning, blockRule, blank, lastBad, afterBad, after, heldBits, Reception, latest, isSequence, search, underAlarm, holding, missing, finishedRow, inStep, byPhase, reception, heldInRange, receiverInRange, receive}
+use Rattle.line.specs.Receiving.{arrayBytes, freshReceiver, openReceiver, Rule, unfinished, standing, sequence-found, sync-block, check-fails, accepts, previous, out-of-sequence, ends, wrong-length, ends-again, anything-else, waits, meaning, blockRule, blank, lastBad, afterBad, after, heldBits, Reception, latest, isSequence, search, underAlarm, holding, missing, finishedRow, inStep, byPhase, reception, heldInRange, receiverInRange, receive}
 use Rattle.line.specs.declared.marks.CodeSize.{CodeSize}
 use Rattle.line.specs.declared.receiver.Receiver.{Receiver}
 use Rattle.line.specs.declared.receiving.Phase.{Phase}
@@ -82,6 +82,7 @@ module _ (s : Receiver) (r : InRange s) (f : ReceiverFits s) where
   after-fits wrong-length = blank-fits 0 true (s .taken) (s .ended) P.LengthAlarm (omega arith) (omega arith)
   after-fits ends-again = blank-fits 0 false (s .taken) (s .ended) P.InStep (omega arith) (omega arith)
   after-fits anything-else = afterBad-fits (leb lastBad (s .«bad_row» + 1) || eqb (s .taken) 0)
+  after-fits waits = blank-fits 0 true (s .taken) (s .ended) P.InStep (omega arith) (omega arith)
 
   -- ---- in search
 
@@ -105,28 +106,28 @@ module _ (s : Receiver) (r : InRange s) (f : ReceiverFits s) where
       let k = length-facts (s .setup .k) (r .known) in
       record { k = f .k; held = omega arith; taken = f .taken; bad-row = f .bad-row; bits = length-bytesOf arrayBytes _ }
 
-  step-fits : (new : Bits) → ReceiverFits (inStep s new .state)
+  step-fits : (new : Bits) (ready : Bool) → ReceiverFits (inStep s new ready .state)
   unfolding inStep
-  step-fits new =
+  step-fits new ready =
       cond-case Fits (ltb (length new) (missing s)) (λ e. holding-fits new (ltb-true (length new) (missing s) e))
-      (λ e. after-fits (blockRule s (finishedRow s new)))
+      (λ e. after-fits (blockRule s (finishedRow s new) ready))
 
   -- ---- by the phase
 
   underAlarm-fits : ReceiverFits (underAlarm s)
   underAlarm-fits = record { k = f .k; held = f .held; taken = f .taken; bad-row = omega arith; bits = f .bits }
 
-  byPhase-fits : (p : Phase) → s .phase ≡ p → (new : Bits) → ReceiverFits (byPhase s p new .state)
-  byPhase-fits P.Search e new =
+  byPhase-fits : (p : Phase) → s .phase ≡ p → (new : Bits) (ready : Bool) → ReceiverFits (byPhase s p new ready .state)
+  byPhase-fits P.Search e new ready =
       let h = held-search s r e in
       search-fits new (heldBits s) 0 (simp length-take (omega arith))
-  byPhase-fits P.InStep e new = step-fits new
-  byPhase-fits P.SequenceAlarm e new = underAlarm-fits
-  byPhase-fits P.LengthAlarm e new = underAlarm-fits
+  byPhase-fits P.InStep e new ready = step-fits new ready
+  byPhase-fits P.SequenceAlarm e new ready = underAlarm-fits
+  byPhase-fits P.LengthAlarm e new ready = underAlarm-fits
 
-  reception-fits : (new : Bits) (count : ℕ) → ReceiverFits (reception s new count .state)
+  reception-fits : (new : Bits) (count : ℕ) (ready : Bool) → ReceiverFits (reception s new count ready .state)
   unfolding reception
-  reception-fits new count = cond-case Fits (eqb count 0) (λ e. f) (λ e. byPhase-fits (s .phase) refl new)
+  reception-fits new count ready = cond-case Fits (eqb count 0) (λ e. f) (λ e. byPhase-fits (s .phase) refl new ready)
 
 -- ---- opening and a receiving call
 
@@ -137,13 +138,13 @@ opened-fits k size u e =
     let h = length-facts k (not-false (isLength k) (passed-test (not (isLength k)) A.block _ u e .0)) in
     record { k = omega arith; held = omega arith; taken = omega arith; bad-row = omega arith; bits = length-zeroArray }
 
-pub received-fits : (s : Receiver) (line : List ℕ) (count : ℕ) (store : List ℕ) (x : Reception) → length (s .bits) ≡ arrayBytes
-    → receive s line count store ≡ done x → ReceiverFits (x .state)
+pub received-fits : (s : Receiver) (line : List ℕ) (count : ℕ) (ready : Bool) (store : List ℕ) (x : Reception) → length (s .bits) ≡ arrayBytes
+    → receive s line count ready store ≡ done x → ReceiverFits (x .state)
 unfolding receive
-received-fits s line count store x b e =
+received-fits s line count ready store x b e =
     let p = passed-test (not (receiverInRange s)) A.spoiled _ x e in
     let q = passed-test (tooShort line count) A.short _ x (p .1) in
-    let w = passed-test (meaning (reception s (take count (bitsOf line)) count .rule) .stores && tooShort store (s .taken * s .setup .k + s .setup .k)) A.short _ x (q .1) in
+    let w = passed-test (meaning (reception s (take count (bitsOf line)) count ready .rule) .stores && tooShort store (s .taken * s .setup .k + s .setup .k)) A.short _ x (q .1) in
     let range = not-false (receiverInRange s) (p .0) in
-    let g : reception s (take count (bitsOf line)) count ≡ x = cc (w .1) in
-    rw (← g) (reception-fits s (in-range s range) (receiver-fits s range b) (take count (bitsOf line)) count)
+    let g : reception s (take count (bitsOf line)) count ready ≡ x = cc (w .1) in
+    rw (← g) (reception-fits s (in-range s range) (receiver-fits s range b) (take count (bitsOf line)) count ready)

@@ -48,6 +48,7 @@ event-told E.Previous = refl
 event-told E.SequenceAlarm = refl
 event-told E.LengthAlarm = refl
 event-told (E.Ended L) = refl
+event-told E.Wait = refl
 
 verdict-told : (v : Verdict) → isRefusal (readNumber (done v)) ≡ false
 verdict-told (passed service) = from-64 (0x100 + service) (omega arith)
@@ -164,12 +165,12 @@ open-receiver-told k size state =
 abbrev receptionNumber : Answer Reception → ℕ
 receptionNumber a = reportNumber (reported a)
 
-receive-told : (line : List ℕ) (count : ℕ) (store : List ℕ) (a : Answer Receiver) → Plain a
-    → isRefusal (receptionNumber (receiveIn line count store a)) ≡ isRefused (receiveIn line count store a)
+receive-told : (line : List ℕ) (count : ℕ) (ready : Bool) (store : List ℕ) (a : Answer Receiver) → Plain a
+    → isRefusal (receptionNumber (receiveIn line count ready store a)) ≡ isRefused (receiveIn line count ready store a)
 unfolding receive
-receive-told line count store (refused n) h = h
-receive-told line count store (done s) h =
-    let x = reception s (take count (bitsOf line)) count in
+receive-told line count ready store (refused n) h = h
+receive-told line count ready store (done s) h =
+    let x = reception s (take count (bitsOf line)) count ready in
     three receptionNumber (λ n. refl) (done x) (event-told (meaning (x .rule) .event)) (not (receiverInRange s))
     (tooShort line count) (meaning (x .rule) .stores && tooShort store (s .taken * s .setup .k + s .setup .k)) A.spoiled A.short
     A.short refl refl refl
@@ -241,7 +242,7 @@ refusals-told =
       send = λ state order reading slice. send-told order reading slice (senderOf state) (sender-told state);
       sender-rest = λ state. rest-told (not (holdsSender state)) (senderIn state);
       open-receiver = open-receiver-told;
-      receive = λ state line count store. receive-told line count store (receiverOf state) (receiver-told state);
+      receive = λ state line count ready store. receive-told line count ready store (receiverOf state) (receiver-told state);
       return-bit = λ state. back-told (not (holdsReceiver state)) (receiverIn state);
       write-tint = write-tint-told;
       read-tint = read-tint-told;

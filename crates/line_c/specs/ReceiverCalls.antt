@@ -46,6 +46,7 @@ eventNumber E.Previous = 68
 eventNumber E.SequenceAlarm = 69
 eventNumber E.LengthAlarm = 70
 eventNumber (E.Ended L) = 71
+eventNumber E.Wait = 72
 
 -- the length that comes with the end; without it, the number stays
 abbrev pub eventLength : ℕ → Event → ℕ
@@ -64,9 +65,9 @@ reportLength len (refused n) = len
 reportLength len (done r) = eventLength len (r .event)
 
 -- a call on the receiver that the bytes hold, the bytes afterwards, and the store
-abbrev pub receiveIn : List ℕ → ℕ → List ℕ → Answer Receiver → Answer Reception
-receiveIn line count store (refused n) = refused n
-receiveIn line count store (done s) = receive s line count store
+abbrev pub receiveIn : List ℕ → ℕ → Bool → List ℕ → Answer Receiver → Answer Reception
+receiveIn line count ready store (refused n) = refused n
+receiveIn line count ready store (done s) = receive s line count ready store
 
 abbrev pub receivedState : List ℕ → Answer Reception → List ℕ
 receivedState state (refused n) = state
@@ -77,13 +78,13 @@ receivedStore store (refused n) answer = store
 receivedStore store (done s) answer = receiveStore s store answer
 
 pub record ReceiveCall
-    (state line : List ℕ) (count : ℕ) (store : List ℕ) (used len result : ℕ) (state′ store′ : List ℕ) (used′ len′ : ℕ)
+    (state line : List ℕ) (count : ℕ) (ready : Bool) (store : List ℕ) (used len result : ℕ) (state′ store′ : List ℕ) (used′ len′ : ℕ)
     : Type 0 where
-  pub answers : result ≡ reportNumber (reported (receiveIn line count store (receiverOf state)))
-  pub keeps : state′ ≡ receivedState state (receiveIn line count store (receiverOf state))
-  pub writes : store′ ≡ receivedStore store (receiverOf state) (receiveIn line count store (receiverOf state))
-  pub uses : used′ ≡ reportUsed used (reported (receiveIn line count store (receiverOf state)))
-  pub ends : len′ ≡ reportLength len (reported (receiveIn line count store (receiverOf state)))
+  pub answers : result ≡ reportNumber (reported (receiveIn line count ready store (receiverOf state)))
+  pub keeps : state′ ≡ receivedState state (receiveIn line count ready store (receiverOf state))
+  pub writes : store′ ≡ receivedStore store (receiverOf state) (receiveIn line count ready store (receiverOf state))
+  pub uses : used′ ≡ reportUsed used (reported (receiveIn line count ready store (receiverOf state)))
+  pub ends : len′ ≡ reportLength len (reported (receiveIn line count ready store (receiverOf state)))
 
 -- ---- the return bit
 

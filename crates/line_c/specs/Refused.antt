@@ -40,9 +40,9 @@ pub record RefusalsTold : Type 0 where
   pub sender-rest : (state : List ℕ) → isRefusal (restIn (senderOf state)) ≡ eqb (restIn (senderOf state)) A.spoiled
   pub open-receiver : (k : ℕ) (size : CodeSize) (state : List ℕ)
       → isRefusal (refusal (openReceiverIn k size state)) ≡ isRefused (openReceiverIn k size state)
-  pub receive : (state line : List ℕ) (count : ℕ) (store : List ℕ)
-      → isRefusal (reportNumber (reported (receiveIn line count store (receiverOf state))))
-      ≡ isRefused (receiveIn line count store (receiverOf state))
+  pub receive : (state line : List ℕ) (count : ℕ) (ready : Bool) (store : List ℕ)
+      → isRefusal (reportNumber (reported (receiveIn line count ready store (receiverOf state))))
+      ≡ isRefused (receiveIn line count ready store (receiverOf state))
   pub return-bit : (state : List ℕ) → isRefusal (backIn (receiverOf state)) ≡ eqb (backIn (receiverOf state)) A.spoiled
   pub write-tint : (numbers : List ℕ) (count : ℕ) (slice : List ℕ)
       → isRefusal (refusal (writeTint numbers count slice)) ≡ isRefused (writeTint numbers count slice)

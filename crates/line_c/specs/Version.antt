@@ -3,10 +3,10 @@ use mathlib.Core.Path.{_≡_}
 use Prim.Native.Nat.{ℕ, _+_, _*_}
 
 abbrev pub major : ℕ
-major = 3
+major = 4
 
 abbrev pub minor : ℕ
-minor = 1
+minor = 0
 
 abbrev pub patch : ℕ
 patch = 0

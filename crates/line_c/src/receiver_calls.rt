@@ -31,6 +31,8 @@ pub const LENGTH_ALARM: u8 = 70;
 
 pub const ENDED: u8 = 71;
 
+pub const WAIT: u8 = 72;
+
 // What order_line_return_bit returns where it is not refused.
 pub const RETURN_0: u8 = 96;
 
@@ -81,6 +83,7 @@ fn number_of(event: Event) -> u8
         Event::SequenceAlarm => SEQUENCE_ALARM,
         Event::LengthAlarm => LENGTH_ALARM,
         Event::Ended(_) => ENDED,
+        Event::Wait => WAIT,
     }
 }
 
@@ -100,17 +103,18 @@ pub extern "C" fn order_line_receive(
     state: &mut [u8],
     line: &[u8],
     bits: usize,
+    ready: bool,
     store: &mut [u8],
     used: &mut usize,
     length: &mut usize,
 ) -> u8
-    ensures { λ r. ⌜ ReceiveCall (now (state .entry)) (now (line .entry)) bits (now (store .entry)) (now (used .entry)) (now (length .entry)) r (now (state .exit)) (now (store .exit)) (now (used .exit)) (now (length .exit)) ⌝ }
+    ensures { λ r. ⌜ ReceiveCall (now (state .entry)) (now (line .entry)) bits ready (now (store .entry)) (now (used .entry)) (now (length .entry)) r (now (state .exit)) (now (store .exit)) (now (used .exit)) (now (length .exit)) ⌝ }
 {
     if !holds_receiver(state) {
         return block::SPOILED;
     }
     let head = load_head(state);
-    let step = head.receive(&mut state[HEAD_SIZE..ARRAY_END], line, bits, store);
+    let step = head.receive(&mut state[HEAD_SIZE..ARRAY_END], line, bits, ready, store);
     let answer = step.answer;
     let next = step.head;
     match answer {

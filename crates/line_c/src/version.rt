@@ -1,9 +1,9 @@
 // The version of the library; docs/VERSION.md says what it promises.
 ghost use Rattle.line_c.specs.Version.{VersionCall};
 
-pub const MAJOR: u32 = 3;
+pub const MAJOR: u32 = 4;
 
-pub const MINOR: u32 = 1;
+pub const MINOR: u32 = 0;
 
 pub const PATCH: u32 = 0;
 

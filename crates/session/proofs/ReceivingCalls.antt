@@ -13,7 +13,7 @@ use Rattle.line.specs.declared.receiving.Received.the-variants as R
 use Rattle.line.specs.declared.receiver.Step.{Step}
 use Rattle.line.specs.declared.receiver.Receiver.{Receiver}
 use Rattle.line.specs.declared.receiving.Event.{Event}
-use Rattle.session.specs.Period.{lineBytes, invertFirst, arriving, Lent, disturbed, lastEvent, Hearing, hearing, answered, hear}
+use Rattle.session.specs.Period.{lineBytes, invertFirst, arriving, Lent, disturbed, lastEvent, ready, Hearing, hearing, answered, hear}
 use Rattle.session.specs.declared.period.Last.the-variants as L
 use Rattle.session.specs.declared.period.Kind.{Kind}
 use Rattle.session.specs.declared.period.Kind.the-variants as K
@@ -30,18 +30,18 @@ hear-calls zero (suc g) s (b ∷ bs) store last hf hg = absurd (omega arith)
 hear-calls (suc f) zero s [] store last hf hg = refl
 hear-calls (suc f) zero s (b ∷ bs) store last hf hg = absurd (omega arith)
 hear-calls (suc f) (suc g) s [] store last hf hg = refl
-hear-calls (suc f) (suc g) s (b ∷ bs) store last hf hg = by-answer (receive s (bytesOf lineBytes (b ∷ bs)) (length (b ∷ bs)) store) refl
+hear-calls (suc f) (suc g) s (b ∷ bs) store last hf hg = by-answer (receive s (bytesOf lineBytes (b ∷ bs)) (length (b ∷ bs)) ready store) refl
     (λ x n.
     hear-calls f g (x .state) (drop (x .used) (b ∷ bs)) (receiveStore s store (done x)) (lastEvent last (meaning (x .rule) .event))
     (rw length-drop (omega arith)) (rw length-drop (omega arith)))
   where
-    by-answer : (a : Answer Reception) → receive s (bytesOf lineBytes (b ∷ bs)) (length (b ∷ bs)) store ≡ a
+    by-answer : (a : Answer Reception) → receive s (bytesOf lineBytes (b ∷ bs)) (length (b ∷ bs)) ready store ≡ a
         → ((x : Reception) → 0 < x .used
         → hear f (x .state) (drop (x .used) (b ∷ bs)) (receiveStore s store (done x)) (lastEvent last (meaning (x .rule) .event))
         ≡ hear g (x .state) (drop (x .used) (b ∷ bs)) (receiveStore s store (done x)) (lastEvent last (meaning (x .rule) .event)))
         → answered (hear f) s (b ∷ bs) store last a ≡ answered (hear g) s (b ∷ bs) store last a
     by-answer (refused n) e next = refl
-    by-answer (done x) e next = next x (receive-uses s (bytesOf lineBytes (b ∷ bs)) (length (b ∷ bs)) store x e (omega arith) .0)
+    by-answer (done x) e next = next x (receive-uses s (bytesOf lineBytes (b ∷ bs)) (length (b ∷ bs)) ready store x e (omega arith) .0)
 
 -- the bits that a packed array holds
 pub held-bits : (bits : Bits) → length bits ≤ 8 * lineBytes → take (length bits) (bitsOf (bytesOf lineBytes bits)) ≡ bits
@@ -67,12 +67,12 @@ module _ (s : Receiver) (store : List ℕ) (last : Event) (x : Reception) where
   rest : Bits → Hearing
   rest bits = hear (length bits) (x .state) bits (receiveStore s store (done x)) (lastEvent last (meaning (x .rule) .event))
 
-  first-call : (bits : Bits) → receive s (bytesOf lineBytes bits) (length bits) store ≡ done x → 0 < length bits
+  first-call : (bits : Bits) → receive s (bytesOf lineBytes bits) (length bits) ready store ≡ done x → 0 < length bits
       → hear (length bits) s bits store last ≡ rest (drop (x .used) bits)
   unfolding hear rest
   first-call [] e h = absurd (omega arith)
   first-call (b ∷ bs) e h =
-      let u = receive-uses s (bytesOf lineBytes (b ∷ bs)) (length (b ∷ bs)) store x e h in
+      let u = receive-uses s (bytesOf lineBytes (b ∷ bs)) (length (b ∷ bs)) ready store x e h in
       rw e
       (hear-calls (length bs) (length (drop (x .used) (b ∷ bs))) (x .state) (drop (x .used) (b ∷ bs)) (receiveStore s store (done x))
       (lastEvent last (meaning (x .rule) .event)) (rw length-drop (omega arith)) (omega arith))
@@ -85,11 +85,11 @@ module _ (s : Receiver) (store : List ℕ) (last : Event) (x : Reception) where
         (lastEvent last (meaning (x .rule) .event))
 
   packed-more : (bits : Bits) → length bits ≤ 8 * lineBytes → 0 < length bits
-      → receive s (bytesOf lineBytes bits) (length bits) store ≡ done x
+      → receive s (bytesOf lineBytes bits) (length bits) ready store ≡ done x
       → More (bytesOf lineBytes bits) (length bits) (bytesOf lineBytes (drop (x .used) (bitsOf (bytesOf lineBytes bits))))
   unfolding rest
   packed-more bits l h e =
-      let u = receive-uses s (bytesOf lineBytes bits) (length bits) store x e h in
+      let u = receive-uses s (bytesOf lineBytes bits) (length bits) ready store x e h in
       let d : Bits = drop (x .used) bits in
       let n : length d ≡ length bits - x .used = length-drop (x .used) bits in
       let f : length d ≤ 8 * lineBytes = omega arith in
@@ -100,7 +100,7 @@ module _ (s : Receiver) (store : List ℕ) (last : Event) (x : Reception) where
         goes-on = rw (m, ← n, held-bits bits l, held-bits d f) (first-call bits e h);
       }
 
-  pub call-more : (line : List ℕ) (left : ℕ) → Lent line left → 0 < left → receive s line left store ≡ done x
+  pub call-more : (line : List ℕ) (left : ℕ) → Lent line left → 0 < left → receive s line left ready store ≡ done x
       → More line left (bytesOf (length line) (drop (x .used) (bitsOf line)))
   call-more line left l h e =
       let n : length (take left (bitsOf line)) ≡ left = lent-length line left l in
@@ -110,15 +110,15 @@ module _ (s : Receiver) (store : List ℕ) (last : Event) (x : Reception) where
       lent-more : (bits : Bits) → length bits ≡ left → line ≡ bytesOf lineBytes bits
           → More line left (bytesOf lineBytes (drop (x .used) (bitsOf line)))
       lent-more bits n p =
-          let g : receive s (bytesOf lineBytes bits) (length bits) store ≡ done x = rw (← p, n) e in
+          let g : receive s (bytesOf lineBytes bits) (length bits) ready store ≡ done x = rw (← p, n) e in
           rw (p, ← n) (packed-more bits (omega arith) (omega arith) g)
 
 pub call-refused : (s : Receiver) (line : List ℕ) (left : ℕ) (store : List ℕ) (last : Event) (n : ℕ) → Lent line left → 0 < left
-    → receive s line left store ≡ refused n → hear left s (take left (bitsOf line)) store last ≡ hearing s (L.Refused n) store
+    → receive s line left ready store ≡ refused n → hear left s (take left (bitsOf line)) store last ≡ hearing s (L.Refused n) store
 unfolding hear
 call-refused s line left store last n l h e = from-bits (take left (bitsOf line)) (lent-length line left l) (l .1)
   where
-    packed : (bits : Bits) → 0 < length bits → receive s (bytesOf lineBytes bits) (length bits) store ≡ refused n
+    packed : (bits : Bits) → 0 < length bits → receive s (bytesOf lineBytes bits) (length bits) ready store ≡ refused n
         → hear (length bits) s bits store last ≡ hearing s (L.Refused n) store
     packed [] g e = absurd (omega arith)
     packed (b ∷ bs) g e = rw e
@@ -142,12 +142,12 @@ reported-done (done x) event used e =
 -- ---- by the call's promise
 
 module _ (s : Receiver) (line : List ℕ) (left : ℕ) (store : List ℕ) (last : Event) (step : Step) (store′ : List ℕ)
-    (lent : Lent line left) (some-left : 0 < left) (kept : Receive s line left store step store′) where
+    (lent : Lent line left) (some-left : 0 < left) (kept : Receive s line left ready store step store′) where
   pub refusal : (n : ℕ) → step .answer ≡ R.Refused n
       → hear left s (take left (bitsOf line)) store last ≡ hearing (step .state) (L.Refused n) store′
   refusal n e =
-      let r : receive s line left store ≡ refused n =
-      reported-refused (receive s line left store) n (rw e at (kept .answers)) in
+      let r : receive s line left ready store ≡ refused n =
+      reported-refused (receive s line left ready store) n (rw e at (kept .answers)) in
       rw (kept .state, kept .writes, r) (call-refused s line left store last n lent some-left r)
 
   pub record Progress (event : Event) (used : ℕ) (line′ : List ℕ) : Type 0 where
@@ -156,7 +156,7 @@ module _ (s : Receiver) (line : List ℕ) (left : ℕ) (store : List ℕ) (last 
     pub goes-on : hear left s (take left (bitsOf line)) store last
         ≡ hear (left - used) (step .state) (take (left - used) (bitsOf line′)) store′ (lastEvent last event)
 
-  progress-at : (x : Reception) (event : Event) (used : ℕ) → receive s line left store ≡ done x → event ≡ meaning (x .rule) .event
+  progress-at : (x : Reception) (event : Event) (used : ℕ) → receive s line left ready store ≡ done x → event ≡ meaning (x .rule) .event
       → used ≡ x .used → Progress event used (bytesOf (length line) (drop used (bitsOf line)))
   progress-at x event used a ev u =
       let m = call-more s store last x line left lent some-left a in
@@ -169,7 +169,7 @@ module _ (s : Receiver) (line : List ℕ) (left : ℕ) (store : List ℕ) (last 
   pub progress : (event : Event) (used : ℕ) → step .answer ≡ R.Used event used
       → Progress event used (bytesOf (length line) (drop used (bitsOf line)))
   progress event used e =
-      let r = reported-done (receive s line left store) event used (rw e at (kept .answers)) in
+      let r = reported-done (receive s line left ready store) event used (rw e at (kept .answers)) in
       progress-at (r .0) event used (r .1 .0) (r .1 .1 .0) (r .1 .1 .1)
 
 -- ---- damage

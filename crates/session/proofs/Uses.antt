@@ -42,33 +42,33 @@ held-in-range P.InStep k held e p = ltb-true held (blockLength k) e
 held-in-range P.SequenceAlarm k held e p = ltb-true held (blockLength k) e
 held-in-range P.LengthAlarm k held e p = ltb-true held (blockLength k) e
 
-in-step-uses : (s : Receiver) (new : Bits) → s .held < blockLength (s .setup .k) → 0 < length new
-    → Uses 0 (length new) (inStep s new .used)
+in-step-uses : (s : Receiver) (new : Bits) (ready : Bool) → s .held < blockLength (s .setup .k) → 0 < length new
+    → Uses 0 (length new) (inStep s new ready .used)
 unfolding inStep
-in-step-uses s new h n =
+in-step-uses s new ready h n =
     ⊎-elim (λ e. rw e (omega arith)) (λ e. rw e (omega (arith, ltb-false (length new) (missing s) e)))
     (either (ltb (length new) (missing s)))
 
-phase-uses : (s : Receiver) (phase : Phase) (new : Bits) → (phase ≡ P.InStep → s .held < blockLength (s .setup .k))
-    → 0 < length new → Uses 0 (length new) (byPhase s phase new .used)
-phase-uses s P.Search [] h n = absurd (omega arith)
-phase-uses s P.Search (b ∷ bs) h n = search-uses s (heldBits s) b bs 0
-phase-uses s P.InStep new h n = in-step-uses s new (h refl) n
-phase-uses s P.SequenceAlarm new h n = omega arith
-phase-uses s P.LengthAlarm new h n = omega arith
+phase-uses : (s : Receiver) (phase : Phase) (new : Bits) (ready : Bool) → (phase ≡ P.InStep → s .held < blockLength (s .setup .k))
+    → 0 < length new → Uses 0 (length new) (byPhase s phase new ready .used)
+phase-uses s P.Search [] ready h n = absurd (omega arith)
+phase-uses s P.Search (b ∷ bs) ready h n = search-uses s (heldBits s) b bs 0
+phase-uses s P.InStep new ready h n = in-step-uses s new ready (h refl) n
+phase-uses s P.SequenceAlarm new ready h n = omega arith
+phase-uses s P.LengthAlarm new ready h n = omega arith
 
-pub receive-uses : (s : Receiver) (line : List ℕ) (count : ℕ) (store : List ℕ) (x : Reception)
-    → receive s line count store ≡ done x → 0 < count → Uses 0 count (x .used)
+pub receive-uses : (s : Receiver) (line : List ℕ) (count : ℕ) (ready : Bool) (store : List ℕ) (x : Reception)
+    → receive s line count ready store ≡ done x → 0 < count → Uses 0 count (x .used)
 unfolding receive receiverInRange reception
-receive-uses s line count store x e h =
+receive-uses s line count ready store x e h =
     let new : Bits = take count (bitsOf line) in
     let p = passed-test (not (receiverInRange s)) A.spoiled _ x e in
     let q = passed-test (tooShort line count) A.short _ x (p .1) in
-    let z : reception s new count ≡ byPhase s (s .phase) new = rw (ne-eqb count 0 (λ w. omega arith)) in
-    let d : done (byPhase s (s .phase) new) ≡ done x = rw z at (passed-test (meaning (reception s new count .rule) .stores && tooShort store (s .taken * s .setup .k + s .setup .k)) A.short _ x (q .1) .1) in
-    let y : byPhase s (s .phase) new ≡ x = cc in
+    let z : reception s new count ready ≡ byPhase s (s .phase) new ready = rw (ne-eqb count 0 (λ w. omega arith)) in
+    let d : done (byPhase s (s .phase) new ready) ≡ done x = rw z at (passed-test (meaning (reception s new count ready .rule) .stores && tooShort store (s .taken * s .setup .k + s .setup .k)) A.short _ x (q .1) .1) in
+    let y : byPhase s (s .phase) new ready ≡ x = cc in
     let n : length new ≡ count = length-take-le count (bitsOf line) (rw (length-bitsOf line) (omega (arith, ltb-false (8 * length line) count (q .0)))) in
     let t : heldInRange (s .phase) (blockLength (s .setup .k)) (s .held) ≡ true = in-range s (not-false (receiverInRange s) (p .0)) .held in
-    let u : Uses 0 (length new) (byPhase s (s .phase) new .used) =
-    phase-uses s (s .phase) new (held-in-range (s .phase) (s .setup .k) (s .held) t) (rw n h) in
+    let u : Uses 0 (length new) (byPhase s (s .phase) new ready .used) =
+    phase-uses s (s .phase) new ready (held-in-range (s .phase) (s .setup .k) (s .held) t) (rw n h) in
     rw (← y) (rw n at u)

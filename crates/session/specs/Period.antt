@@ -73,6 +73,7 @@ lastEvent last E.Previous = E.Previous
 lastEvent last E.SequenceAlarm = E.SequenceAlarm
 lastEvent last E.LengthAlarm = E.LengthAlarm
 lastEvent last (E.Ended L) = E.Ended L
+lastEvent last E.Wait = E.Wait
 
 -- the receiver, the last event or the refusal, and the store
 pub record Hearing : Type 0 where
@@ -88,13 +89,17 @@ answered next s bits store last (refused n) = hearing s (L.Refused n) store
 answered next s bits store last (done x) =
     next (x .state) (drop (x .used) bits) (receiveStore s store (done x)) (lastEvent last (meaning (x .rule) .event))
 
+-- the run program's machine is always ready
+abbrev pub ready : Bool
+ready = true
+
 -- Calls, each lent the bits not yet used, until none is left or a call is refused. A call uses at least one bit, so that
 -- there are no more calls than bits: the number of calls only ends the recursion.
 unfoldable pub hear : ℕ → Receiver → Bits → List ℕ → Event → Hearing
 hear zero s bits store last = hearing s (L.Event last) store
 hear (suc calls) s [] store last = hearing s (L.Event last) store
 hear (suc calls) s (b ∷ bs) store last =
-    answered (hear calls) s (b ∷ bs) store last (receive s (bytesOf lineBytes (b ∷ bs)) (length (b ∷ bs)) store)
+    answered (hear calls) s (b ∷ bs) store last (receive s (bytesOf lineBytes (b ∷ bs)) (length (b ∷ bs)) ready store)
 
 -- ---- a period
 

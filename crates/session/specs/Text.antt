@@ -81,6 +81,7 @@ eventText E.Previous = ascii "previous"
 eventText E.SequenceAlarm = ascii "sequence alarm"
 eventText E.LengthAlarm = ascii "length alarm"
 eventText (E.Ended L) = ascii "ended"
+eventText E.Wait = ascii "wait"
 
 -- ---- what is written
 

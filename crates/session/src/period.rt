@@ -14,6 +14,9 @@ use line::receiving::Received;
 use line::sender::Sender;
 use line::sender::Sent;
 
+// The run program's machine is always ready.
+const READY: bool = true;
+
 // A line of the input: t, f, d.
 pub enum Kind {
     Undisturbed,
@@ -97,6 +100,7 @@ fn last_event(last: Event, event: Event) -> Event
         Event::SequenceAlarm => event,
         Event::LengthAlarm => event,
         Event::Ended(_) => event,
+        Event::Wait => event,
     }
 }
 
@@ -145,7 +149,7 @@ fn hear(receiver: Receiver, line: &mut [u8], count: usize, store: &mut [u8]) -> 
     let mut left = count;
     let mut last = Event::None;
     while 0 < left {
-        let step = state.receive(line, left, store);
+        let step = state.receive(line, left, READY, store);
         state = step.state;
         let answer = step.answer;
         match answer {

@@ -133,6 +133,7 @@ impl Text {
             Event::SequenceAlarm => self.word(b"sequence alarm"),
             Event::LengthAlarm => self.word(b"length alarm"),
             Event::Ended(_) => self.word(b"ended"),
+            Event::Wait => self.word(b"wait"),
         }
     }
 }

@@ -1,7 +1,7 @@
 -- `order_line_receive`: the receiver that the bytes hold, its array in place, is handed to `receive`, and its head back.
 -- Assumes nothing.
 use mathlib.Core.Path.{_≡_, refl, sym, ap, _∙_}
-use mathlib.Core.Bool.{true, false}
+use mathlib.Core.Bool.{Bool, true, false}
 use mathlib.Core.List.{List, [], _++_, append-assoc}
 use Prim.Native.Nat.{ℕ, _≤_}
 use native.Mathlib.Omega.{arith}
@@ -33,10 +33,10 @@ kept-refused : (state : List ℕ) (s : Receiver) (a : Answer Reception) (n : ℕ
 kept-refused state s (refused m) n r = (refl, refl)
 kept-refused state s (done x) n r = absurd (let z : _≡_ {A = ℕ} 0 1 = cc in omega arith)
 
-kept-setup : (s : Receiver) (line : List ℕ) (count : ℕ) (store : List ℕ) (a : Answer Reception) → receive s line count store ≡ a
+kept-setup : (s : Receiver) (line : List ℕ) (count : ℕ) (ready : Bool) (store : List ℕ) (a : Answer Reception) → receive s line count ready store ≡ a
     → (r : Report) → reported a ≡ done r → receiveState s a .setup ≡ s .setup
-kept-setup s line count store (refused m) e r z = absurd (let z : _≡_ {A = ℕ} 0 1 = cc in omega arith)
-kept-setup s line count store (done x) e r z = received-setup s line count store x e
+kept-setup s line count ready store (refused m) e r z = absurd (let z : _≡_ {A = ℕ} 0 1 = cc in omega arith)
+kept-setup s line count ready store (done x) e r z = received-setup s line count ready store x e
 
 kept-done : (state : List ℕ) (s : Receiver) (a : Answer Reception) (r : Report) → reported a ≡ done r
     → receiverOver state (receiveState s a) ≡ receivedState state a
@@ -77,8 +77,8 @@ module _ (state : List ℕ) where
         ∙ ap (λ (l : List ℕ). array′ ++ l) (drop-drop arrayBytes headSize state ∙ sym m))
         ∙ simp append-assoc
 
-module _ (state line : List ℕ) (count : ℕ) (store : List ℕ) (used len : ℕ) where
-  unheld : holdsReceiver state ≡ false → ReceiveCall state line count store used len A.spoiled state store used len
+module _ (state line : List ℕ) (count : ℕ) (ready : Bool) (store : List ℕ) (used len : ℕ) where
+  unheld : holdsReceiver state ≡ false → ReceiveCall state line count ready store used len A.spoiled state store used len
   unfolding receiverOf
   unheld h = record { answers = rw h; keeps = rw h; writes = rw h; uses = rw h; ends = rw h }
 
@@ -100,15 +100,15 @@ module _ (state line : List ℕ) (count : ℕ) (store : List ℕ) (used len : �
         ap (λ (x : Setup). marksBytes (x .marks) ++ drop receiverSize state) (k ∙ ap (λ (r : Receiver). r .setup) e)
         ∙ marks-written-back state arrayEnd enough (held receiverSize 1 1 3 state h .marks)
 
-    module _ (result : HeadStep) (array′ store′ : List ℕ) (q : ReceiveInPlace head (array state) line count store result array′ store′) where
-      call : Receive s line count store (stepWith result array′) store′
-      call = by-value head (array state) line count store (length-array state enough) result array′ store′ q
+    module _ (result : HeadStep) (array′ store′ : List ℕ) (q : ReceiveInPlace head (array state) line count ready store result array′ store′) where
+      call : Receive s line count ready store (stepWith result array′) store′
+      call = by-value head (array state) line count ready store (length-array state enough) result array′ store′ q
 
       turned : (n : ℕ) → receivedAnswer (result .answer) ≡ refused n
-          → ReceiveCall state line count store used len n (with-array state array′) store′ used len
+          → ReceiveCall state line count ready store used len n (with-array state array′) store′ used len
       turned n a =
-          let r : reported (receive s line count store) ≡ refused n = sym (call .answers) ∙ a in
-          let k = kept-refused state s (receive s line count store) n r in
+          let r : reported (receive s line count ready store) ≡ refused n = sym (call .answers) ∙ a in
+          let k = kept-refused state s (receive s line count ready store) n r in
           let w : array′ ≡ array state = ap (λ (x : Receiver). x .bits) (call .state ∙ k .1) in
           record {
             answers = rw receiver-held (sym (ap reportNumber r));
@@ -121,16 +121,16 @@ module _ (state line : List ℕ) (count : ℕ) (store : List ℕ) (used len : �
       heard : (event : Event) (bits : ℕ) → receivedAnswer (result .answer) ≡ done (record { event = event; used = bits })
           → (number : ℕ) (state′ : List ℕ) (len′ : ℕ) → number ≡ eventNumber event
           → state′ ≡ receiverHead (withArray (result .head) []) ++ drop headSize (with-array state array′)
-          → len′ ≡ eventLength len event → ReceiveCall state line count store used len number state′ store′ bits len′
+          → len′ ≡ eventLength len event → ReceiveCall state line count ready store used len number state′ store′ bits len′
       heard event bits a number state′ len′ n w l =
           let r = sym (call .answers) ∙ a in
           let k : result .head .setup ≡ s .setup =
-          ap (λ (x : Receiver). x .setup) (call .state) ∙ kept-setup s line count store (receive s line count store) refl _ r in
+          ap (λ (x : Receiver). x .setup) (call .state) ∙ kept-setup s line count ready store (receive s line count ready store) refl _ r in
           record {
             answers = rw receiver-held (n ∙ sym (ap reportNumber r));
             keeps = rw receiver-held
                 (head-over state enough (result .head) array′ state′ (marks-kept k) w ∙ ap (receiverOver state) (call .state)
-                ∙ kept-done state s (receive s line count store) _ r);
+                ∙ kept-done state s (receive s line count ready store) _ r);
             writes = rw receiver-held (call .writes);
             uses = rw receiver-held (sym (ap (reportUsed used) r));
             ends = rw receiver-held (l ∙ sym (ap (reportLength len) r));
@@ -153,7 +153,7 @@ same-length : tie.Need-same-length
 same-length c = search needs
 
 returns : tie.Need-returns
-returns c = unheld _ _ _ _ _ _ (sym (c .before .holds-receiver .ensures) ∙ not-true _ (c .if1 .taken))
+returns c = unheld _ _ _ _ _ _ _ (sym (c .before .holds-receiver .ensures) ∙ not-true _ (c .if1 .taken))
 
 load-head-requires : tie.Need-load-head-requires
 load-head-requires c κs = size-held (c .before)
@@ -195,7 +195,7 @@ returns-2 : tie.Need-returns-2
 returns-2 c =
     let receive = c .before .before .before .before .before .before .before .before in
     let loaded = receive .before .before .before in
-    turned _ _ _ _ _ _ (bytes-held (loaded .before .before)) _ (loaded .load-head .ensures) _ _ _ (receive .receive .ensures) _
+    turned _ _ _ _ _ _ _ (bytes-held (loaded .before .before)) _ (loaded .load-head .ensures) _ _ _ (receive .receive .ensures) _
     (ap receivedAnswer (c .before .answer .given .1))
 
 same-length-4 : tie.Need-same-length-4
@@ -209,7 +209,7 @@ returns-3 c =
     let put = c .before .before .before .before in
     let receive = c .before .before .before .before .before .before .before .before .before .before .before .before .before .before in
     let loaded = receive .before .before .before in
-    heard _ _ _ _ _ _ (bytes-held (loaded .before .before)) _ (loaded .load-head .ensures) _ _ _ (receive .receive .ensures) _ _
+    heard _ _ _ _ _ _ _ (bytes-held (loaded .before .before)) _ (loaded .load-head .ensures) _ _ _ (receive .receive .ensures) _ _
     (ap receivedAnswer (c .before .before .before .before .before .before .before .answer2 .given .1)) _ _ _ (c .report .ensures .0) (put .put-head .ensures) (c .report .ensures .1)
 
 pub order-line-receive-spec : {M : Type 1} → statement M

@@ -12,7 +12,7 @@ use borrow.Author.Needs.{needs}
 use Rattle.line_c.proofs.receiver_calls.report.Statement.{statement}
 use Rattle.line_c.proofs.receiver_calls.report.Tie as tie
 
-no-length : (len : ℕ) (e : Event) → OneOf (0 ∷ 1 ∷ 2 ∷ 3 ∷ 4 ∷ 5 ∷ 6 ∷ []) (tagOf the-type e) → len ≡ eventLength len e
+no-length : (len : ℕ) (e : Event) → OneOf (0 ∷ 1 ∷ 2 ∷ 3 ∷ 4 ∷ 5 ∷ 6 ∷ 8 ∷ []) (tagOf the-type e) → len ≡ eventLength len e
 no-length len E.None t = refl
 no-length len E.Sync t = refl
 no-length len E.Bad t = refl
@@ -20,7 +20,8 @@ no-length len E.Accepted t = refl
 no-length len E.Previous t = refl
 no-length len E.SequenceAlarm t = refl
 no-length len E.LengthAlarm t = refl
-no-length len (E.Ended L) t = absurd (miss (0 ∷ 1 ∷ 2 ∷ 3 ∷ 4 ∷ 5 ∷ 6 ∷ []) 7 tt t)
+no-length len (E.Ended L) t = absurd (miss (0 ∷ 1 ∷ 2 ∷ 3 ∷ 4 ∷ 5 ∷ 6 ∷ 8 ∷ []) 7 tt t)
+no-length len E.Wait t = refl
 
 enum-known-event : tie.Need-enum-known-event
 enum-known-event c = search needs

@@ -34,14 +34,14 @@ same-length : tie.Need-same-length Inv-loop μ-loop
 same-length c = c .before .before .before .before .before .before .before .before .before .before .loop .inv .1
 
 same-length-2 : tie.Need-same-length-2 Inv-loop μ-loop
-same-length-2 c = c .before .before .before .before .before .before .receive .kept .1 .1 .1 .0 ∙ c .before .before .before .before .before .before .before .before .before .before .loop .inv .2
+same-length-2 c = c .before .before .before .before .before .before .receive .kept .1 .1 .1 .1 .0 ∙ c .before .before .before .before .before .before .before .before .before .before .loop .inv .2
 
 returns : tie.Need-returns Inv-loop μ-loop
 returns c =
     let l = c .before .before .before .before .before .before .before .before .before .before .loop in
     let r = c .before .before .before .before .before .before .receive in
     let g =
-    refusal (l .state) (l .line) (l .left) (l .store) (l .last) (r .result) (r .last .1 .1 .1 .0) (l .inv .0)
+    refusal (l .state) (l .line) (l .left) (l .store) (l .last) (r .result) (r .last .1 .1 .1 .1 .0) (l .inv .0)
     (c .before .before .before .before .before .before .before .before .before .loop-test .taken) (r .ensures) _ (c .before .answer .given .1) in
     let e = sym g ∙ l .inv .3 in
     (ap (λ (h : Hearing). h .heard) e, ap (λ (h : Hearing). h .store) e)
@@ -60,7 +60,7 @@ sub-left c =
     let l = c .before .before .before .before .before .before .before .before .before .before .before .before .before .before .before .loop in
     let r = c .before .before .before .before .before .before .before .before .before .before .before .receive in
     let m =
-    progress (l .state) (l .line) (l .left) (l .store) (l .last) (r .result) (r .last .1 .1 .1 .0) (l .inv .0)
+    progress (l .state) (l .line) (l .left) (l .store) (l .last) (r .result) (r .last .1 .1 .1 .1 .0) (l .inv .0)
     (c .before .before .before .before .before .before .before .before .before .before .before .before .before .before .loop-test .taken) (r .ensures) _ _ (c .before .before .before .before .before .before .answer2 .given .1) in
     m .uses .1
 
@@ -69,7 +69,7 @@ loop-less c =
     let l = c .before .before .before .before .before .before .before .before .before .before .before .before .before .before .before .loop in
     let r = c .before .before .before .before .before .before .before .before .before .before .before .receive in
     let m =
-    progress (l .state) (l .line) (l .left) (l .store) (l .last) (r .result) (r .last .1 .1 .1 .0) (l .inv .0)
+    progress (l .state) (l .line) (l .left) (l .store) (l .last) (r .result) (r .last .1 .1 .1 .1 .0) (l .inv .0)
     (c .before .before .before .before .before .before .before .before .before .before .before .before .before .before .loop-test .taken) (r .ensures) _ _ (c .before .before .before .before .before .before .answer2 .given .1) in
     omega (arith, m .uses .0, m .uses .1)
 
@@ -78,12 +78,12 @@ loop-again c =
     let l = c .before .before .before .before .before .before .before .before .before .before .before .before .before .before .before .loop in
     let r = c .before .before .before .before .before .before .before .before .before .before .before .receive in
     let m =
-    progress (l .state) (l .line) (l .left) (l .store) (l .last) (r .result) (r .last .1 .1 .1 .0) (l .inv .0)
+    progress (l .state) (l .line) (l .left) (l .store) (l .last) (r .result) (r .last .1 .1 .1 .1 .0) (l .inv .0)
     (c .before .before .before .before .before .before .before .before .before .before .before .before .before .before .loop-test .taken) (r .ensures) _ _ (c .before .before .before .before .before .before .answer2 .given .1) in
     let d = c .before .before .drop-bits in (
       rw (d .ensures) (m .lent-next),
       d .kept .0 ∙ l .inv .1,
-      r .kept .1 .1 .1 .0 ∙ l .inv .2,
+      r .kept .1 .1 .1 .1 .0 ∙ l .inv .2,
       rw (d .ensures, c .before .before .before .before .last-event .ensures) (sym (m .goes-on) ∙ l .inv .3),
     )
 

@@ -76,6 +76,15 @@ slice-aggregate-word-8 c = search needs
 word-requires-8 : tie.Need-word-requires-8
 word-requires-8 c κs = search needs
 
+enum-told-9 : tie.Need-enum-told-9
+enum-told-9 c = search needs
+
+slice-aggregate-word-9 : tie.Need-slice-aggregate-word-9
+slice-aggregate-word-9 c = search needs
+
+word-requires-9 : tie.Need-word-requires-9
+word-requires-9 c κs = search needs
+
 returns : tie.Need-returns
 returns c = (rw (c .before .before .enum-told .given .1) (c .word .ensures), omega (arith, c .word .ensures .len))
 
@@ -99,6 +108,9 @@ returns-7 c = (rw (c .before .before .enum-told7 .given .1) (c .word7 .ensures),
 
 returns-8 : tie.Need-returns-8
 returns-8 c = (rw (c .before .before .enum-told8 .given .1) (c .word8 .ensures), omega (arith, c .word8 .ensures .len))
+
+returns-9 : tie.Need-returns-9
+returns-9 c = (rw (c .before .before .enum-told9 .given .1) (c .word9 .ensures), omega (arith, c .word9 .ensures .len))
 
 pub event-spec : {M : Type 1} → statement M
 event-spec =
@@ -128,6 +140,9 @@ event-spec =
     enum-told-8
     slice-aggregate-word-8
     word-requires-8
+    enum-told-9
+    slice-aggregate-word-9
+    word-requires-9
     returns
     returns-2
     returns-3
@@ -135,4 +150,5 @@ event-spec =
     returns-5
     returns-6
     returns-7
-    returns-8)
+    returns-8
+    returns-9)
