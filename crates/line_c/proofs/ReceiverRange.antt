@@ -1,9 +1,9 @@
 -- A receiver in range fits its layout, and so do the states that opening and a receiving call hand back.
 -- Assumes nothing.
 use mathlib.Core.Path.{_≡_, refl}
-use mathlib.Core.Bool.{Bool, true, false, not, _&&_, _||_}
+use mathlib.Core.Bool.{Bool, true, false, not, _||_}
 use mathlib.Core.List.{List, [], _∷_, _++_}
-use Prim.Native.Nat.{ℕ, suc, _+_, _*_, _^_, _≤_, _<_}
+use Prim.Native.Nat.{ℕ, suc, _+_, _^_, _≤_, _<_}
 use native.Mathlib.Omega.{arith}
 use borrow.Author.Tests.{ltb-true, leb-true, not-false}
 use lib.Dec.{eqb, leb, ltb}
@@ -13,19 +13,18 @@ use Rattle.crc.proofs.Bytes.{length-bytesOf}
 use Rattle.block.specs.Answer as A
 use Rattle.block.specs.Answer.{done}
 use Rattle.block.specs.Lengths.{isLength, blockLength}
-use Rattle.block.specs.Calls.{tooShort}
 use Rattle.block.proofs.Lengths.{length-facts}
 use Rattle.block.proofs.Truth.{cond-case}
 use Rattle.block.proofs.Refusals.{passed-test}
 use Rattle.line.specs.Marks.{marksOf}
-use Rattle.line.specs.Receiving.{arrayBytes, freshReceiver, openReceiver, Rule, unfinished, standing, sequence-found, sync-block, check-fails, accepts, previous, out-of-sequence, ends, wrong-length, ends-again, anything-else, waits, meaning, blockRule, blank, lastBad, afterBad, after, heldBits, Reception, latest, isSequence, search, underAlarm, holding, missing, finishedRow, inStep, byPhase, reception, heldInRange, receiverInRange, receive}
+use Rattle.line.specs.Receiving.{arrayBytes, freshReceiver, openReceiver, Rule, unfinished, standing, sequence-found, sync-block, check-fails, accepts, previous, out-of-sequence, ends, wrong-length, ends-again, anything-else, waits, blockRule, blank, lastBad, afterBad, after, heldBits, Reception, latest, isSequence, search, underAlarm, holding, missing, finishedRow, inStep, byPhase, reception, heldInRange, receiverInRange, receive}
 use Rattle.line.specs.declared.marks.CodeSize.{CodeSize}
 use Rattle.line.specs.declared.receiver.Receiver.{Receiver}
 use Rattle.line.specs.declared.receiving.Phase.{Phase}
 use Rattle.line.specs.declared.receiving.Phase.the-variants as P
 use Rattle.line.proofs.Delivery.WrittenBits.{length-zeroArray}
 use Rattle.line.proofs.Delivery.SearchAnyBits.{length-latest}
-use Rattle.line.proofs.ReceivingCall.{InRange, in-range, held-search}
+use Rattle.line.proofs.ReceivingCall.{InRange, in-range, held-search, heard}
 use Rattle.line_c.specs.State.{ReceiverFits}
 
 -- ---- a state in range
@@ -140,11 +139,6 @@ opened-fits k size u e =
 
 pub received-fits : (s : Receiver) (line : List ℕ) (count : ℕ) (ready : Bool) (store : List ℕ) (x : Reception) → length (s .bits) ≡ arrayBytes
     → receive s line count ready store ≡ done x → ReceiverFits (x .state)
-unfolding receive
 received-fits s line count ready store x b e =
-    let p = passed-test (not (receiverInRange s)) A.spoiled _ x e in
-    let q = passed-test (tooShort line count) A.short _ x (p .1) in
-    let w = passed-test (meaning (reception s (take count (bitsOf line)) count ready .rule) .stores && tooShort store (s .taken * s .setup .k + s .setup .k)) A.short _ x (q .1) in
-    let range = not-false (receiverInRange s) (p .0) in
-    let g : reception s (take count (bitsOf line)) count ready ≡ x = cc (w .1) in
-    rw (← g) (reception-fits s (in-range s range) (receiver-fits s range b) (take count (bitsOf line)) count ready)
+    let h = heard s line count ready store x e in
+    rw (← h .2) (reception-fits s (in-range s (h .0)) (receiver-fits s (h .0) b) (take count (bitsOf line)) count ready)

@@ -1,26 +1,22 @@
 -- How many bits a receiving call uses: at least one of those that it is lent, and no more. Assumes nothing.
-use mathlib.Core.Path.{_≡_, refl, sym, ap, subst, _∙_}
-use mathlib.Core.Bool.{Bool, true, not, _&&_}
+use mathlib.Core.Path.{_≡_, refl, sym, _∙_}
+use mathlib.Core.Bool.{Bool, true}
 use mathlib.Core.List.{List, [], _∷_, _++_}
 use mathlib.Core.Logic.{⊎-elim}
-use Prim.Native.Nat.{ℕ, suc, _+_, _-_, _*_, _≤_, _<_}
-use native.Mathlib.Numerals.{add-one}
+use Prim.Native.Nat.{ℕ, suc, _+_, _*_, _≤_, _<_}
 use native.Mathlib.Omega.{arith}
-use lib.Dec.{eqb, ltb}
-use lib.ListN.{length, take, drop}
+use lib.Dec.{ltb}
+use lib.ListN.{length, take}
 use lib.Seq.{length-take-le}
-use borrow.Author.Tests.{ne-eqb, ltb-true, ltb-false, not-false}
+use borrow.Author.Tests.{ne-eqb, ltb-true, ltb-false}
 use Rattle.crc.specs.Bits.{Bits, bitsOf}
 use Rattle.crc.proofs.Bytes.{length-bitsOf}
-use Rattle.block.specs.Answer as A
-use Rattle.block.specs.Answer.{Answer, refused, done, refuseIf}
+use Rattle.block.specs.Answer.{done}
 use Rattle.block.specs.Lengths.{blockLength}
-use Rattle.block.specs.Calls.{tooShort}
-use Rattle.block.proofs.Refusals.{passed-test}
 use Rattle.block.proofs.Truth.{either, cond-case}
-use Rattle.line.specs.Receiving.{Reception, latest, isSequence, search, missing, inStep, byPhase, reception, heldBits, heldInRange, receiverInRange, meaning, receive}
+use Rattle.line.specs.Receiving.{Reception, latest, isSequence, search, missing, inStep, byPhase, reception, heldBits, heldInRange, receive}
 use Rattle.line.specs.declared.receiver.Receiver.{Receiver}
-use Rattle.line.proofs.ReceivingCall.{in-range}
+use Rattle.line.proofs.ReceivingCall.{in-range, heard}
 use Rattle.line.specs.declared.receiving.Phase.{Phase}
 use Rattle.line.specs.declared.receiving.Phase.the-variants as P
 
@@ -59,16 +55,14 @@ phase-uses s P.LengthAlarm new ready h n = omega arith
 
 pub receive-uses : (s : Receiver) (line : List ℕ) (count : ℕ) (ready : Bool) (store : List ℕ) (x : Reception)
     → receive s line count ready store ≡ done x → 0 < count → Uses 0 count (x .used)
-unfolding receive receiverInRange reception
+unfolding reception
 receive-uses s line count ready store x e h =
     let new : Bits = take count (bitsOf line) in
-    let p = passed-test (not (receiverInRange s)) A.spoiled _ x e in
-    let q = passed-test (tooShort line count) A.short _ x (p .1) in
+    let r = heard s line count ready store x e in
     let z : reception s new count ready ≡ byPhase s (s .phase) new ready = rw (ne-eqb count 0 (λ w. omega arith)) in
-    let d : done (byPhase s (s .phase) new ready) ≡ done x = rw z at (passed-test (meaning (reception s new count ready .rule) .stores && tooShort store (s .taken * s .setup .k + s .setup .k)) A.short _ x (q .1) .1) in
-    let y : byPhase s (s .phase) new ready ≡ x = cc in
-    let n : length new ≡ count = length-take-le count (bitsOf line) (rw (length-bitsOf line) (omega (arith, ltb-false (8 * length line) count (q .0)))) in
-    let t : heldInRange (s .phase) (blockLength (s .setup .k)) (s .held) ≡ true = in-range s (not-false (receiverInRange s) (p .0)) .held in
+    let y : byPhase s (s .phase) new ready ≡ x = sym z ∙ r .2 in
+    let n : length new ≡ count = length-take-le count (bitsOf line) (rw (length-bitsOf line) (omega (arith, ltb-false (8 * length line) count (r .1)))) in
+    let t : heldInRange (s .phase) (blockLength (s .setup .k)) (s .held) ≡ true = in-range s (r .0) .held in
     let u : Uses 0 (length new) (byPhase s (s .phase) new ready .used) =
     phase-uses s (s .phase) new ready (held-in-range (s .phase) (s .setup .k) (s .held) t) (rw n h) in
     rw (← y) (rw n at u)
