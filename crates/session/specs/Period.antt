@@ -11,7 +11,7 @@ use Rattle.block.specs.Answer.{Answer, refused, done}
 use Rattle.line.specs.Order.{orderBits}
 use Rattle.line.specs.Sending as S
 use Rattle.line.specs.Sending.{send, sendState, sentBits}
-use Rattle.line.specs.Receiving.{Reception, meaning, receive, receiveStore}
+use Rattle.line.specs.Receiving.{Reception, meaning, eventKind, receive, receiveStore}
 use Rattle.line.specs.declared.sender.Sender.{Sender}
 use Rattle.line.specs.declared.receiver.Receiver.{Receiver}
 use Rattle.line.specs.declared.receiving.Event.{Event}
@@ -157,3 +157,12 @@ period kind s r order store =
 pub record RunPeriod (kind : Kind) (s : Sender) (r : Receiver) (order store : List ℕ) (result : Period) (store′ : List ℕ) : Type 0 where
   pub answers : result ≡ period kind s r order store .period
   pub writes : store′ ≡ period kind s r order store .store
+
+-- no line that is written shows a wait
+abbrev pub showsWait : Outcome → Bool
+showsWait (O.Refused n) = false
+showsWait (O.Line l) = eventKind (l .event) .wait
+
+unfoldable pub NeverWaits : Type 0
+NeverWaits =
+    (kind : Kind) (s : Sender) (r : Receiver) (order store : List ℕ) → showsWait (period kind s r order store .period .outcome) ≡ false
