@@ -36,11 +36,11 @@ extern "C" {
 /* ---- the version ---- */
 
 /*
- * Version 3.1.0: major * 65536 + minor * 256 + patch. A later version with the same major number keeps the layouts, the
+ * Version 4.0.0: major * 65536 + minor * 256 + patch. A later version with the same major number keeps the layouts, the
  * numbers, the signatures and the promises of this one (docs/VERSION.md). order_line_version returns the version of the
  * library; the two differ where a header and a library of different versions were brought together.
  */
-#define ORDER_LINE_VERSION 0x030100u
+#define ORDER_LINE_VERSION 0x040000u
 
 uint32_t order_line_version(void);
 
@@ -228,11 +228,19 @@ uint8_t order_line_open_receiver_with_marks(size_t k, size_t size, uint8_t *stat
  * as it is otherwise. The store is the same at each call; for an order of L bits it wants L bits rounded up to a
  * multiple of k, at most ORDER_LINE_STORE_BYTES(k) bytes. bits may be 0: nothing changes, and a standing alarm is
  * reported.
- * Refused: SPOILED (also a state that is too short), SHORT (line has fewer than `bits` bits; or a block would be
- * accepted and the store cannot hold it: then no bit is used, and the call may be made again with a longer store).
+ *
+ * ready says whether the machine can take a block now: false while it is busy. The call that brings a block's last bit
+ * decides, whatever the calls before it said. If ready is false there, a block that would be accepted, or the end that
+ * would be reported, is ORDER_LINE_EVENT_WAIT instead: nothing is stored, nothing is taken, the return bit is 1, and the
+ * store is not judged. Every other event is the same whether ready is true or false. The sender repeats a block that
+ * waits; if the machine stays busy, it gives up after 64 cancels.
+ *
+ * Refused: SPOILED (also a state that is too short), SHORT (line has fewer than `bits` bits; or ready is true, a block
+ * would be accepted and the store cannot hold it: then no bit is used, and the call may be made again with a longer
+ * store).
  */
 uint8_t order_line_receive(uint8_t *state, size_t state_bytes, const uint8_t *line, size_t line_bytes, size_t bits,
-                           uint8_t *store, size_t store_bytes, size_t *used, size_t *length);
+                           bool ready, uint8_t *store, size_t store_bytes, size_t *used, size_t *length);
 
 /* The events; their numbers are this library's own. */
 #define ORDER_LINE_EVENT_NONE 64           /* all bits were used without an event */
@@ -243,6 +251,7 @@ uint8_t order_line_receive(uint8_t *state, size_t state_bytes, const uint8_t *li
 #define ORDER_LINE_EVENT_SEQUENCE_ALARM 69 /* an item was missed; stands until a receiver is opened anew */
 #define ORDER_LINE_EVENT_LENGTH_ALARM 70   /* an end block with another length; stands likewise */
 #define ORDER_LINE_EVENT_ENDED 71          /* the end: the whole order is in the store, and its length is reported */
+#define ORDER_LINE_EVENT_WAIT 72           /* the machine is not ready for the next item or the end: nothing taken */
 
 #define ORDER_LINE_IS_EVENT(answer) ((answer) - 64u < 16u) /* what order_line_receive returned is an event, no refusal */
 

@@ -30,7 +30,7 @@ static_assert(2 * ORDER_LINE_TINT_BYTES(1 + 1) == 18, "brackets around the macro
 
 static_assert(NEITHER(0) && WORD(0), "done");
 static_assert(REFUSED(ORDER_LINE_REFUSED_BLOCK) && REFUSED(ORDER_LINE_REFUSED_STEPS) && REFUSED(63), "refusals");
-static_assert(EVENT(ORDER_LINE_EVENT_NONE) && EVENT(ORDER_LINE_EVENT_ENDED) && EVENT(79), "events");
+static_assert(EVENT(ORDER_LINE_EVENT_NONE) && EVENT(ORDER_LINE_EVENT_WAIT) && EVENT(79), "events");
 static_assert(NEITHER(ORDER_LINE_GOING_ON) && NEITHER(ORDER_LINE_FINISHED) && NEITHER(ORDER_LINE_GAVE_UP), "rest");
 static_assert(NEITHER(ORDER_LINE_RETURN_0) && NEITHER(ORDER_LINE_RETURN_1), "return bit");
 static_assert(WORD(ORDER_LINE_PASSED) && WORD(ORDER_LINE_PASSED + 15) && WORD(ORDER_LINE_FAILED), "read");

@@ -42,7 +42,8 @@ static void open_marked_receiver(void)
 }
 static void receive(void)
 {
-    answer = order_line_receive(receiver, sizeof receiver, line, sizeof line, bits, store, sizeof store, &used, &length);
+    answer = order_line_receive(receiver, sizeof receiver, line, sizeof line, bits, true, store, sizeof store, &used,
+                                &length);
 }
 static void return_bit(void) { answer = order_line_return_bit(receiver, sizeof receiver); }
 static void write_tint(void)

@@ -89,6 +89,7 @@ static void machine_on_event(struct machine *machine, uint8_t event)
         return;
     case ORDER_LINE_EVENT_SYNC:     /* in step with the blocks from here on */
     case ORDER_LINE_EVENT_BAD:      /* the return bit asks for a repeat */
+    case ORDER_LINE_EVENT_WAIT:     /* so it does while a machine is busy, which this one never is */
     case ORDER_LINE_EVENT_ACCEPTED: /* one item more in the store; not to be used before the end */
     case ORDER_LINE_EVENT_PREVIOUS: /* a repeat of what is there already */
         break;
@@ -110,14 +111,14 @@ static void machine_on_event(struct machine *machine, uint8_t event)
 
 /*
  * The serial line's interrupt: up to eight bits, the earliest in the top bit. A block may end within them; a call stops
- * there, and the bits it left are lent again.
+ * there, and the bits it left are lent again. This machine is always ready.
  */
 static void machine_on_bits(struct machine *machine, uint8_t byte, size_t bits)
 {
     while (bits > 0 && machine->refusal == 0) {
         size_t used = 0;
-        uint8_t answer = order_line_receive(machine->state, ORDER_LINE_RECEIVER_BYTES, &byte, 1, bits, machine->store,
-                                            STORE_BYTES, &used, &machine->length);
+        uint8_t answer = order_line_receive(machine->state, ORDER_LINE_RECEIVER_BYTES, &byte, 1, bits, true,
+                                            machine->store, STORE_BYTES, &used, &machine->length);
 
         if (ORDER_LINE_IS_REFUSED(answer)) { /* with these buffers it means that the state's bytes were spoiled */
             machine->refusal = answer;

@@ -15,7 +15,7 @@
 #define BLOCK_BYTES ORDER_LINE_BLOCK_BYTES(3840) /* room for a block of any k */
 #define STORE_BYTES ORDER_LINE_STORE_BYTES(3840) /* room for any order at any k */
 
-#define EVENTS (ORDER_LINE_EVENT_ENDED - ORDER_LINE_EVENT_NONE + 1)
+#define EVENTS (ORDER_LINE_EVENT_WAIT - ORDER_LINE_EVENT_NONE + 1)
 
 /* The sending end. */
 struct office {

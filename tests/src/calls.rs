@@ -63,8 +63,15 @@ pub trait ReceivingEnd {
     /// 0 or the refusal's number. With a code size the session uses marks.
     fn open_receiver(&self, k: usize, code_size: Option<usize>, state: &mut [u8]) -> u8;
 
-    /// The event's number or the refusal's.
-    fn receive(&self, state: &mut [u8], line: Line, store: &mut [u8], counts: &mut Counts) -> u8;
+    /// The event's number or the refusal's. `ready` says whether the machine can take a block.
+    fn receive(
+        &self,
+        state: &mut [u8],
+        line: Line,
+        ready: bool,
+        store: &mut [u8],
+        counts: &mut Counts,
+    ) -> u8;
 
     /// The return bit's number, or the refusal's.
     fn return_bit(&self, state: &[u8]) -> u8;
@@ -159,9 +166,16 @@ impl ReceivingEnd for Reference {
         }
     }
 
-    fn receive(&self, state: &mut [u8], line: Line, store: &mut [u8], counts: &mut Counts) -> u8 {
+    fn receive(
+        &self,
+        state: &mut [u8],
+        line: Line,
+        ready: bool,
+        store: &mut [u8],
+        counts: &mut Counts,
+    ) -> u8 {
         interface::receive(state, counts, |receiver| {
-            receiver.receive(line.bytes, line.bits, store)
+            receiver.receive(line.bytes, line.bits, ready, store)
         })
     }
 
@@ -244,10 +258,17 @@ impl ReceivingEnd for TableDriven {
         Reference.open_receiver(k, code_size, state)
     }
 
-    fn receive(&self, state: &mut [u8], line: Line, store: &mut [u8], counts: &mut Counts) -> u8 {
+    fn receive(
+        &self,
+        state: &mut [u8],
+        line: Line,
+        ready: bool,
+        store: &mut [u8],
+        counts: &mut Counts,
+    ) -> u8 {
         interface::receive(state, counts, |receiver| {
             let receiver = table::receiver::Receiver::from(receiver);
-            let (receiver, received) = receiver.receive(line.bytes, line.bits, store);
+            let (receiver, received) = receiver.receive(line.bytes, line.bits, ready, store);
             (receiver.into(), received)
         })
     }

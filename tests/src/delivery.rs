@@ -23,7 +23,7 @@ pub enum Supposition {
     OnlySynchronising,
     /// Nor a synchronising block for data or end.
     NeverData,
-    /// Between two lost requests the machine reads at least one good block.
+    /// Between two lost requests the machine reads at least one good block; a waiting block is none.
     GoodBlock,
 }
 
@@ -51,6 +51,8 @@ pub struct Receiving<'a> {
     pub received: Received,
     pub bits: usize,
     pub line_bytes: usize,
+    /// Whether the machine is ready.
+    pub ready: bool,
     /// The store lent, as the call left it.
     pub store: &'a [u8],
 }
@@ -65,6 +67,8 @@ struct Period {
     used: usize,
     /// It brought a new block or the end.
     progress: bool,
+    /// Its block waits.
+    waits: bool,
 }
 
 /// A list of calls so far.
@@ -206,6 +210,7 @@ impl Delivery {
             passes: passes(call.arrives),
             used: 0,
             progress: false,
+            waits: false,
         }
     }
 
@@ -229,10 +234,11 @@ impl Delivery {
 
     fn refused_receiving(&self, call: &Receiving, number: u8) -> Result<(), Failure> {
         let next = self.k * (self.accepted + 1);
-        let short = 8 * call.line_bytes < call.bits || 8 * call.store.len() < next;
+        let short_store = call.ready && 8 * call.store.len() < next;
+        let short = 8 * call.line_bytes < call.bits || short_store;
         claim(
             number == SHORT && short,
-            "a receiving call is refused for a short slice alone",
+            "a receiving call is refused for a short slice alone, the store if the machine is ready",
         )
     }
 
@@ -247,6 +253,7 @@ impl Delivery {
         let last = period.used == n;
         let read = used > 0 && period.in_step && last;
         period.progress |= matches!(event, Event::Accepted | Event::Ended(_));
+        period.waits |= event == Event::Wait;
         if event == Event::Sync && !(period.synchronising && last) {
             self.broken = Some(Supposition::OnlySynchronising);
         }
@@ -254,11 +261,11 @@ impl Delivery {
         if period.synchronising && as_data_or_end && !self.alarmed {
             self.broken = Some(Supposition::NeverData);
         }
-        if read && !period.synchronising && period.passes {
+        if read && !period.synchronising && period.passes && !period.waits {
             self.good_since_loss = true;
         }
         if used > 0 && last {
-            let without_progress = period.undisturbed && !period.progress;
+            let without_progress = period.undisturbed && !period.waits && !period.progress;
             self.without_progress = if without_progress {
                 self.without_progress + 1
             } else {

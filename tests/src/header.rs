@@ -115,7 +115,7 @@ fn header_functions() -> Vec<Function> {
 #[test]
 fn the_header_and_the_wrapper_have_the_same_numbers() {
     let header = header_numbers();
-    assert_eq!(header.len(), 38);
+    assert_eq!(header.len(), 39);
     assert_eq!(header, constants("examples/rust/src/numbers.rs"));
 }
 

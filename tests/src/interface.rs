@@ -14,8 +14,8 @@ pub const MARKS_BYTES: usize = 2;
 pub const SENDER_BYTES: usize = HEAD_BYTES + MARKS_BYTES;
 pub const RECEIVER_BYTES: usize = HEAD_BYTES + HELD_BYTES + MARKS_BYTES;
 
-/// 3.1.0.
-pub const VERSION: u32 = 0x03_01_00;
+/// 4.0.0.
+pub const VERSION: u32 = 0x04_00_00;
 
 /// What `sender_rest` answers besides 7.
 pub const GOING_ON: u8 = 80;
@@ -33,8 +33,9 @@ pub const EVENT_BAD: u8 = 66;
 pub const EVENT_ACCEPTED: u8 = 67;
 pub const EVENT_PREVIOUS: u8 = 68;
 pub const EVENT_SEQUENCE_ALARM: u8 = 69;
-const EVENT_LENGTH_ALARM: u8 = 70;
-const EVENT_ENDED: u8 = 71;
+pub const EVENT_LENGTH_ALARM: u8 = 70;
+pub const EVENT_ENDED: u8 = 71;
+pub const EVENT_WAIT: u8 = 72;
 
 /// Answers of `read_block`; a passed one has its service bits added.
 const PASSED: u16 = 0x100;
@@ -221,6 +222,7 @@ fn event_number(event: Event) -> u8 {
         Event::SequenceAlarm => EVENT_SEQUENCE_ALARM,
         Event::LengthAlarm => EVENT_LENGTH_ALARM,
         Event::Ended(_) => EVENT_ENDED,
+        Event::Wait => EVENT_WAIT,
     }
 }
 
@@ -249,6 +251,7 @@ pub fn decode_received(number: u8, counts: Counts) -> Received {
         EVENT_SEQUENCE_ALARM => Event::SequenceAlarm,
         EVENT_LENGTH_ALARM => Event::LengthAlarm,
         EVENT_ENDED => Event::Ended(counts.length),
+        EVENT_WAIT => Event::Wait,
         refusal => return Received::Refused(refusal),
     };
     let used = counts.used;
@@ -333,7 +336,7 @@ mod tests {
         for answer in items.chain([Sent::Synchronising, Sent::Refused(8)]) {
             assert_eq!(decode_sent(encode_sent(answer)), answer);
         }
-        for number in EVENT_NONE..=EVENT_ENDED {
+        for number in EVENT_NONE..=EVENT_WAIT {
             let counts = Counts { used: 5, length: 9 };
             let Received::Reported { event, used: 5 } = decode_received(number, counts) else {
                 panic!("{number}");

@@ -126,7 +126,14 @@ impl ReceivingEnd for Library {
     }
 
     #[inline]
-    fn receive(&self, state: &mut [u8], line: Line, store: &mut [u8], counts: &mut Counts) -> u8 {
+    fn receive(
+        &self,
+        state: &mut [u8],
+        line: Line,
+        ready: bool,
+        store: &mut [u8],
+        counts: &mut Counts,
+    ) -> u8 {
         unsafe {
             c::order_line_receive(
                 state.as_mut_ptr(),
@@ -134,6 +141,7 @@ impl ReceivingEnd for Library {
                 line.bytes.as_ptr(),
                 line.bytes.len(),
                 line.bits,
+                ready,
                 store.as_mut_ptr(),
                 store.len(),
                 &mut counts.used,

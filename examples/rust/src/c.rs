@@ -76,6 +76,7 @@ unsafe extern "C" {
         line: *const u8,
         line_bytes: usize,
         bits: usize,
+        ready: bool,
         store: *mut u8,
         store_bytes: usize,
         used: *mut usize,

@@ -1,7 +1,7 @@
 //! The numbers of `include/order_line.h`, by its names without `ORDER_LINE_`. The order line's tests compare the two files.
 
-/// 3.1.0: major * 65536 + minor * 256 + patch.
-pub const VERSION: u32 = 0x030100;
+/// 4.0.0: major * 65536 + minor * 256 + patch.
+pub const VERSION: u32 = 0x040000;
 
 pub const REFUSED_BLOCK: u32 = 1;
 pub const REFUSED_SPEED: u32 = 2;
@@ -48,6 +48,7 @@ pub const EVENT_PREVIOUS: u8 = 68;
 pub const EVENT_SEQUENCE_ALARM: u8 = 69;
 pub const EVENT_LENGTH_ALARM: u8 = 70;
 pub const EVENT_ENDED: u8 = 71;
+pub const EVENT_WAIT: u8 = 72;
 
 pub const RETURN_0: u8 = 96;
 pub const RETURN_1: u8 = 97;

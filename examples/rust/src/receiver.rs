@@ -23,6 +23,8 @@ pub enum Event {
     LengthAlarm,
     /// The whole order is in the store; its length in bits.
     Ended(usize),
+    /// The machine is not ready for the next item or the end: nothing taken.
+    Wait,
 }
 
 /// The receiving end.
@@ -56,10 +58,17 @@ impl Receiver {
 
     /// Takes the first `bits` bits of `line`, up to the next event; the event, and the number of bits taken. The store is
     /// the same at each call; [`store_bytes`](crate::store_bytes) of them hold any order.
+    ///
+    /// `ready` says whether the machine can take a block now: false while it is busy. The call that brings a block's last
+    /// bit decides, whatever the calls before it said. If it is false there, a block that would be accepted, or the end
+    /// that would be reported, is [`Event::Wait`] instead: nothing is stored, nothing is taken, the return bit is 1, and
+    /// the store is not judged. The sender repeats a block that waits; if the machine stays busy, it gives up after 64
+    /// cancels.
     pub fn receive(
         &mut self,
         line: &[u8],
         bits: usize,
+        ready: bool,
         store: &mut [u8],
     ) -> Result<(Event, usize), Refusal> {
         let (mut used, mut length) = (0, 0);
@@ -70,6 +79,7 @@ impl Receiver {
                 line.as_ptr(),
                 line.len(),
                 bits,
+                ready,
                 store.as_mut_ptr(),
                 store.len(),
                 &mut used,
@@ -85,6 +95,7 @@ impl Receiver {
             EVENT_SEQUENCE_ALARM => Event::SequenceAlarm,
             EVENT_LENGTH_ALARM => Event::LengthAlarm,
             EVENT_ENDED => Event::Ended(length),
+            EVENT_WAIT => Event::Wait,
             refusal => return Err(Refusal::of(refusal.into())),
         };
         Ok((event, used))

@@ -37,6 +37,8 @@ const RECEIVING: [(&str, usize); 3] = [
     ("receive 64 bits", 64),
     ("receive 1 bit", 1),
 ];
+/// The machine is ready in every receiving call.
+const READY: bool = true;
 /// The least time of one round of one implementation.
 const ROUND_TIME: Duration = Duration::from_micros(400);
 
@@ -230,7 +232,7 @@ impl BenchReceiver for Library {
 
     fn receive(&self, state: &mut Self::State, line: Line, store: &mut [u8]) -> usize {
         let mut counts = Counts { used: 0, length: 0 };
-        let number = ReceivingEnd::receive(self, state, line, store, &mut counts);
+        let number = ReceivingEnd::receive(self, state, line, READY, store, &mut counts);
         assert!(is_event(number), "refused {number}");
         counts.used
     }
@@ -244,7 +246,7 @@ impl BenchReceiver for TableDriven {
     }
 
     fn receive(&self, state: &mut Self::State, line: Line, store: &mut [u8]) -> usize {
-        let (next, received) = state.receive(line.bytes, line.bits, store);
+        let (next, received) = state.receive(line.bytes, line.bits, READY, store);
         *state = next;
         used(received)
     }
@@ -258,7 +260,7 @@ impl BenchReceiver for InPlace {
     }
 
     fn receive(&self, state: &mut Self::State, line: Line, store: &mut [u8]) -> usize {
-        used(state.receive_in_place(line.bytes, line.bits, store))
+        used(state.receive_in_place(line.bytes, line.bits, READY, store))
     }
 }
 
@@ -270,7 +272,7 @@ impl BenchReceiver for Reference {
     }
 
     fn receive(&self, state: &mut Receiver, line: Line, store: &mut [u8]) -> usize {
-        let (next, received) = state.clone().receive(line.bytes, line.bits, store);
+        let (next, received) = state.clone().receive(line.bytes, line.bits, READY, store);
         *state = next;
         used(received)
     }

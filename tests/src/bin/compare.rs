@@ -5,8 +5,8 @@
 //! library built, for `crc_hqx.py`. The last line is the verdict in words; a failure is one line
 //! that says what is wrong, and the case where there is one.
 
-use order_line_tests::comparison::{block, both_ends, idle, loop_time, marks, receiver, sender};
-use order_line_tests::comparison::{same, session, tint, two_orders, Difference, Tally};
+use order_line_tests::comparison::{block, both_ends, busy, idle, loop_time, marks, receiver};
+use order_line_tests::comparison::{same, sender, session, tint, two_orders, Difference, Tally};
 use order_line_tests::interface::VERSION;
 use order_line_tests::link::{self, Library};
 use order_line_tests::program::Program;
@@ -26,7 +26,7 @@ const BLOCKS_WRITTEN: usize = 800;
 /// A group's name and the run of all its cases.
 type Group = (&'static str, fn() -> Result<Tally, Difference>);
 
-const GROUPS: [Group; 9] = [
+const GROUPS: [Group; 10] = [
     ("loop_time", || loop_time::compare(&Library)),
     ("block", || block::compare(&Library, SEED, BLOCK_CASES)),
     ("sender", || {
@@ -38,6 +38,7 @@ const GROUPS: [Group; 9] = [
     ("both_ends", || {
         both_ends::compare(&Library, &Library, SEED, SESSIONS)
     }),
+    ("busy", || busy::compare(&Library, &Library)),
     ("two_orders", || two_orders::compare(&Library, &Library)),
     ("idle", || idle::compare(&Library, &Library)),
     ("marks", || marks::compare(&Library, &Library)),

@@ -2,7 +2,7 @@
 //! counts the library's periods too.
 
 use order_line_tests::calls::Reference;
-use order_line_tests::give_up::{from_opening, in_mid_session, seconds};
+use order_line_tests::give_up::{from_opening, in_mid_session, on_a_busy_machine, seconds};
 use order_line_tests::reference::block::LENGTHS;
 use order_line_tests::reference::loop_time::SPEEDS;
 
@@ -13,6 +13,10 @@ fn main() {
     print_table(|k| from_opening(&Reference, k));
     println!("\nEvery reading is 1 from some block in mid-session on:\n");
     print_table(|k| in_mid_session(&Reference, k));
+    println!("\nThe machine is never ready; from its first wait, at item 0, on:\n");
+    print_table(|k| on_a_busy_machine(&Reference, k, 0).from_wait);
+    println!("\nThe machine takes item 0 and is never ready again; from its first wait, at item 1, on:\n");
+    print_table(|k| on_a_busy_machine(&Reference, k, 1).from_wait);
     #[cfg(feature = "linked")]
     count_library();
 }
@@ -33,10 +37,15 @@ fn print_table(periods: impl Fn(usize) -> usize) {
 
 #[cfg(feature = "linked")]
 fn count_library() {
+    use order_line_tests::give_up::ITEMS;
     use order_line_tests::link::Library;
     for k in LENGTHS {
         assert_eq!(from_opening(&Library, k), from_opening(&Reference, k));
         assert_eq!(in_mid_session(&Library, k), in_mid_session(&Reference, k));
+        for taken in 0..=ITEMS {
+            let periods = on_a_busy_machine(&Library, k, taken);
+            assert_eq!(periods, on_a_busy_machine(&Reference, k, taken));
+        }
     }
     println!("\nThe library takes as many periods.");
 }

@@ -34,10 +34,7 @@ where
     T: LoopTimes + Blocks + SendingEnd + ReceivingEnd + Tints,
 {
     let mut input = Input { bytes };
-    let ends = Lockstep {
-        sending: tested,
-        receiving: tested,
-    };
+    let ends = Lockstep::new(tested, tested);
     let call = input.byte();
     if call >= TINT_ORDERS {
         return tint::calls(tested, &mut input, tally);
@@ -121,7 +118,8 @@ fn sent_name(sent: Sent) -> &'static str {
     }
 }
 
-/// A receiver, opened or out of the bytes, and calls on it with the line cut anywhere.
+/// A receiver, opened or out of the bytes, and calls on it with the line cut anywhere, the machine
+/// ready or not.
 fn receive<S, R: ReceivingEnd>(
     ends: &Lockstep<S, R>,
     input: &mut Input,
@@ -130,14 +128,7 @@ fn receive<S, R: ReceivingEnd>(
     let bytes = input.receiver();
     let mut state = BufferPair::new(GuardedBuffer::around(&mut Rng::new(3), &bytes));
     if input.byte().is_multiple_of(4) {
-        let (k, code_size) = (input.length(), input.code_size());
-        let answer = ends.open_receiver(k, code_size, &mut state)?;
-        tally.count(match (answer, code_size) {
-            (0, None) => "receiver opened",
-            (0, Some(_)) => "receiver opened with marks",
-            (CODE_SIZE, _) => "code size refused",
-            _ => "receiver not opened",
-        });
+        open_receiver(ends, input, &mut state, tally)?;
     }
     ends.return_bit(&state)?;
     let mut pending = Bits::new();
@@ -151,9 +142,9 @@ fn receive<S, R: ReceivingEnd>(
         let bits = input.bits(pending.len());
         let mut line = pack(&pending);
         line.resize(input.near(line.len()), 0xA5);
-        let lent = input.near(whole);
+        let (ready, lent) = input.readiness(whole);
         let mut store = BufferPair::new(GuardedBuffer::filled(input.byte(), lent.max(whole)));
-        let received = ends.receive(&mut state, &line, bits, &mut store, lent)?;
+        let received = ends.receive(&mut state, &line, bits, ready, &mut store, lent)?;
         if let Received::Reported { used, .. } = received {
             pending.drain(..used.min(pending.len()));
         }
@@ -162,6 +153,24 @@ fn receive<S, R: ReceivingEnd>(
             break;
         }
     }
+    ends.add_waits(tally);
+    Ok(())
+}
+
+fn open_receiver<S, R: ReceivingEnd>(
+    ends: &Lockstep<S, R>,
+    input: &mut Input,
+    state: &mut BufferPair,
+    tally: &mut Tally,
+) -> Result<(), Difference> {
+    let (k, code_size) = (input.length(), input.code_size());
+    let answer = ends.open_receiver(k, code_size, state)?;
+    tally.count(match (answer, code_size) {
+        (0, None) => "receiver opened",
+        (0, Some(_)) => "receiver opened with marks",
+        (CODE_SIZE, _) => "code size refused",
+        _ => "receiver not opened",
+    });
     Ok(())
 }
 
@@ -235,6 +244,15 @@ impl Input<'_> {
     fn lent(&mut self, wanted: usize) -> Vec<u8> {
         let count = self.near(wanted);
         self.pattern(count)
+    }
+
+    /// Whether the machine is ready, and the bytes of store to lend where this many are wanted.
+    fn readiness(&mut self, wanted: usize) -> (bool, usize) {
+        match self.byte() % 4 {
+            0 | 1 => (true, self.near(wanted)),
+            2 => (false, self.near(wanted)),
+            _ => (false, wanted / 2),
+        }
     }
 
     /// A number of line bits to lend, of so many that are there.
@@ -431,6 +449,7 @@ impl Input<'_> {
 
 #[cfg(test)]
 mod tests {
+    use super::super::lockstep::WAIT_WITHOUT_ROOM;
     use super::super::tint::ANSWERS;
     use super::super::EVENTS;
     use super::*;
@@ -467,6 +486,7 @@ mod tests {
             "refused 6",
             "refused 7",
             "refused 8",
+            WAIT_WITHOUT_ROOM,
         ];
         tally.assert_above(20, &kinds);
         tally.assert_above(20, &ANSWERS);

@@ -1,12 +1,13 @@
-//! Random sessions of both ends over a line with errors, with marks and without. Along those that
-//! meet the suppositions of demand 3, its claims are checked too.
+//! Random sessions of both ends over a line with errors, with marks and without, the machine ready or
+//! busy. Along those that meet the suppositions of demand 3, its claims are checked too.
 
 use super::channel::{ChannelModel, ErrorRates};
 use super::lockstep::{BufferPair, Lockstep};
 use super::marks::CodeSizes;
 use super::orders::Order;
+use super::readiness::Readiness;
 use super::sender::refusal_name;
-use super::{spoil, Difference, GuardedBuffer, Tally};
+use super::{same, spoil, Difference, GuardedBuffer, Tally};
 use crate::calls::{Opening, ReceivingEnd, SendingEnd};
 use crate::damage::{invert, Damage, ADMITTED_KINDS, OTHER_KINDS};
 use crate::delivery::{Delivery, Receiving, Sending};
@@ -25,7 +26,7 @@ pub fn compare<S: SendingEnd, R: ReceivingEnd>(
     seed: u64,
     sessions: usize,
 ) -> Result<Tally, Difference> {
-    let ends = Lockstep { sending, receiving };
+    let ends = Lockstep::new(sending, receiving);
     let mut tally = Tally::default();
     for number in 0..sessions {
         let mut rng = Rng::for_case(seed, number);
@@ -37,7 +38,7 @@ pub fn compare<S: SendingEnd, R: ReceivingEnd>(
         let run = session.and_then(|mut session| session.run());
         run.map_err(|difference| format!("session {number}: {difference}"))?;
     }
-    Ok(tally)
+    ends.with_waits(tally)
 }
 
 pub struct Session<'a, S, R> {
@@ -54,6 +55,7 @@ pub struct Session<'a, S, R> {
     delivery: Option<Delivery>,
     channel: ChannelModel,
     rates: ErrorRates,
+    readiness: Readiness,
 }
 
 impl<'a, S: SendingEnd, R: ReceivingEnd> Session<'a, S, R> {
@@ -75,6 +77,7 @@ impl<'a, S: SendingEnd, R: ReceivingEnd> Session<'a, S, R> {
         let store = BufferPair::random(&mut rng, order.items() * order.k / 8 + further);
         let channel = ChannelModel::random(&mut rng);
         let rates = channel.rates(&mut rng);
+        let readiness = Readiness::random(&mut rng);
         let mut session = Session {
             ends,
             rng,
@@ -87,6 +90,7 @@ impl<'a, S: SendingEnd, R: ReceivingEnd> Session<'a, S, R> {
             delivery: None,
             channel,
             rates,
+            readiness,
         };
         if sizes.are_alike() {
             session.delivery = Some(session.new_delivery());
@@ -100,11 +104,15 @@ impl<'a, S: SendingEnd, R: ReceivingEnd> Session<'a, S, R> {
     }
 
     pub fn run(&mut self) -> Result<(), Difference> {
-        let may_give_up = self.channel.stuck_at_1 || self.delivery.is_none();
+        let never_ready = self.readiness.is_never();
+        let may_give_up = self.channel.stuck_at_1 || never_ready || self.delivery.is_none();
         let most = 3 * self.order.items() + if may_give_up { 400 } else { 40 };
         for _ in 0..self.rng.between(most / 4, most) {
             if self.rng.chance(4) {
                 self.rates = self.channel.rates(&mut self.rng);
+            }
+            if self.rng.chance(4) {
+                self.readiness.change(&mut self.rng);
             }
             self.extra_call()?;
             let over = self.sender().rests() || self.receiver().alarm.is_some();
@@ -114,6 +122,24 @@ impl<'a, S: SendingEnd, R: ReceivingEnd> Session<'a, S, R> {
             self.period()?;
         }
         self.count_session();
+        match never_ready {
+            true => self.nothing_is_taken(),
+            false => Ok(()),
+        }
+    }
+
+    /// Of a machine that is never ready. That the store is as first lent, and that no alarm stands
+    /// unless a request was lost, is claimed along the session.
+    fn nothing_is_taken(&mut self) -> Result<(), Difference> {
+        let Receiver {
+            taken, end_taken, ..
+        } = self.receiver();
+        let case = || String::from("a machine that is never ready");
+        same(&case, &(0, false), &(taken, end_taken))?;
+        self.tally.count(match self.sender().gave_up() {
+            true => "never ready, gave up",
+            false => "never ready, broken off",
+        });
         Ok(())
     }
 
@@ -259,28 +285,27 @@ impl<'a, S: SendingEnd, R: ReceivingEnd> Session<'a, S, R> {
         let line = self.line(bits);
         let lent = self.store.slice().len();
         let alarm_stood = self.receiver().alarm.is_some();
-        let received =
-            self.ends
-                .receive(&mut self.receiver, &line, bits.len(), &mut self.store, lent)?;
+        let ready = self.readiness.next(&mut self.rng);
+        let received = self.ends.receive(
+            &mut self.receiver,
+            &line,
+            bits.len(),
+            ready,
+            &mut self.store,
+            lent,
+        )?;
         if let Some(delivery) = &mut self.delivery {
             delivery.after_receiving(&Receiving {
                 received,
                 bits: bits.len(),
                 line_bytes: line.len(),
+                ready,
                 store: self.store.slice(),
             })?;
         }
         match received {
             Received::Reported { event, used } => {
-                if let Event::Ended(length) = event {
-                    self.ended = Some(length);
-                }
-                let kind = if alarm_stood {
-                    "alarm again"
-                } else {
-                    event.name()
-                };
-                self.tally.count(kind);
+                self.count_event(event, alarm_stood);
                 Ok(used)
             }
             // Only where demand 3 claims nothing: an item that the store has no room for.
@@ -289,6 +314,16 @@ impl<'a, S: SendingEnd, R: ReceivingEnd> Session<'a, S, R> {
                 Ok(bits.len())
             }
         }
+    }
+
+    fn count_event(&mut self, event: Event, alarm_stood: bool) {
+        if let Event::Ended(length) = event {
+            self.ended = Some(length);
+        }
+        self.tally.count(match alarm_stood {
+            true => "alarm again",
+            false => event.name(),
+        });
     }
 
     /// The bits packed, with random bits and bytes behind them.
@@ -326,7 +361,8 @@ impl<'a, S: SendingEnd, R: ReceivingEnd> Session<'a, S, R> {
         self.send(order, bytes, reading).map(|_| ())
     }
 
-    /// The line is shorter than its number of bits, or the store too short for the next item.
+    /// The line is shorter than its number of bits, or the store too short for the next item, which
+    /// may wait.
     fn short_receiving(&mut self) -> Result<(), Difference> {
         let Receiver {
             k, taken, marks, ..
@@ -337,9 +373,10 @@ impl<'a, S: SendingEnd, R: ReceivingEnd> Session<'a, S, R> {
         }
         let (mut state, mut store) = (self.receiver.clone(), self.store.clone());
         let lent = ((taken + 1) * k / 8 - 1).min(store.slice().len());
-        let received = self
-            .ends
-            .receive(&mut state, &line, block_bits(k), &mut store, lent)?;
+        let ready = self.rng.bit();
+        let received =
+            self.ends
+                .receive(&mut state, &line, block_bits(k), ready, &mut store, lent)?;
         let Received::Refused(number) = received else {
             return Ok(());
         };
@@ -350,6 +387,7 @@ impl<'a, S: SendingEnd, R: ReceivingEnd> Session<'a, S, R> {
                 received,
                 bits: block_bits(k),
                 line_bytes: line.len(),
+                ready,
                 store: &store.slice()[..lent],
             }),
         }
@@ -375,9 +413,10 @@ impl<'a, S: SendingEnd, R: ReceivingEnd> Session<'a, S, R> {
         let bits = self.rng.below(721);
         let mut store = self.store.clone();
         let lent = store.slice().len();
+        let ready = self.rng.bit();
         let received = self
             .ends
-            .receive(&mut state, &line, bits, &mut store, lent)?;
+            .receive(&mut state, &line, bits, ready, &mut store, lent)?;
         if let Received::Refused(number) = received {
             self.tally.count(refusal_name(number));
         }
@@ -443,6 +482,7 @@ fn count_delivery(delivery: &Delivery, names: &Names, tally: &mut Tally) {
 
 #[cfg(test)]
 mod tests {
+    use super::super::lockstep::WAIT_WITHOUT_ROOM;
     use super::super::{agreed, EVENTS};
     use super::*;
     use crate::calls::{Reference, TableDriven};
@@ -457,6 +497,8 @@ mod tests {
             "sessions not opened alike",
             "refused 6",
             "refused 7",
+            "never ready, gave up",
+            WAIT_WITHOUT_ROOM,
         ];
         tally.assert_above(20, &kinds);
         tally.assert_above(20, &WITHOUT_MARKS);

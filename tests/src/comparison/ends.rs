@@ -11,8 +11,9 @@ use crate::calls::{Opening, ReceivingEnd, SendingEnd};
 use crate::interface::{load_receiver, load_sender, RECEIVER_BYTES, SENDER_BYTES};
 use crate::reference::bits::{pack, unpack, Bits};
 use crate::reference::block::{block_bits, block_bytes};
-use crate::reference::receiver::{Received, Receiver};
+use crate::reference::receiver::{Event, Received, Receiver};
 use crate::reference::sender::{Sender, Sent};
+use crate::rng::Rng;
 
 /// What the store's bytes are before anything is stored.
 const EMPTY: u8 = 0xEE;
@@ -73,6 +74,7 @@ pub enum Period {
 
 pub struct Ends<'a, S, R> {
     calls: &'a Lockstep<'a, S, R>,
+    rng: Rng,
     pub k: usize,
     /// The office is the sender, the machine the receiver.
     sizes: CodeSizes,
@@ -80,6 +82,8 @@ pub struct Ends<'a, S, R> {
     sender: BufferPair,
     receiver: BufferPair,
     store: BufferPair,
+    /// The machine is not ready. If it is, calls are tried as busy ones first, at random.
+    pub busy: bool,
     /// All but *none*; an alarm that stands once.
     events: Vec<&'static str>,
 }
@@ -94,12 +98,14 @@ impl<'a, S: SendingEnd, R: ReceivingEnd> Ends<'a, S, R> {
         let bytes = |length| BufferPair::new(GuardedBuffer::filled(EMPTY, length));
         let mut ends = Ends {
             calls,
+            rng: Rng::new(k as u64),
             k,
             sizes,
             order: Vec::new(),
             sender: bytes(SENDER_BYTES),
             receiver: bytes(RECEIVER_BYTES),
             store: bytes(STORE_ITEMS * k / 8),
+            busy: false,
             events: Vec::new(),
         };
         ends.open_machine()?;
@@ -172,24 +178,43 @@ impl<'a, S: SendingEnd, R: ReceivingEnd> Ends<'a, S, R> {
         Ok(())
     }
 
-    /// One receiving call; the number of bits used.
+    /// One receiving call; the number of bits used. A block that waits where the machine was only
+    /// tried as busy is lent again, to the machine as it was.
     pub fn receive(&mut self, bits: &[bool]) -> Result<usize, Difference> {
-        let lent = self.store.slice().len();
         let stood = self.receiver().alarm.is_some();
+        let before = (self.receiver.clone(), self.store.clone());
+        let ready = !self.busy && self.rng.bit();
+        let (mut event, mut used) = self.call(bits, ready)?;
+        if event == Event::Wait && !self.busy {
+            (self.receiver, self.store) = before;
+            (event, used) = self.call(bits, true)?;
+        }
+        if !stood && event != Event::None {
+            self.events.push(event.name());
+        }
+        Ok(used)
+    }
+
+    /// One receiving call with the whole store or, if the machine is busy, with any part of it.
+    fn call(&mut self, bits: &[bool], ready: bool) -> Result<(Event, usize), Difference> {
+        let whole = self.store.slice().len();
+        let short = (self.receiver().taken + 1) * self.k / 8 - 1;
+        let lent = match ready {
+            true => whole,
+            false => self.rng.pick(&[whole, short.min(whole), 0]),
+        };
         let received = self.calls.receive(
             &mut self.receiver,
             &pack(bits),
             bits.len(),
+            ready,
             &mut self.store,
             lent,
         )?;
-        let Received::Reported { event, used } = received else {
-            panic!("{received:?}");
-        };
-        if !stood && event.name() != "none" {
-            self.events.push(event.name());
+        match received {
+            Received::Reported { event, used } => Ok((event, used)),
+            Received::Refused(_) => panic!("{received:?}"),
         }
-        Ok(used)
     }
 
     /// Undisturbed periods until this event has come.

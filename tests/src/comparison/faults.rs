@@ -1,9 +1,10 @@
 //! That the groups find faults: the second implementation with one fault at a time.
 
+mod busy;
 mod marks;
 mod tint;
 
-use super::{any_bytes, receiver, sender, Tally};
+use super::{any_bytes, both_ends, receiver, sender, Tally};
 use crate::calls::{Blocks, Line, LoopTimes, Opening, ReceivingEnd, Reference, SendingEnd, Tints};
 use crate::interface::{decode_sent, is_event, Counts, EVENT_ACCEPTED, EVENT_NONE};
 use crate::interface::{FINISHED, GAVE_UP, MARKS_BYTES, RECEIVER_BYTES, SENDER_BYTES};
@@ -11,7 +12,9 @@ use crate::reference::block::Read;
 use crate::reference::refusal::SHORT;
 use crate::reference::sender::Sent;
 use crate::rng::Rng;
+use busy::{BusyFault, OfBusy, BUSY_FAULTS};
 use marks::OfMarks;
+use std::cell::Cell;
 use tint::{OfTints, TintFault, TINT_FAULTS};
 
 #[derive(Clone, Copy, Debug, PartialEq, Eq)]
@@ -51,6 +54,8 @@ enum Fault {
     MarkAfterEnd,
     /// Only the mark of the receiver's own code size is taken.
     OwnMarkAlone,
+    /// One of a machine that is not ready.
+    Busy(BusyFault),
     /// One of a tint call.
     Tint(TintFault),
 }
@@ -76,10 +81,15 @@ const FAULTS_OF_A_RECEIVER: [Fault; 6] = [
     Fault::OwnMarkAlone,
 ];
 
-/// The second implementation with this fault.
-struct Faulty(Fault);
+/// The second implementation with this fault, and whether the machine was ready in the call that
+/// began the latest block.
+struct Faulty(Fault, Cell<bool>);
 
 impl Faulty {
+    fn with(fault: Fault) -> Faulty {
+        Faulty(fault, Cell::new(true))
+    }
+
     fn spoil_state(&self, refused: bool, size: usize, state: &mut [u8]) {
         match self.0 {
             Fault::RefusedState if refused && !state.is_empty() => state[0] ^= 1,
@@ -157,14 +167,24 @@ impl ReceivingEnd for Faulty {
         OfMarks(self.0).open_receiver(k, code_size, state)
     }
 
-    fn receive(&self, state: &mut [u8], line: Line, store: &mut [u8], counts: &mut Counts) -> u8 {
+    fn receive(
+        &self,
+        state: &mut [u8],
+        line: Line,
+        ready: bool,
+        store: &mut [u8],
+        counts: &mut Counts,
+    ) -> u8 {
         if self.0 == Fault::ShortState && state.len() < RECEIVER_BYTES {
             return SHORT;
         }
         self.limit_flags(&[13, 14, RECEIVER_BYTES - MARKS_BYTES], state);
         let searching = state.get(15) == Some(&0);
         let return_bit = state.get(13).copied();
-        let number = OfMarks(self.0).receive(state, line, store, counts);
+        let number = match self.0 {
+            Fault::Busy(fault) => OfBusy(fault, &self.1).receive(state, line, ready, store, counts),
+            fault => OfMarks(fault).receive(state, line, ready, store, counts),
+        };
         let refused = !is_event(number);
         self.spoil_state(refused, RECEIVER_BYTES, state);
         self.spoil_data(number != EVENT_ACCEPTED, store);
@@ -197,28 +217,39 @@ impl Tints for Faulty {
 #[test]
 fn faults_of_a_sender_are_found() {
     for fault in FAULTS_OF_EITHER_END.into_iter().chain(FAULTS_OF_A_SENDER) {
-        let compared = sender::compare(&Faulty(fault), 5, 2_000);
+        let compared = sender::compare(&Faulty::with(fault), 5, 2_000);
         assert!(compared.is_err(), "{fault:?}");
     }
-    assert!(sender::compare(&Faulty(Fault::None), 5, 200).is_ok());
+    assert!(sender::compare(&Faulty::with(Fault::None), 5, 200).is_ok());
 }
 
 #[test]
 fn faults_of_a_receiver_are_found() {
     for fault in FAULTS_OF_EITHER_END.into_iter().chain(FAULTS_OF_A_RECEIVER) {
-        let compared = receiver::compare(&Faulty(fault), 8, 5_000);
+        let compared = receiver::compare(&Faulty::with(fault), 8, 5_000);
         assert!(compared.is_err(), "{fault:?}");
     }
-    assert!(receiver::compare(&Faulty(Fault::None), 8, 500).is_ok());
+    assert!(receiver::compare(&Faulty::with(Fault::None), 8, 500).is_ok());
+}
+
+#[test]
+fn faults_of_a_busy_machine_are_found() {
+    for fault in BUSY_FAULTS.map(Fault::Busy) {
+        let compared = receiver::compare(&Faulty::with(fault), 8, 5_000);
+        assert!(compared.is_err(), "{fault:?}");
+        let compared = both_ends::compare(&Reference, &Faulty::with(fault), 6, 500);
+        assert!(compared.is_err(), "{fault:?} in sessions");
+    }
+    assert!(both_ends::compare(&Reference, &Faulty::with(Fault::None), 6, 100).is_ok());
 }
 
 #[test]
 fn faults_of_tint_calls_are_found() {
     for fault in TINT_FAULTS {
-        let compared = super::tint::compare(&Faulty(Fault::Tint(fault)), 17, 20, 0);
+        let compared = super::tint::compare(&Faulty::with(Fault::Tint(fault)), 17, 20, 0);
         assert!(compared.is_err(), "{fault:?}");
     }
-    assert!(super::tint::compare(&Faulty(Fault::None), 17, 20, 20).is_ok());
+    assert!(super::tint::compare(&Faulty::with(Fault::None), 17, 20, 20).is_ok());
 }
 
 /// Random bytes are what the fuzzer begins with.
@@ -227,11 +258,12 @@ fn faults_are_found_by_random_bytes() {
     let found = |fault, cases| {
         (0..cases).any(|case| {
             let bytes = Rng::for_case(14, case).bytes(400);
-            any_bytes::compare(&Faulty(fault), &bytes, &mut Tally::default()).is_err()
+            any_bytes::compare(&Faulty::with(fault), &bytes, &mut Tally::default()).is_err()
         })
     };
     let of_one_end = FAULTS_OF_A_SENDER.into_iter().chain(FAULTS_OF_A_RECEIVER);
     let of_the_ends = FAULTS_OF_EITHER_END.into_iter().chain(of_one_end);
+    let of_the_ends = of_the_ends.chain(BUSY_FAULTS.map(Fault::Busy));
     for fault in of_the_ends.chain(TINT_FAULTS.map(Fault::Tint)) {
         assert!(found(fault, 20_000), "{fault:?}");
     }

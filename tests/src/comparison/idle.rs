@@ -54,7 +54,7 @@ pub fn compare<S: SendingEnd, R: ReceivingEnd>(
     sending: &S,
     receiving: &R,
 ) -> Result<Tally, Difference> {
-    let calls = Lockstep { sending, receiving };
+    let calls = Lockstep::new(sending, receiving);
     let mut tally = Tally::default();
     let idle_cases: [(&str, IdleCase<S, R>); 7] = [
         ("search finds nothing", Ends::idle_in_search),
@@ -84,7 +84,7 @@ pub fn compare<S: SendingEnd, R: ReceivingEnd>(
         }
         run_cases(&calls, k, sizes, &cases, &mut tally)?;
     }
-    Ok(tally)
+    calls.with_waits(tally)
 }
 
 impl<S: SendingEnd, R: ReceivingEnd> Ends<'_, S, R> {

@@ -1,12 +1,18 @@
 //! Both implementations call by call: every answer and every lent byte, those of the states too,
 //! of one is compared with that of the other.
 
-use super::{hex, same, Difference, GuardedBuffer};
+use super::{hex, same, Difference, GuardedBuffer, Tally};
 use crate::calls::{Line, Opening, ReceivingEnd, Reference, SendingEnd};
 use crate::interface::{decode_received, decode_sent, Counts};
-use crate::reference::receiver::Received;
+use crate::reference::receiver::{Event, Received};
+use crate::reference::refusal::SHORT;
 use crate::reference::sender::Sent;
 use crate::rng::Rng;
+use std::cell::RefCell;
+
+/// The names under which waiting blocks are counted.
+const WAIT_WITH_ROOM: &str = "wait with room in the store";
+pub const WAIT_WITHOUT_ROOM: &str = "wait with too short a store";
 
 /// The same bytes, lent to both.
 #[derive(Clone)]
@@ -66,8 +72,34 @@ fn same_opening(
 
 /// The tested sending and receiving ends, beside the second implementation's.
 pub struct Lockstep<'a, S, R> {
-    pub sending: &'a S,
-    pub receiving: &'a R,
+    sending: &'a S,
+    receiving: &'a R,
+    waits: RefCell<Tally>,
+}
+
+impl<'a, S, R> Lockstep<'a, S, R> {
+    pub fn new(sending: &'a S, receiving: &'a R) -> Lockstep<'a, S, R> {
+        Lockstep {
+            sending,
+            receiving,
+            waits: RefCell::default(),
+        }
+    }
+
+    /// Adds the waiting blocks to what was counted.
+    pub fn add_waits(&self, tally: &mut Tally) {
+        tally.add(&self.waits.borrow());
+    }
+
+    /// What a group counted, with the waiting blocks. A group in which none waited with too short a
+    /// store has not tried that the store is not judged.
+    pub fn with_waits(&self, mut tally: Tally) -> Result<Tally, Difference> {
+        self.add_waits(&mut tally);
+        match tally.number_of(WAIT_WITHOUT_ROOM) {
+            0 => Err(format!("untried: {WAIT_WITHOUT_ROOM}")),
+            _ => Ok(tally),
+        }
+    }
 }
 
 impl<S: SendingEnd, R> Lockstep<'_, S, R> {
@@ -154,15 +186,37 @@ impl<S, R: ReceivingEnd> Lockstep<'_, S, R> {
         state: &mut BufferPair,
         line: &[u8],
         bits: usize,
+        ready: bool,
         store: &mut BufferPair,
         lent: usize,
     ) -> Result<Received, Difference> {
         let before = state.clone();
-        let case = || {
-            let (state, line) = (hex(before.slice()), hex(line));
-            format!("receive: {state}, {bits} bits, line {line}, store of {lent} bytes")
-        };
         let line = Line { bytes: line, bits };
+        let received = self.receive_alike(&before, state, line, ready, store, lent)?;
+        if matches!(received, Received::Reported { event, .. } if event == Event::Wait) {
+            self.count_wait(&before, line, &store.slice()[..lent]);
+        }
+        self.return_bit(state)?;
+        Ok(received)
+    }
+
+    /// The call by both, on a state that was so before it.
+    fn receive_alike(
+        &self,
+        before: &BufferPair,
+        state: &mut BufferPair,
+        line: Line,
+        ready: bool,
+        store: &mut BufferPair,
+        lent: usize,
+    ) -> Result<Received, Difference> {
+        let bits = line.bits;
+        let case = || {
+            let (state, line) = (hex(before.slice()), hex(line.bytes));
+            format!(
+                "receive: {state}, {bits} bits, ready {ready}, line {line}, {lent} bytes of store"
+            )
+        };
         let unwritten = Counts {
             used: !bits,
             length: !lent,
@@ -170,20 +224,32 @@ impl<S, R: ReceivingEnd> Lockstep<'_, S, R> {
         let (mut expected_counts, mut counts) = (unwritten, unwritten);
         let (bytes, place) = (state.expected.slice_mut(), store.expected.slice_mut());
         let place = &mut place[..lent];
-        let expected = Reference.receive(bytes, line, place, &mut expected_counts);
+        let expected = Reference.receive(bytes, line, ready, place, &mut expected_counts);
         let (bytes, place) = (state.got.slice_mut(), store.got.slice_mut());
         let place = &mut place[..lent];
-        let got = self.receiving.receive(bytes, line, place, &mut counts);
+        let got = self
+            .receiving
+            .receive(bytes, line, ready, place, &mut counts);
         same(&case, &(expected, expected_counts), &(got, counts))?;
         state.same(&case)?;
         store.same(&case)?;
         let received = decode_received(got, counts);
         if let Received::Refused(_) = received {
-            state.unchanged(&before, &case)?;
+            state.unchanged(before, &case)?;
             same(&case, &unwritten, &counts)?;
         }
-        self.return_bit(state)?;
         Ok(received)
+    }
+
+    /// By whether the call would be refused for its store if the machine were ready.
+    fn count_wait(&self, before: &BufferPair, line: Line, store: &[u8]) {
+        let (mut state, mut store) = (before.slice().to_vec(), store.to_vec());
+        let mut counts = Counts { used: 0, length: 0 };
+        let answer = Reference.receive(&mut state, line, true, &mut store, &mut counts);
+        self.waits.borrow_mut().count(match answer {
+            SHORT => WAIT_WITHOUT_ROOM,
+            _ => WAIT_WITH_ROOM,
+        });
     }
 
     /// The return bit.
@@ -191,5 +257,19 @@ impl<S, R: ReceivingEnd> Lockstep<'_, S, R> {
         let case = || format!("return bit: {}", hex(state.slice()));
         let expected = Reference.return_bit(state.slice());
         same(&case, &expected, &self.receiving.return_bit(state.slice()))
+    }
+}
+
+#[cfg(test)]
+mod tests {
+    use super::*;
+
+    #[test]
+    fn a_group_in_which_no_block_waited_without_room_fails() {
+        let ends = Lockstep::new(&(), &Reference);
+        assert!(ends.with_waits(Tally::default()).is_err());
+        let mut tally = Tally::default();
+        tally.count(WAIT_WITHOUT_ROOM);
+        assert!(ends.with_waits(tally).is_ok());
     }
 }

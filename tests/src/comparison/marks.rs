@@ -71,7 +71,7 @@ pub fn compare<S: SendingEnd, R: ReceivingEnd>(
     sending: &S,
     receiving: &R,
 ) -> Result<Tally, Difference> {
-    let calls = Lockstep { sending, receiving };
+    let calls = Lockstep::new(sending, receiving);
     let mut tally = Tally::default();
     let alike = cases![
         at_both_ends_the_order_arrives,
@@ -94,7 +94,7 @@ pub fn compare<S: SendingEnd, R: ReceivingEnd>(
             run(k, None, size, &machine)?;
         }
     }
-    Ok(tally)
+    calls.with_waits(tally)
 }
 
 impl<S: SendingEnd, R: ReceivingEnd> Ends<'_, S, R> {

@@ -6,6 +6,7 @@
 pub mod any_bytes;
 pub mod block;
 pub mod both_ends;
+pub mod busy;
 mod channel;
 mod ends;
 pub mod idle;
@@ -14,6 +15,7 @@ pub mod loop_time;
 pub mod marks;
 mod openings;
 pub mod orders;
+mod readiness;
 pub mod receiver;
 pub mod sender;
 mod services;
@@ -31,7 +33,7 @@ use std::fmt;
 
 /// The names of the events.
 #[cfg(test)]
-const EVENTS: [&str; 8] = [
+const EVENTS: [&str; 9] = [
     "none",
     "sync",
     "bad",
@@ -40,6 +42,7 @@ const EVENTS: [&str; 8] = [
     "ended",
     "sequence alarm",
     "length alarm",
+    "wait",
 ];
 
 /// A description of the case on which the two differ.

@@ -21,10 +21,7 @@ use crate::rng::Rng;
 
 /// Runs the whole group.
 pub fn compare(tested: &impl ReceivingEnd, seed: u64, cases: usize) -> Result<Tally, Difference> {
-    let ends = Lockstep {
-        sending: &(),
-        receiving: tested,
-    };
+    let ends = Lockstep::new(&(), tested);
     let mut tally = Tally::default();
     let rng = &mut Rng::new(seed);
     open(&ends, rng, &mut tally)?;
@@ -37,7 +34,7 @@ pub fn compare(tested: &impl ReceivingEnd, seed: u64, cases: usize) -> Result<Ta
         let received = received.map_err(|difference| format!("case {number}: {difference}"))?;
         tally.count(received_name(received));
     }
-    Ok(tally)
+    ends.with_waits(tally)
 }
 
 /// The name under which a receiving call is counted.
@@ -127,7 +124,8 @@ impl Case {
         }
     }
 
-    /// One call with some number of bits, a line of some length and some part of the store.
+    /// One call with some number of bits, a line of some length and some part of the store, the
+    /// machine ready or not.
     fn call<R: ReceivingEnd>(&mut self, ends: &Lockstep<(), R>) -> Result<Received, Difference> {
         let rng = &mut self.rng;
         let whole = self.line.len() - BITS_BEHIND;
@@ -153,7 +151,8 @@ impl Case {
         let lengths = [needed, needed, needed, needed, needed, needed + 3, short, 0];
         let lent = rng.pick(&lengths);
         let mut state = BufferPair::new(GuardedBuffer::around(rng, &self.bytes));
-        ends.receive(&mut state, &line, bits, &mut store, lent)
+        let ready = rng.bit();
+        ends.receive(&mut state, &line, bits, ready, &mut store, lent)
     }
 }
 
@@ -264,6 +263,7 @@ fn end_data(rng: &mut Rng, k: usize, taken: usize) -> Bits {
 
 #[cfg(test)]
 mod tests {
+    use super::super::lockstep::WAIT_WITHOUT_ROOM;
     use super::super::{agreed, EVENTS};
     use super::*;
     use crate::calls::TableDriven;
@@ -280,6 +280,7 @@ mod tests {
         let kinds = [
             "refused 6",
             "refused 7",
+            WAIT_WITHOUT_ROOM,
             "states too short",
             "flags and enums out of range",
             "fields out of range",
@@ -287,8 +288,8 @@ mod tests {
         tally.assert_above(100, &EVENTS);
         tally.assert_above(100, &kinds);
         tally.assert_above(20, &openings);
-        // Four k, five kinds of marks, r 0 to 3, before the end and after it.
-        assert_eq!(tally.number_of("service values"), 4 * 5 * 4 * 2 * 16);
+        // Four k, five kinds of marks, r 0 to 3, before the end and after it, three kinds of calls.
+        assert_eq!(tally.number_of("service values"), 4 * 5 * 4 * 2 * 3 * 16);
         // Four marks and A, for each size byte without marks, and for 5 to 8 with them.
         assert_eq!(tally.number_of("marks not refused"), 5 * (8 + 4));
         assert_eq!(tally.number_of("marks refused"), 5 * (4 + 8 + 8));

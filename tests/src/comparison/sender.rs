@@ -20,10 +20,7 @@ const CANCEL_RUN: usize = 12;
 
 /// Runs the whole group.
 pub fn compare(tested: &impl SendingEnd, seed: u64, sessions: usize) -> Result<Tally, Difference> {
-    let ends = Lockstep {
-        sending: tested,
-        receiving: &(),
-    };
+    let ends = Lockstep::new(tested, &());
     let mut tally = Tally::default();
     open_with_every_size(&ends, &mut Rng::new(seed), &mut tally)?;
     send_with_every_marks(&ends, &mut Rng::new(seed), &mut tally)?;

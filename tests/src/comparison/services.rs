@@ -13,15 +13,18 @@ use crate::reference::order::end_payload;
 use crate::reference::receiver::{self, Received, Receiver};
 use crate::rng::Rng;
 
-/// All 16 service values, to each of the states.
+/// Whether the machine is ready, and whether the store has room for the next item.
+const CALLS: [(bool, bool); 3] = [(true, true), (false, true), (false, false)];
+
+/// All 16 service values, to each of the states, in each of these calls.
 pub fn receive_every_service<R: ReceivingEnd>(
     ends: &Lockstep<(), R>,
     rng: &mut Rng,
     tally: &mut Tally,
 ) -> Result<(), Difference> {
     for state in states() {
-        for service in 0..16 {
-            let received = receive_block(ends, rng, &state, state_of(&state), service)?;
+        for (service, call) in (0..16).flat_map(|service| CALLS.map(|call| (service, call))) {
+            let received = receive_block(ends, rng, &state, state_of(&state), service, call)?;
             let Received::Reported { event, .. } = received else {
                 panic!("{received:?}");
             };
@@ -44,7 +47,8 @@ pub fn receive_with_every_marks<R: ReceivingEnd>(
         for service in MARKS.into_iter().chain([A]) {
             let mut bytes = state_of(&state);
             bytes[RECEIVER_BYTES - MARKS_BYTES..].copy_from_slice(&marks);
-            let received = receive_block(ends, rng, &state, bytes, service)?;
+            let call = rng.pick(&CALLS);
+            let received = receive_block(ends, rng, &state, bytes, service, call)?;
             tally.count(match received {
                 Received::Refused(_) => "marks refused",
                 Received::Reported { .. } => "marks not refused",
@@ -88,11 +92,12 @@ fn receive_block<R: ReceivingEnd>(
     receiver: &Receiver,
     bytes: Vec<u8>,
     service: u8,
+    (ready, room): (bool, bool),
 ) -> Result<Received, Difference> {
     let (k, taken) = (receiver.k, receiver.taken);
     let line = pack(&assemble(service, &end_payload(k, taken * k)));
-    let lent = (taken + 1) * payload_bytes(k);
+    let lent = (taken + 1) * payload_bytes(k) - usize::from(!room);
     let mut store = BufferPair::random(rng, lent);
     let mut state = BufferPair::new(GuardedBuffer::around(rng, &bytes));
-    ends.receive(&mut state, &line, block_bits(k), &mut store, lent)
+    ends.receive(&mut state, &line, block_bits(k), ready, &mut store, lent)
 }

@@ -7,6 +7,7 @@ mod reading;
 mod sessions;
 mod writing;
 
+use super::lockstep::Lockstep;
 use super::{hex, same, Difference, GuardedBuffer, Tally};
 use crate::calls::{ReceivingEnd, Reference, SendingEnd, Tints};
 use crate::reference::refusal::{Refusal, ENTRY, FORMAT, SHORT, STEPS};
@@ -46,6 +47,7 @@ pub fn compare<T: Tints + SendingEnd + ReceivingEnd>(
 ) -> Result<Tally, Difference> {
     let mut group = Group {
         tested,
+        ends: Lockstep::new(tested, tested),
         rng: Rng::new(seed),
         tally: Tally::default(),
     };
@@ -62,7 +64,10 @@ pub fn compare<T: Tints + SendingEnd + ReceivingEnd>(
         let run = group.session(seed, number);
         run.map_err(|difference| format!("session {number}: {difference}"))?;
     }
-    Ok(group.tally)
+    match sessions {
+        0 => Ok(group.tally),
+        _ => group.ends.with_waits(group.tally),
+    }
 }
 
 /// What a call wrote, or the refusal's number.
@@ -97,6 +102,8 @@ impl<V> Answer<V> {
 
 struct Group<'a, T> {
     tested: &'a T,
+    /// Those of the sessions.
+    ends: Lockstep<'a, T, T>,
     rng: Rng,
     tally: Tally,
 }

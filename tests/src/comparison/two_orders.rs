@@ -26,7 +26,7 @@ pub fn compare<S: SendingEnd, R: ReceivingEnd>(
     sending: &S,
     receiving: &R,
 ) -> Result<Tally, Difference> {
-    let calls = Lockstep { sending, receiving };
+    let calls = Lockstep::new(sending, receiving);
     let mut tally = Tally::default();
     let in_both_kinds = cases![
         both_opened_anew_both_orders_arrive,
@@ -58,7 +58,7 @@ pub fn compare<S: SendingEnd, R: ReceivingEnd>(
         run(with, &in_both_kinds)?;
         run(with, &with_marks)?;
     }
-    Ok(tally)
+    calls.with_waits(tally)
 }
 
 impl<S: SendingEnd, R: ReceivingEnd> Ends<'_, S, R> {

@@ -64,27 +64,33 @@ impl Ends {
         (arrives, claims)
     }
 
-    /// A whole period.
+    /// A whole period, the machine ready.
     fn period(&mut self, reading: u8, damage: &[usize]) -> Result<(), Failure> {
+        self.period_if(true, reading, damage)
+    }
+
+    /// A whole period, the machine ready or not.
+    fn period_if(&mut self, ready: bool, reading: u8, damage: &[usize]) -> Result<(), Failure> {
         let (arrives, claims) = self.send(reading, damage);
         claims?;
         let receiver = self.receiver.clone();
-        let (receiver, received) = receiver.receive(&pack(&arrives), N, &mut self.store);
+        let (receiver, received) = receiver.receive(&pack(&arrives), N, ready, &mut self.store);
         self.receiver = receiver;
-        self.report(received)
+        self.report(ready, received)
     }
 
     /// A period with this event reported, whatever the receiver would answer.
     fn false_report(&mut self, reading: u8, event: Event) -> Result<(), Failure> {
         self.send(reading, &[]).1?;
-        self.report(Received::Reported { event, used: N })
+        self.report(true, Received::Reported { event, used: N })
     }
 
-    fn report(&mut self, received: Received) -> Result<(), Failure> {
+    fn report(&mut self, ready: bool, received: Received) -> Result<(), Failure> {
         self.list.after_receiving(&Receiving {
             received,
             bits: N,
             line_bytes: block_bytes(K),
+            ready,
             store: &self.store,
         })
     }
@@ -102,6 +108,26 @@ fn two_losses_with_no_good_block_between_break_that_clause() {
         ends.period(0, &[]).unwrap();
         assert_eq!(ends.list.broken(), Some(Supposition::GoodBlock));
         assert_eq!(ends.list.lost_requests(), 2);
+    }
+}
+
+/// Item 2 is cancelled on a false request, item 1 damaged, and the request for it lost. Item 2
+/// comes whole, and where the machine is ready there is no second loss.
+#[test]
+fn a_waiting_block_is_no_good_block() {
+    for kind in KINDS {
+        for ready in [true, false] {
+            let mut ends = Ends::open(kind, 5);
+            let script: [(u8, &[usize]); 5] = [(1, &[]), (0, &[]), (0, &[]), (1, &[]), (1, &[0])];
+            for (reading, damage) in script {
+                ends.period(reading, damage).unwrap();
+            }
+            ends.period_if(ready, 0, &[]).unwrap();
+            assert_eq!((ends.list.broken(), ends.list.lost_requests()), (None, 1));
+            ends.period(0, &[]).unwrap();
+            let broken = (!ready).then_some(Supposition::GoodBlock);
+            assert_eq!(ends.list.broken(), broken);
+        }
     }
 }
 
@@ -162,6 +188,43 @@ fn a_machine_that_never_accepts_fails_after_six_periods() {
     }
 }
 
+/// Item 0 waits in each third period; otherwise nothing comes of any.
+#[test]
+fn a_period_with_a_wait_is_not_undisturbed() {
+    for kind in KINDS {
+        let mut ends = Ends::open(kind, 2);
+        for _ in 0..4 {
+            for event in [Event::None, Event::Wait, Event::None] {
+                ends.false_report(1, event).unwrap();
+            }
+        }
+        assert_eq!(ends.list.broken(), None);
+        for _ in 0..4 {
+            ends.false_report(1, Event::None).unwrap();
+        }
+        let failure = ends.false_report(1, Event::None).unwrap_err();
+        assert!(failure.contains("six undisturbed"), "{failure}");
+    }
+}
+
+#[test]
+fn a_machine_that_is_never_ready_makes_the_sender_give_up() {
+    for kind in KINDS {
+        let mut ends = Ends::open(kind, 2);
+        let mut cancels = 0;
+        while !ends.sender.rests() {
+            let reading = u8::from(ends.receiver.return_bit);
+            let before = ends.sender.cancel_run;
+            ends.period_if(false, reading, &[]).unwrap();
+            cancels += usize::from(ends.sender.cancel_run > before);
+        }
+        assert!(ends.sender.gave_up() && cancels == 64);
+        assert_eq!((ends.list.broken(), ends.list.lost_requests()), (None, 0));
+        assert_eq!((ends.receiver.alarm, ends.receiver.taken), (None, 0));
+        assert!(ends.store.iter().all(|&byte| byte == 0xEE));
+    }
+}
+
 #[test]
 fn a_finished_sender_without_the_end_fails() {
     for kind in KINDS {
@@ -178,7 +241,11 @@ fn a_finished_sender_without_the_end_fails() {
 fn refusals_are_for_short_slices_alone() {
     for kind in KINDS {
         let mut ends = Ends::open(kind, 1);
-        let failure = ends.report(Received::Refused(7)).unwrap_err();
+        let failure = ends.report(true, Received::Refused(7)).unwrap_err();
+        assert!(failure.contains("short slice"), "{failure}");
+        ends.store.clear();
+        ends.report(true, Received::Refused(6)).unwrap();
+        let failure = ends.report(false, Received::Refused(6)).unwrap_err();
         assert!(failure.contains("short slice"), "{failure}");
         ends.sender.cancel_run = 70;
         assert!(ends.send(0, &[]).1.is_err());
@@ -192,9 +259,11 @@ fn a_sync_inside_a_data_block_breaks_its_clause() {
         ends.period(1, &[]).unwrap();
         ends.false_report(0, Event::Sync).unwrap();
         assert_eq!(ends.list.broken(), Some(Supposition::OnlySynchronising));
-        let mut ends = Ends::open(kind, 2);
-        ends.false_report(1, Event::Previous).unwrap();
-        assert_eq!(ends.list.broken(), Some(Supposition::NeverData));
+        for event in [Event::Previous, Event::Wait] {
+            let mut ends = Ends::open(kind, 2);
+            ends.false_report(1, event).unwrap();
+            assert_eq!(ends.list.broken(), Some(Supposition::NeverData));
+        }
     }
 }
 

@@ -7,12 +7,12 @@ use super::receiver::{self, Alarm, Event, Received, Receiver};
 use super::sender::{self, Sent};
 use super::session::run;
 
-const K: usize = 240;
-const N: usize = 260;
+pub const K: usize = 240;
+pub const N: usize = 260;
 const HEADING: &str = "period sent read event back\n";
 
 /// A receiver in step with `taken` items taken.
-fn in_step(taken: usize) -> Receiver {
+pub fn in_step(taken: usize) -> Receiver {
     Receiver {
         search: false,
         return_bit: false,
@@ -21,20 +21,20 @@ fn in_step(taken: usize) -> Receiver {
     }
 }
 
-fn block(service: u8) -> Vec<u8> {
+pub fn block(service: u8) -> Vec<u8> {
     pack(&assemble(service, &[false; K]))
 }
 
-fn end_block(version: u8, length: usize) -> Vec<u8> {
+pub fn end_block(version: u8, length: usize) -> Vec<u8> {
     let mut payload = end_payload(K, length);
     payload[7] = version & 1 == 1;
     pack(&assemble(END, &payload))
 }
 
-/// One whole block, with a store that has room for every item.
-fn receive_block(state: Receiver, block: &[u8]) -> (Receiver, Event) {
+/// One whole block to a machine that is ready, with a store that has room for every item.
+pub fn receive_block(state: Receiver, block: &[u8]) -> (Receiver, Event) {
     let mut store = vec![0; 1094 * K / 8];
-    match state.receive(block, N, &mut store) {
+    match state.receive(block, N, true, &mut store) {
         (state, Received::Reported { event, used: N }) => (state, event),
         (_, other) => panic!("{other:?}"),
     }
@@ -47,7 +47,7 @@ fn no_bits_change_nothing() {
         event: Event::None,
         used: 0,
     };
-    assert_eq!(state.clone().receive(&[], 0, &mut []), (state, none));
+    assert_eq!(state.clone().receive(&[], 0, true, &mut []), (state, none));
     let alarmed = Receiver {
         alarm: Some(Alarm::Length),
         ..in_step(3)
@@ -56,7 +56,10 @@ fn no_bits_change_nothing() {
         event: Event::LengthAlarm,
         used: 0,
     };
-    assert_eq!(alarmed.clone().receive(&[], 0, &mut []), (alarmed, again));
+    assert_eq!(
+        alarmed.clone().receive(&[], 0, true, &mut []),
+        (alarmed, again)
+    );
 }
 
 #[test]
@@ -66,9 +69,9 @@ fn a_short_line_is_refused_under_an_alarm_too() {
         ..in_step(3)
     };
     let refused = Received::Refused(6);
-    let answer = alarmed.clone().receive(&[0], 9, &mut []);
+    let answer = alarmed.clone().receive(&[0], 9, true, &mut []);
     assert_eq!(answer, (alarmed.clone(), refused));
-    let (after, received) = alarmed.receive(&[0], 8, &mut []);
+    let (after, received) = alarmed.receive(&[0], 8, true, &mut []);
     assert!(after.return_bit);
     let event = Event::SequenceAlarm;
     assert_eq!(received, Received::Reported { event, used: 8 });
@@ -83,7 +86,7 @@ fn a_block_bit_by_bit_is_the_block_at_once() {
     let mut store = [0xFF; 30];
     for i in 0..N {
         let bit = [line[i / 8] << (i % 8)];
-        let (next, received) = state.receive(&bit, 1, &mut store);
+        let (next, received) = state.receive(&bit, 1, true, &mut store);
         let event = if i == N - 1 { event } else { Event::None };
         assert_eq!(received, Received::Reported { event, used: 1 });
         state = next;
@@ -96,14 +99,14 @@ fn a_block_bit_by_bit_is_the_block_at_once() {
 fn a_search_finds_the_sequence_where_it_first_ends() {
     let line = [0x00, 0x50, 0xA5, 0x50, 0xA5];
     let state = receiver::open(K, None).unwrap();
-    let (state, received) = state.receive(&line, 23, &mut []);
+    let (state, received) = state.receive(&line, 23, true, &mut []);
     let event = Event::None;
     assert_eq!(received, Received::Reported { event, used: 23 });
     assert_eq!(
         (state.held, state.array[0], state.array[1]),
         (15, 0x50, 0xA4)
     );
-    let (state, received) = state.receive(&[0x80], 1, &mut []);
+    let (state, received) = state.receive(&[0x80], 1, true, &mut []);
     let event = Event::Sync;
     assert_eq!(received, Received::Reported { event, used: 1 });
     assert!(!state.search && !state.return_bit && state.held == 0);
@@ -119,7 +122,7 @@ fn the_sequence_must_arrive_whole_since_the_search_began() {
     (line[31], line[32]) = (0xF5, 0x00);
     let (state, event) = receive_block(state, &line);
     assert_eq!((event, state.search, state.bad_row), (Event::Bad, true, 0));
-    let (state, received) = state.receive(&[0xA5, 0x00], 10, &mut []);
+    let (state, received) = state.receive(&[0xA5, 0x00], 10, true, &mut []);
     let event = Event::None;
     assert_eq!(received, Received::Reported { event, used: 10 });
     assert_eq!(state.held, 10);
@@ -182,7 +185,7 @@ fn no_item_is_taken_behind_the_most() {
     assert_eq!(event, Event::SequenceAlarm);
     let (_, event) = receive_block(in_step(1093), &end_block(1, 262_144));
     assert_eq!(event, Event::Ended(262_144));
-    let (state, received) = in_step(1094).receive(&[], 0, &mut []);
+    let (state, received) = in_step(1094).receive(&[], 0, true, &mut []);
     assert_eq!((state.taken, received), (1094, Received::Refused(7)));
 }
 
@@ -208,13 +211,13 @@ fn a_short_store_refuses_the_block_that_would_be_accepted() {
     let line = block(A);
     let mut store = [0xEE; 119];
     let state = in_step(3);
-    let (after, received) = state.clone().receive(&line, N, &mut store);
+    let (after, received) = state.clone().receive(&line, N, true, &mut store);
     assert_eq!((after, received), (state.clone(), Received::Refused(6)));
     assert_eq!(store, [0xEE; 119]);
-    let (_, received) = state.clone().receive(&line, N - 1, &mut store);
+    let (_, received) = state.clone().receive(&line, N - 1, true, &mut store);
     let event = Event::None;
     assert_eq!(received, Received::Reported { event, used: 259 });
-    let (_, received) = state.receive(&block(C), N, &mut []);
+    let (_, received) = state.receive(&block(C), N, true, &mut []);
     let event = Event::Previous;
     assert_eq!(received, Received::Reported { event, used: N });
 }

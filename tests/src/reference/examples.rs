@@ -110,7 +110,7 @@ fn two_losses_with_no_good_block_between() {
         assert!(!matches!(sent, Sent::Refused(_)));
         sender = next;
         block[0] ^= damaged << 7;
-        let (next, received) = receiver.receive(&block, 260, &mut store);
+        let (next, received) = receiver.receive(&block, 260, true, &mut store);
         receiver = next;
         if let Received::Reported { event, used: 260 } = received {
             events.push(event);

@@ -19,3 +19,5 @@ pub mod tint;
 mod corner_cases;
 #[cfg(test)]
 mod examples;
+#[cfg(test)]
+mod waiting;

@@ -57,6 +57,8 @@ pub enum Event {
     Ended(usize),
     SequenceAlarm,
     LengthAlarm,
+    /// The block would be accepted or ended, and the machine is not ready.
+    Wait,
 }
 
 impl Event {
@@ -71,6 +73,7 @@ impl Event {
             Event::Ended(_) => "ended",
             Event::SequenceAlarm => "sequence alarm",
             Event::LengthAlarm => "length alarm",
+            Event::Wait => "wait",
         }
     }
 }
@@ -103,8 +106,15 @@ pub fn open(k: usize, code_size: Option<usize>) -> Result<Receiver, Refusal> {
 }
 
 impl Receiver {
-    /// Takes in line bits up to the next event or to the last; refusals in the order 7, 6.
-    pub fn receive(self, line: &[u8], bits: usize, store: &mut [u8]) -> (Receiver, Received) {
+    /// Takes in line bits up to the next event or to the last; refusals in the order 7, 6. `ready` says
+    /// whether the machine can take a block that these bits complete.
+    pub fn receive(
+        self,
+        line: &[u8],
+        bits: usize,
+        ready: bool,
+        store: &mut [u8],
+    ) -> (Receiver, Received) {
         if self.is_spoiled() {
             return (self, Received::Refused(SPOILED));
         }
@@ -116,7 +126,7 @@ impl Receiver {
         }
         let mut state = self.clone();
         for i in 0..bits {
-            match state.take_bit(bit_at(line, i), store) {
+            match state.take_bit(bit_at(line, i), ready, store) {
                 Ok(Event::None) => {}
                 Ok(event) => return (state, Received::Reported { event, used: i + 1 }),
                 Err(refusal) => return (self, Received::Refused(refusal)),
@@ -147,7 +157,7 @@ impl Receiver {
     }
 
     /// One bit, with no alarm standing. The state after a refusal is not used.
-    fn take_bit(&mut self, bit: bool, store: &mut [u8]) -> Result<Event, Refusal> {
+    fn take_bit(&mut self, bit: bool, ready: bool, store: &mut [u8]) -> Result<Event, Refusal> {
         if self.search {
             return Ok(self.search_bit(bit));
         }
@@ -156,7 +166,7 @@ impl Receiver {
         if self.held < block_bits(self.k) {
             return Ok(Event::None);
         }
-        self.judge(store)
+        self.judge(ready, store)
     }
 
     /// *Search:* the latest bits, at most 15, are held at the array's start, zero behind them.
@@ -177,7 +187,7 @@ impl Receiver {
     }
 
     /// *In step,* at the n-th bit: rules 1 to 7.
-    fn judge(&mut self, store: &mut [u8]) -> Result<Event, Refusal> {
+    fn judge(&mut self, ready: bool, store: &mut [u8]) -> Result<Event, Refusal> {
         let block = unpack(&self.array, 0, block_bits(self.k));
         let service = number(&block[..SERVICE_BITS]) as u8;
         let payload = &block[SERVICE_BITS..SERVICE_BITS + self.k];
@@ -190,13 +200,13 @@ impl Receiver {
         } else if !passes(&block) {
             self.bad()
         } else if may_accept && is_item(self.taken) {
-            return self.accept(payload, store);
+            return self.accept(payload, ready, store);
         } else if may_repeat && is_item(self.taken - 1) {
             self.return_zero(Event::Previous)
         } else if is_item(self.taken + 1) || self.end_taken && is_letter(service) {
             self.raise_alarm(Alarm::Sequence)
         } else if service == END {
-            self.end(payload)
+            self.end(payload, ready)
         } else {
             self.anything_else()
         })
@@ -219,8 +229,16 @@ impl Receiver {
         Event::Bad
     }
 
-    /// Rule 3. The store is judged here alone.
-    fn accept(&mut self, payload: &[bool], store: &mut [u8]) -> Result<Event, Refusal> {
+    /// Rule 3. The store is judged here alone, and only if the machine is ready.
+    fn accept(
+        &mut self,
+        payload: &[bool],
+        ready: bool,
+        store: &mut [u8],
+    ) -> Result<Event, Refusal> {
+        if !ready {
+            return Ok(self.return_one(Event::Wait));
+        }
         let first = self.taken * self.k;
         if 8 * store.len() < first + self.k {
             return Err(SHORT);
@@ -233,13 +251,16 @@ impl Receiver {
     }
 
     /// Rule 6.
-    fn end(&mut self, payload: &[bool]) -> Event {
+    fn end(&mut self, payload: &[bool], ready: bool) -> Event {
         if self.end_taken {
             return self.return_zero(Event::Previous);
         }
         let (version, length) = end_fields(payload);
         if !fits_end(self.k, version, length, self.taken) {
             return self.raise_alarm(Alarm::Length);
+        }
+        if !ready {
+            return self.return_one(Event::Wait);
         }
         self.end_taken = true;
         self.return_zero(Event::Ended(length))
@@ -267,12 +288,17 @@ impl Receiver {
         event
     }
 
-    fn raise_alarm(&mut self, alarm: Alarm) -> Event {
+    /// An event other than *bad* with return bit 1.
+    fn return_one(&mut self, event: Event) -> Event {
         self.clear_held();
         self.bad_row = 0;
         self.return_bit = true;
+        event
+    }
+
+    fn raise_alarm(&mut self, alarm: Alarm) -> Event {
         self.alarm = Some(alarm);
-        alarm.event()
+        self.return_one(alarm.event())
     }
 
     /// A block is finished: nothing is held.

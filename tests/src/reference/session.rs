@@ -147,13 +147,14 @@ impl Session {
         })
     }
 
-    /// Lends a block's bits until all are used; the last event other than *none*, else *none*.
+    /// Lends a block's bits until all are used; the last event other than *none*, else *none*. The
+    /// machine is always ready.
     fn deliver(&mut self, mut bits: Bits) -> Result<Event, Refusal> {
         let mut last = Event::None;
         while !bits.is_empty() {
             let receiver = self.receiver.clone();
             let line = pack(&bits);
-            let (receiver, received) = receiver.receive(&line, bits.len(), &mut self.store);
+            let (receiver, received) = receiver.receive(&line, bits.len(), true, &mut self.store);
             self.receiver = receiver;
             match received {
                 Received::Refused(refusal) => return Err(refusal),

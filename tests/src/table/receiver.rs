@@ -71,14 +71,26 @@ impl Receiver {
     /// Takes in line bits up to the next event or to the last; the state is taken by value and
     /// handed back, as the rules have each step.
     #[inline(never)]
-    pub fn receive(mut self, line: &[u8], bits: usize, store: &mut [u8]) -> (Receiver, Received) {
-        let received = self.receive_in_place(line, bits, store);
+    pub fn receive(
+        mut self,
+        line: &[u8],
+        bits: usize,
+        ready: bool,
+        store: &mut [u8],
+    ) -> (Receiver, Received) {
+        let received = self.receive_in_place(line, bits, ready, store);
         (self, received)
     }
 
     /// The same on a state that stays where it is. Refusals in the order 7, 6.
     #[inline(never)]
-    pub fn receive_in_place(&mut self, line: &[u8], bits: usize, store: &mut [u8]) -> Received {
+    pub fn receive_in_place(
+        &mut self,
+        line: &[u8],
+        bits: usize,
+        ready: bool,
+        store: &mut [u8],
+    ) -> Received {
         if self.is_spoiled() {
             return Received::Refused(SPOILED);
         }
@@ -97,7 +109,7 @@ impl Receiver {
             self.held += bits;
             return reported(Event::None, bits);
         }
-        match self.finish(line, missing, store) {
+        match self.finish(line, missing, ready, store) {
             Ok(event) => reported(event, missing),
             Err(refusal) => Received::Refused(refusal),
         }
@@ -105,14 +117,20 @@ impl Receiver {
 
     /// The missing bits are in the line. A block that is whole there is judged there; another is
     /// finished in a copy, since a refusal leaves the array as it was.
-    fn finish(&mut self, line: &[u8], missing: usize, store: &mut [u8]) -> Result<Event, u8> {
+    fn finish(
+        &mut self,
+        line: &[u8],
+        missing: usize,
+        ready: bool,
+        store: &mut [u8],
+    ) -> Result<Event, u8> {
         let bytes = self.k / 8 + 3;
         if self.held == 0 {
-            return self.judge(&line[..bytes], store);
+            return self.judge(&line[..bytes], ready, store);
         }
         let mut block = self.array;
         copy_bits(&mut block, self.held, line, missing);
-        self.judge(&block[..bytes], store)
+        self.judge(&block[..bytes], ready, store)
     }
 
     fn is_spoiled(&self) -> bool {
@@ -159,7 +177,7 @@ impl Receiver {
     }
 
     /// Rules 1 to 7 on a whole packed block. A refusal leaves the state as it was.
-    fn judge(&mut self, block: &[u8], store: &mut [u8]) -> Result<Event, u8> {
+    fn judge(&mut self, block: &[u8], ready: bool, store: &mut [u8]) -> Result<Event, u8> {
         let service = block[0] >> 4;
         let check = check_bits(block);
         if service == SYNCHRONISING && check == SEQUENCE {
@@ -169,9 +187,10 @@ impl Receiver {
             return Ok(self.bad());
         }
         if service == END {
-            return Ok(self.end(block));
+            return Ok(self.end(block, ready));
         }
         match self.place(service) {
+            Place::Expected if !ready => Ok(self.return_one(Event::Wait)),
             Place::Expected => self.accept(block, store),
             Place::Last => Ok(self.return_zero(Event::Previous)),
             Place::Behind => Ok(self.raise_alarm(Alarm::Sequence)),
@@ -224,7 +243,7 @@ impl Receiver {
         Ok(self.return_zero(Event::Accepted))
     }
 
-    fn end(&mut self, block: &[u8]) -> Event {
+    fn end(&mut self, block: &[u8], ready: bool) -> Event {
         if self.end_taken {
             return self.return_zero(Event::Previous);
         }
@@ -235,6 +254,9 @@ impl Receiver {
         let fits = (1..=LONGEST).contains(&length) && length.div_ceil(self.k) == self.taken;
         if version != VERSION || !fits {
             return self.raise_alarm(Alarm::Length);
+        }
+        if !ready {
+            return self.return_one(Event::Wait);
         }
         self.end_taken = true;
         self.return_zero(Event::Ended(length))
@@ -262,12 +284,17 @@ impl Receiver {
         event
     }
 
-    fn raise_alarm(&mut self, alarm: Alarm) -> Event {
+    /// An event other than *bad* with return bit 1.
+    fn return_one(&mut self, event: Event) -> Event {
         self.clear_held();
         self.bad_row = 0;
         self.return_bit = true;
+        event
+    }
+
+    fn raise_alarm(&mut self, alarm: Alarm) -> Event {
         self.alarm = Some(alarm);
-        alarm.event()
+        self.return_one(alarm.event())
     }
 
     fn clear_held(&mut self) {

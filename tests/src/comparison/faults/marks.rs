@@ -110,13 +110,20 @@ impl ReceivingEnd for OfMarks {
         self.opened(answer, || Reference.open_receiver(k, None, &mut copy))
     }
 
-    fn receive(&self, state: &mut [u8], line: Line, store: &mut [u8], counts: &mut Counts) -> u8 {
+    fn receive(
+        &self,
+        state: &mut [u8],
+        line: Line,
+        ready: bool,
+        store: &mut [u8],
+        counts: &mut Counts,
+    ) -> u8 {
         if self.refuses(RECEIVER_BYTES, state) {
             return SPOILED;
         }
         let receiver = load_receiver(state).filter(|receiver| !receiver.is_spoiled());
         let block = receiver.and_then(|receiver| Some((mark_of_block(&receiver, line)?, receiver)));
-        let mut receive = |state: &mut [u8]| Reference.receive(state, line, store, counts);
+        let mut receive = |state: &mut [u8]| Reference.receive(state, line, ready, store, counts);
         let number = match (self.0, block) {
             (Fault::MarkAtTwo, Some((_, receiver)))
                 if receiver.taken == 2 && !receiver.end_taken =>

@@ -4,7 +4,6 @@
 use super::{compare_read, compare_write, doses, Group, NUMBERS};
 use crate::calls::{ReceivingEnd, SendingEnd, Tints};
 use crate::comparison::both_ends::Session;
-use crate::comparison::lockstep::Lockstep;
 use crate::comparison::orders::Order;
 use crate::comparison::{hex, same, Difference, GuardedBuffer, Tally};
 use crate::reference::block::LENGTHS;
@@ -31,12 +30,8 @@ impl<T: Tints + SendingEnd + ReceivingEnd> Group<'_, T> {
     /// A session with this order. If the end is reported, the machine reads its store, cut to that
     /// length; within demand 3 these are the doses.
     fn carry(&mut self, rng: Rng, order: Order, doses: &[u16]) -> Result<(), Difference> {
-        let ends = Lockstep {
-            sending: self.tested,
-            receiving: self.tested,
-        };
         let mut events = Tally::default();
-        let mut session = Session::open(&ends, rng, order, &mut events)?;
+        let mut session = Session::open(&self.ends, rng, order, &mut events)?;
         session.run()?;
         let (ended, within) = (session.ended(), session.is_within_demand_3());
         let store = session.store().to_vec();

@@ -39,7 +39,7 @@ impl Ends {
         self.sender = sender;
         block[0] ^= u8::from(damaged) << 7;
         let receiver = self.receiver.clone();
-        let (receiver, received) = receiver.receive(&block, N, &mut self.store);
+        let (receiver, received) = receiver.receive(&block, N, true, &mut self.store);
         self.receiver = receiver;
         let Received::Reported { event, used: N } = received else {
             panic!("{received:?}");
@@ -160,7 +160,7 @@ fn outcomes(code_size: Option<usize>, taken: usize, end_taken: bool) -> String {
             ..receiver::open(K, code_size).unwrap()
         };
         let block = pack(&assemble(service, &end_payload(K, taken * K)));
-        match state.receive(&block, N, &mut [0; 150]) {
+        match state.receive(&block, N, true, &mut [0; 150]) {
             (state, Received::Reported { event, used: N }) => outcome(&state, event),
             (_, other) => panic!("{other:?}"),
         }
@@ -245,7 +245,7 @@ fn with_marks_another_size_is_spoiled_and_without_it_is_carried_along() {
             (ends.sender.marks, ends.receiver.marks) = (marks, marks);
             let (sender, sent) = ends.sender.send(&ends.order, false, &mut [0; 33]);
             assert_eq!(sent == Sent::Refused(7), in_use, "size {size}");
-            let (receiver, received) = ends.receiver.receive(&[0], 8, &mut []);
+            let (receiver, received) = ends.receiver.receive(&[0], 8, true, &mut []);
             assert_eq!(received == Received::Refused(7), in_use, "size {size}");
             assert_eq!((sender.marks, receiver.marks), (marks, marks));
         }
@@ -259,7 +259,7 @@ fn a_mark_after_the_end_is_bad_and_a_letter_the_alarm() {
     assert!(ends.sender.finished && ends.receiver.end_taken);
     for service in MARKS.into_iter().chain([A, B, C]) {
         let block = pack(&assemble(service, &unpack(&[0; 30], 0, K)));
-        let (state, received) = ends.receiver.clone().receive(&block, N, &mut []);
+        let (state, received) = ends.receiver.clone().receive(&block, N, true, &mut []);
         let (event, bad_row) = match is_mark(service) {
             true => (Event::Bad, 1),
             false => (Event::SequenceAlarm, 0),

@@ -106,12 +106,12 @@ impl Machine {
     }
 
     /// What a serial line's interrupt has gathered: up to 64 bits, the earliest in the top bit. A block may end within
-    /// them; a call stops there, and the bits it left are lent again.
+    /// them; a call stops there, and the bits it left are lent again. This machine is always ready.
     fn on_bits(&mut self, mut piece: u64, mut bits: usize) -> Result<(), Refusal> {
         while bits > 0 {
             let (event, used) =
                 self.receiver
-                    .receive(&piece.to_be_bytes(), bits, &mut self.store)?;
+                    .receive(&piece.to_be_bytes(), bits, true, &mut self.store)?;
             self.on_event(event)?;
             piece = piece.checked_shl(used as u32).unwrap_or(0);
             bits -= used;
@@ -132,6 +132,8 @@ impl Machine {
             Event::Sync => self.counts.sync += 1,
             // The return bit asks for a repeat.
             Event::Bad => self.counts.bad += 1,
+            // So it does while a machine is busy, which this one never is.
+            Event::Wait => {}
             // One item more in the store; not to be used before the end.
             Event::Accepted => self.counts.accepted += 1,
             // A repeat of what is there already.
