@@ -125,6 +125,9 @@ fn is_event(received: Received, sought: Event) -> bool {
 }
 
 #[cfg(test)]
+mod ready_again;
+
+#[cfg(test)]
 mod tests {
     use super::*;
     use crate::calls::{Reference, TableDriven};
