@@ -19,7 +19,7 @@ use Rattle.line.specs.Marks.{marksOf, marksInRange}
 use Rattle.line.specs.Order.{longestOrder, validLength, itemCount}
 use Rattle.line.specs.Sending.{freshSender, unless-refused, openSender, OpenSender, Block, transmit, senderItems, atLast, lastRun, senderInRange, gaveUp, send, sendState, sendBytes, sentAnswer, Send}
 use Rattle.line.specs.SendCalls.{SendCalls, none, call}
-use Rattle.line.specs.Code.SendSteps.{Ready, Sends}
+use Rattle.line.specs.Code.SendSteps.{GoingOn, Sends}
 use Rattle.line.specs.declared.marks.CodeSize.{CodeSize}
 use Rattle.line.specs.declared.marks.Marks.{Marks}
 use Rattle.line.specs.declared.sender.Sender.{Sender}
@@ -270,10 +270,10 @@ module _ (s : Sender) (order : List ℕ) (reading : Bool) (slice : List ℕ) whe
     rest-call r = simp (h, r)
 
     module _ (r : s .finished || gaveUp s ≡ false) where
-      pub ready : Ready s
-      ready =
+      pub goes-on : GoingOn s
+      goes-on =
           let n = eqb-false (s .run) lastRun (or-false (s .finished) (gaveUp s) r .1) in
-          record { range = h; going-on = omega (arith, in-range s h .cancels) }
+          record { range = h; run = omega (arith, in-range s h .cancels) }
 
       pub order-call : tooShort order (s .setup .length) ≡ true → send s order reading slice ≡ refused A.short
       unfolding send

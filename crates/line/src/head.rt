@@ -12,7 +12,7 @@ ghost use Rattle.line.specs.Order.{mostItems};
 ghost use Rattle.line.specs.Receiving as S;
 ghost use Rattle.line.specs.Receiving.{arrayBytes, zeroArray, receiverInRange};
 ghost use Rattle.line.specs.ReceivingInPlace.{withArray, ReceiveInPlace};
-ghost use Rattle.line.specs.Code.ReceiveSteps.{WindowInRange, ReadyHead, FinishedBlock, windowBits, ruleOf, stepWith, stepped, handedBack, judged, turnedAway, Handed};
+ghost use Rattle.line.specs.Code.ReceiveSteps.{WindowInRange, HeadInRange, FinishedBlock, windowBits, ruleOf, stepWith, stepped, handedBack, judged, turnedAway, Handed};
 use crate::hold::put_bits;
 use crate::order::MOST_ITEMS;
 use crate::receiving::ARRAY_SIZE;
@@ -159,7 +159,7 @@ impl Head {
 
     // A bad block; lost where rule 7 goes back to search.
     fn after_bad(self, array: &mut [u8], lost: bool, used: usize) -> HeadStep
-        requires { ⌜ ReadyHead self (now array) ⌝ }
+        requires { ⌜ HeadInRange self (now array) ⌝ }
         ensures { λ r. ⌜ stepWith r (now (array .exit)) ≡ stepped (S.afterBad (withArray self (now (array .entry))) (leb S.lastBad (self .«bad_row» + 1) || lost)) Event.Bad used ⌝ }
     {
         let bad_row = self.bad_row + 1;
@@ -181,7 +181,7 @@ impl Head {
 
     // What a rule comes to, the store apart.
     fn stop(self, array: &mut [u8], rule: Rule, used: usize) -> HeadStep
-        requires { ⌜ ReadyHead self (now array) ⌝ }
+        requires { ⌜ HeadInRange self (now array) ⌝ }
         ensures { λ r. ⌜ stepWith r (now (array .exit)) ≡ handedBack (S.stops (withArray self (now (array .entry))) (ruleOf rule) [] used) ⌝ }
     {
         let taken = self.taken;
@@ -273,7 +273,7 @@ impl Head {
         ready: bool,
         store: &mut [u8],
     ) -> HeadStep
-        requires { ⌜ (ReadyHead self (now array)) × (self .held + missing ≡ blockLength (self .setup .k)) × (missing ≤ 8 * length (now line)) ⌝ }
+        requires { ⌜ (HeadInRange self (now array)) × (self .held + missing ≡ blockLength (self .setup .k)) × (missing ≤ 8 * length (now line)) ⌝ }
         ensures { λ r. ⌜ Handed (withArray self (now (array .entry))) (now (store .entry)) (judged (withArray self (now (array .entry))) (S.heldBits (withArray self (now (array .entry))) ++ take missing (bitsOf (now (line .entry)))) ready missing) (stepWith r (now (array .exit))) (now (store .exit)) ⌝ }
     {
         if self.held == 0 {
@@ -293,7 +293,7 @@ impl Head {
         ready: bool,
         store: &mut [u8],
     ) -> HeadStep
-        requires { ⌜ (ReadyHead self (now array)) × (self .held < blockLength (self .setup .k)) × (bits ≤ 8 * length (now line)) ⌝ }
+        requires { ⌜ (HeadInRange self (now array)) × (self .held < blockLength (self .setup .k)) × (bits ≤ 8 * length (now line)) ⌝ }
         ensures { λ r. ⌜ Handed (withArray self (now (array .entry))) (now (store .entry)) (S.inStep (withArray self (now (array .entry))) (take bits (bitsOf (now (line .entry)))) ready) (stepWith r (now (array .exit))) (now (store .exit)) ⌝ }
     {
         let held = self.held;

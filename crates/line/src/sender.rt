@@ -7,7 +7,7 @@ ghost use lib.ListN.{length};
 ghost use Rattle.block.specs.Answer.{done};
 ghost use Rattle.block.specs.Lengths.{blockLength};
 ghost use Rattle.line.specs.Sending.{confirmed, repeated, itemBlock, senderInRange, gaveUp, sentAnswer, OpenSender, Send};
-ghost use Rattle.line.specs.Code.SendSteps.{Ready, Lent, Sends};
+ghost use Rattle.line.specs.Code.SendSteps.{GoingOn, Lent, Sends};
 use crate::CODE_SIZE;
 use crate::EMPTY;
 use crate::LONG;
@@ -151,7 +151,7 @@ impl Sender {
 
     // Reading 0 of the newer item: the pair moves up by one, or the sender is finished.
     fn confirmed(self) -> Sender
-        requires { ⌜ Ready self ⌝ }
+        requires { ⌜ GoingOn self ⌝ }
         ensures { λ r. ⌜ r ≡ confirmed self ⌝ }
     {
         let setup = self.setup;
@@ -176,7 +176,7 @@ impl Sender {
 
     // Reading 1 of the newer item: the run grows by one, and the pair is repeated.
     fn repeated(self) -> Sender
-        requires { ⌜ Ready self ⌝ }
+        requires { ⌜ GoingOn self ⌝ }
         ensures { λ r. ⌜ r ≡ repeated self ⌝ }
     {
         let run = self.run + 1;
@@ -203,7 +203,7 @@ impl Sender {
 
     // What a call says of the item that it sent.
     fn item(self, number: usize, used: bool, cancelled: bool) -> Sent
-        requires { ⌜ Ready self ⌝ }
+        requires { ⌜ GoingOn self ⌝ }
         ensures { λ r. ⌜ sentAnswer r ≡ done (itemBlock self number used cancelled) ⌝ }
     {
         let setup = self.setup;
@@ -217,7 +217,7 @@ impl Sender {
 
     // A synchronising block; the older item is next.
     fn send_sync(self, block: &mut [u8]) -> Step
-        requires { ⌜ (Ready self) × (blockLength (self .setup .k) ≤ 8 * length (now block)) ⌝ }
+        requires { ⌜ (GoingOn self) × (blockLength (self .setup .k) ≤ 8 * length (now block)) ⌝ }
         ensures { λ r. ⌜ ((order : List ℕ) (reading : Bool) → Sends self Next.Sync reading order (now (block .entry)) r (now (block .exit))) ⌝ }
     {
         let setup = self.setup;

@@ -1,6 +1,6 @@
--- Corner cases of the receiving end, each tried by computing it at k 240. Assumes nothing.
+-- Corner cases of the receiving end, each tried by computing it at k 240, with the machine ready and not ready. Assumes nothing.
 use mathlib.Core.Path.{_≡_, refl}
-use mathlib.Core.Bool.{true, false}
+use mathlib.Core.Bool.{Bool, true, false, cond}
 use mathlib.Core.List.{List, [], _∷_, _++_, map}
 use native.Mathlib.Omega.{arith}
 use Prim.Native.Nat.{ℕ}
@@ -10,55 +10,73 @@ use Rattle.block.specs.Answer as A
 use Rattle.block.specs.Answer.{Answer, refused, done}
 use Rattle.block.specs.Block.{blockBits, syncBlock, syncSequence}
 use Rattle.line.specs.Order.{letterA, letterB, letterC, endPayload, endService}
-use Rattle.line.specs.Receiving.{Rule, sequence-found, sync-block, check-fails, accepts, previous, out-of-sequence, ends, wrong-length, ends-again, anything-else, unfinished, standing, Reception, idle, searching, receive}
+use Rattle.line.specs.Receiving.{Rule, sequence-found, sync-block, check-fails, accepts, previous, out-of-sequence, ends, wrong-length, ends-again, anything-else, waits, unfinished, standing, Reception, idle, searching, receive}
 use Rattle.line.specs.declared.receiver.Receiver.{Receiver}
 use Rattle.line.specs.declared.receiving.Phase.the-variants as P
 use Rattle.line.specs.declared.receiving.Event.the-variants as E
 use Rattle.line.proofs.Delivery.WrittenBits.{length-zeroArray}
 use Rattle.line.proofs.Delivery.BitByBit.{bitByBit, Waiting, bit-by-bit}
-use Rattle.witness.proofs.PeriodRows.{received, receiver, good, bad, damaged, zeroBlock}
+use Rattle.witness.proofs.PeriodRows.{received, receiver, good, bad, waited, damaged, zeroBlock}
 
 abbrev endBlock : ℕ → Bits
 endBlock L = blockBits (binary 4 endService) (endPayload 240 L)
 
 -- ---- what a call comes to
 
--- a call, and what it comes to
+-- a call, by whether the machine is ready, and what it then comes to
 pub record Case : Type 0 where
-  pub call : Answer Reception
-  pub answer : Answer Reception
+  pub call : Bool → Answer Reception
+  pub answer : Bool → Answer Reception
 
-abbrev gives : Answer Reception → Answer Reception → Case
-gives call answer = record { call = call; answer = answer }
+abbrev calls : Receiver → List ℕ → ℕ → List ℕ → Bool → Answer Reception
+calls s line count store ready = receive s line count ready store
 
--- a block lent whole in one call, with a store for the first item, is read by this rule, with this state afterwards
+-- ready or not, the same
+abbrev gives : (Bool → Answer Reception) → Answer Reception → Case
+gives call answer = record { call = call; answer = λ ready. answer }
+
+-- at ready, this; and otherwise that
+abbrev divides : (Bool → Answer Reception) → Answer Reception → Answer Reception → Case
+divides call this that = record { call = call; answer = λ ready. cond ready this that }
+
+-- a block lent whole in one call, with a store for the first item
+abbrev lends : Receiver → Bits → Bool → Answer Reception
+lends s row = calls s (bytesOf 33 row) 260 (replicate 30 0)
+
+-- ... is read by this rule, with this state afterwards
+abbrev whole : Bits → Rule → Receiver → Answer Reception
+whole row rule after = done (record { rule = rule; row = row; used = 260; state = after })
+
 abbrev reads : Receiver → Bits → Rule → Receiver → Case
-reads s row rule after =
-    gives (receive s (bytesOf 33 row) 260 (replicate 30 0)) (done (record { rule = rule; row = row; used = 260; state = after }))
+reads s row rule after = gives (lends s row) (whole row rule after)
+
+-- ... or waits, where the machine is not ready
+abbrev takes : Receiver → Bits → Rule → Receiver → Case
+takes s row rule after = divides (lends s row) (whole row rule after) (whole row waits (waited (s .taken)))
 
 -- bits lent in search, with the sequence found at the last of them
 abbrev finds : Receiver → Bits → ℕ → Receiver → Case
 finds s row used after =
-    gives (receive s (bytesOf 33 row) (length row) []) (done (record { rule = sequence-found; row = []; used = used; state = after }))
+    gives (calls s (bytesOf 33 row) (length row) []) (done (record { rule = sequence-found; row = []; used = used; state = after }))
 
 -- ... or with none found, and this window held
 abbrev findsNone : Receiver → Bits → Bits → Case
 findsNone s row window =
-    gives (receive s (bytesOf 33 row) (length row) [])
+    gives (calls s (bytesOf 33 row) (length row) [])
     (done (record { rule = unfinished; row = []; used = length row; state = searching s window }))
 
 abbrev pub cases : List Case
 cases =
     -- 0 bits: nothing changed, and a standing alarm is reported
-    gives (receive (receiver 3 false 2 false P.Search) [] 0 []) (done (idle (receiver 3 false 2 false P.Search)))
-    ∷ gives (receive (bad 3 2) [] 0 []) (done (idle (bad 3 2)))
-    ∷ gives (receive (receiver 3 false 2 false P.SequenceAlarm) [] 0 [])
+    gives (calls (receiver 3 false 2 false P.Search) [] 0 []) (done (idle (receiver 3 false 2 false P.Search)))
+    ∷ gives (calls (bad 3 2) [] 0 []) (done (idle (bad 3 2)))
+    ∷ gives (calls (receiver 3 false 2 false P.SequenceAlarm) [] 0 [])
     (done (record { rule = standing E.SequenceAlarm; row = []; used = 0; state = receiver 3 false 2 false P.SequenceAlarm }))
     -- a standing alarm takes all bits, sets the return bit and clears the bad row
-    ∷ gives (receive (receiver 3 false 2 false P.LengthAlarm) (0 ∷ []) 5 [])
+    ∷ gives (calls (receiver 3 false 2 false P.LengthAlarm) (0 ∷ []) 5 [])
     (done (record { rule = standing E.LengthAlarm; row = []; used = 5; state = receiver 0 true 2 false P.LengthAlarm }))
     -- a short line slice under a standing alarm
-    ∷ gives (receive (receiver 0 true 2 false P.SequenceAlarm) (0 ∷ []) 9 []) (refused A.short)
+    ∷ gives (calls (receiver 0 true 2 false P.SequenceAlarm) (0 ∷ []) 9 []) (refused A.short)
     -- a search call of more than 16 bits; the bits behind the sequence are not used
     ∷ finds (receiver 5 true 2 false P.Search) (zeros 8 ++ (syncSequence ++ zeros 4)) 24 (good 2 false)
     -- 15 bits held, then one: the window slides on
@@ -86,9 +104,9 @@ cases =
     ∷ reads (good 1093 false) (zeroBlock letterB) anything-else (bad 1 1093)
     ∷ reads (good 1093 false) (zeroBlock letterA) previous (good 1093 false)
     ∷ reads (good 1093 false) (zeroBlock letterC) out-of-sequence (receiver 0 true 1093 false P.SequenceAlarm)
-    ∷ reads (good 1093 false) (endBlock 262144) (ends 262144) (good 1093 true)
+    ∷ takes (good 1093 false) (endBlock 262144) (ends 262144) (good 1093 true)
     -- an end block: its L makes r items or another number; its version and L are within range or not
-    ∷ reads (good 2 false) (endBlock 241) (ends 241) (good 2 true)
+    ∷ takes (good 2 false) (endBlock 241) (ends 241) (good 2 true)
     ∷ reads (good 2 false) (endBlock 240) wrong-length (receiver 0 true 2 false P.LengthAlarm)
     ∷ reads (good 1093 false) (endBlock 262145) wrong-length (receiver 0 true 1093 false P.LengthAlarm)
     ∷ reads (good 1 false) (zeroBlock endService) wrong-length (receiver 0 true 1 false P.LengthAlarm)
@@ -96,16 +114,22 @@ cases =
     ∷ reads (good 2 true) (endBlock 240) ends-again (good 2 true)
     ∷ reads (good 2 true) (zeroBlock letterC) out-of-sequence (receiver 0 true 2 true P.SequenceAlarm)
     ∷ reads (good 2 true) (zeroBlock letterB) out-of-sequence (receiver 0 true 2 true P.SequenceAlarm)
-    -- the store is judged only where a block would be accepted, and then none of the bits is used
-    ∷ gives (receive (good 0 false) (bytesOf 33 (zeroBlock letterA)) 260 (replicate 29 0)) (refused A.short)
-    ∷ reads (good 0 false) (zeroBlock letterA) accepts (good 1 false)
-    ∷ gives (receive (good 1 false) (bytesOf 33 (zeroBlock letterA)) 260 [])
-    (done (record { rule = previous; row = zeroBlock letterA; used = 260; state = good 1 false }))
+    -- a wait clears the bad row
+    ∷ takes (bad 7 0) (zeroBlock letterA) accepts (good 1 false)
+    -- the store is judged only where a block would be accepted and does not wait, and then none of the bits is used
+    ∷ divides (calls (good 0 false) (bytesOf 33 (zeroBlock letterA)) 260 (replicate 29 0)) (refused A.short)
+    (whole (zeroBlock letterA) waits (waited 0))
+    ∷ takes (good 0 false) (zeroBlock letterA) accepts (good 1 false)
+    ∷ gives (calls (good 1 false) (bytesOf 33 (zeroBlock letterA)) 260 []) (whole (zeroBlock letterA) previous (good 1 false))
     ∷ []
 
-pub corners : map (λ c. c .call) cases ≡ map (λ c. c .answer) cases
+pub corners : map (λ c. c .call true) cases ≡ map (λ c. c .answer true) cases
 unfolding received
 corners = refl
+
+pub busy-corners : map (λ c. c .call false) cases ≡ map (λ c. c .answer false) cases
+unfolding received
+busy-corners = refl
 
 -- a block split into calls of one bit is read as in one call
 abbrev tail : Bits
@@ -124,7 +148,11 @@ waiting =
       held = refl;
     }
 
-pub one-bit-calls : bitByBit (bad 2 0) (replicate 30 0) (false ∷ tail) (refused 0)
-    ≡ done (record { rule = accepts; row = zeroBlock letterA; used = 1; state = good 1 false })
+abbrev lastBit : Rule → Receiver → Answer Reception
+lastBit rule after = done (record { rule = rule; row = zeroBlock letterA; used = 1; state = after })
+
+pub one-bit-calls : (ready : Bool) → bitByBit (bad 2 0) ready (replicate 30 0) (false ∷ tail) (refused 0)
+    ≡ cond ready (lastBit accepts (good 1 false)) (lastBit waits (waited 0))
 unfolding received
-one-bit-calls = bit-by-bit (bad 2 0) (replicate 30 0) false tail (refused 0) waiting
+one-bit-calls true = bit-by-bit (bad 2 0) true (replicate 30 0) false tail (refused 0) waiting
+one-bit-calls false = bit-by-bit (bad 2 0) false (replicate 30 0) false tail (refused 0) waiting

@@ -59,7 +59,7 @@ w = final w₀ calls
 abbrev reads : (Bits → Rule) → Reception
 reads rule = stops (bad 1 1) (rule (payloadOf 240 (block 2))) (block 2) 260
 
-pub last-call : receive (w .receiver) (bytesOf 33 (block 2)) 260 one ≡ done (reads (endRule 240 1 false))
+pub last-call : receive (w .receiver) (bytesOf 33 (block 2)) 260 true one ≡ done (reads (endRule 240 1 false))
 unfolding trace
 last-call = refl
 

@@ -17,8 +17,8 @@ use Rattle.witness.proofs.TwoItems.{order, content, block, one, two, w�
 -- A reading of 1 where 0 was meant, and damage up to a synchronising block, the eighth bad in a row. The five periods
 -- behind it are undisturbed: the search passes item 1 and a cancelled block, finds the next synchronising block, item 1 is
 -- the previous one, and then comes the end.
-abbrev pub waits : List Row
-waits =
+abbrev pub late : List Row
+late =
     synchronised sixty
     ∷ accepted sixty
     ∷ period order one two false (block 1) (item 1 false true false) false true E.Accepted
@@ -38,15 +38,15 @@ waits =
     ∷ ends sixty false
     ∷ []))
 
-pub waits-computed : trace w₀ waits ≡ waits
+pub late-computed : trace w₀ late ≡ late
 unfolding trace
-waits-computed = refl
+late-computed = refl
 
-pub waits-meets : Assumptions 240 content (course w₀ (allCalls waits))
+pub late-meets : Assumptions 240 content (course w₀ (allCalls late))
 unfolding trace
-waits-meets = meets 240 content (course w₀ (allCalls waits)) refl
+late-meets = meets 240 content (course w₀ (allCalls late)) refl
 
 -- what each call did
-pub waits-told : map outcome (course w₀ (allCalls waits)) ≡ flatMap (λ r. r .outcomes) waits
+pub late-told : map outcome (course w₀ (allCalls late)) ≡ flatMap (λ r. r .outcomes) late
 unfolding trace
-waits-told = refl
+late-told = refl

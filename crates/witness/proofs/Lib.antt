@@ -1,10 +1,10 @@
 -- Computed witnesses. The receiving end's corner cases: Corners; all values of the service bits: ServiceValues; a call in
 -- pieces: Pieces; the sending end: Sends. How a list of calls is written and judged: Meets, PeriodRows, TwoItems. Lists that
--- meet all that demand 3 supposes: Example, Repeats, Losses; with marks: Marked; of a tint order, which is then read: Tinted.
--- Tint orders and their refusals by example: TintCases.
+-- meet all that demand 3 supposes: Example, Repeats, Losses; with marks: Marked; of a tint order, which is then read: Tinted;
+-- with a machine that is not ready: Busy. Tint orders and their refusals by example: TintCases.
 -- Why a good block between two losses is needed: Moved; why the machine is opened anew: NotOpened; why both ends use marks or
 -- neither: NotAlike; why an end block is not taken without its length: EndLength; why four undisturbed periods do not suffice:
--- FourPeriods.
+-- FourPeriods; why a period with a wait is not undisturbed: Busy.
 pub mod Corners
 pub mod ServiceValues
 pub mod Pieces
@@ -15,6 +15,7 @@ pub mod TwoItems
 pub mod Example
 pub mod Repeats
 pub mod Losses
+pub mod Busy
 pub mod Marked
 pub mod TintCases
 pub mod Tinted

@@ -7,15 +7,15 @@ use Prim.Native.Nat.{ℕ, suc, _≤_}
 use lib.Dec.{eqb}
 use denote.Enum.Declared.{tagOf}
 use lib.ListN.{length, take, drop, length-take, take-append-drop}
-use borrow.Author.Tests.{eqb-true, not-true}
+use borrow.Author.Tests.{eqb-true, not-true, not-false}
 use Rattle.crc.specs.Bits.{Bits, zeros, parity, xorBits}
 use Rattle.crc.specs.Damage.{Damage, odd-number, burst}
 use Rattle.block.specs.Lengths.{blockLength}
-use Rattle.block.proofs.Truth.{and-true}
+use Rattle.block.proofs.Truth.{and-true, or-false, or-yes}
 use Rattle.line.specs.Sending.{Block, synchronising, item}
 use Rattle.line.specs.Receiving.{meaning}
 use Rattle.line.specs.Course.{Sent, Heard, Entry, send-refused, receive-refused, sent, heard, onSent, onHeard}
-use Rattle.line.specs.Delivery.{All, eventOf, isCancelled, isItem, OnLine, SameOrder, SameStore, Admitted, NotWhole, SyncAtLast, SyncNotData, Assumptions}
+use Rattle.line.specs.Delivery.{All, some, eventOf, isAlarm, isLost, isCancelled, isItem, OnLine, SameOrder, SameStore, Admitted, NotWhole, SyncAtLast, SyncNotData, Assumptions}
 use Rattle.line.proofs.Delivery.BetweenLosses.{implies, implies-true, spaced, spaced-between, BetweenLosses, between-spaced}
 use Rattle.line.specs.declared.receiving.Event.{Event}
 use Rattle.line.specs.declared.receiving.Event.the-variants as E
@@ -41,13 +41,13 @@ same-list eq f (a ∷ x) (b ∷ y) h =
 abbrev pub sameBits : Bits → Bits → Bool
 sameBits = same Bool·beq
 
-same-bit : (a b : Bool) → Bool·beq a b ≡ true → a ≡ b
+pub same-bit : (a b : Bool) → Bool·beq a b ≡ true → a ≡ b
 same-bit true true h = refl
 same-bit true false h = absurd (false≢true h)
 same-bit false true h = absurd (false≢true h)
 same-bit false false h = refl
 
-same-bits : (x y : Bits) → sameBits x y ≡ true → x ≡ y
+pub same-bits : (x y : Bits) → sameBits x y ≡ true → x ≡ y
 same-bits = same-list Bool·beq same-bit
 
 bits-same : (x : Bits) → sameBits x x ≡ true
@@ -216,24 +216,22 @@ entry-meets k content (heard y) h = heard-meets k content y h
 
 -- ---- the list
 
-abbrev eachMeets : ℕ → Bits → List Entry → Bool
-eachMeets k content [] = true
-eachMeets k content (e ∷ es) = entryMeets k content e && eachMeets k content es
+-- an entry that breaks one of them
+abbrev pub unmet : ℕ → Bits → Entry → Bool
+unmet k content e = not (entryMeets k content e)
 
-all-met : (k : ℕ) (content : Bits) (es : List Entry) → eachMeets k content es ≡ true → All (Met k content) es
+all-met : (k : ℕ) (content : Bits) (es : List Entry) → some (unmet k content) es ≡ false → All (Met k content) es
 all-met k content [] h = tt
 all-met k content (e ∷ es) h =
-    let a = and-true _ _ h in
-    (entry-meets k content e (a .0), all-met k content es (a .1))
+    let a = or-false (unmet k content e) (some (unmet k content) es) h in
+    (entry-meets k content e (not-false (entryMeets k content e) (a .0)), all-met k content es (a .1))
 
 all-map : {P Q : Entry → Type 0} → ((e : Entry) → P e → Q e) → (es : List Entry) → All P es → All Q es
 all-map f [] h = tt
 all-map f (e ∷ es) h = (f e (h .0), all-map f es (h .1))
 
-pub meets : (k : ℕ) (content : Bits) (es : List Entry) → eachMeets k content es && spaced false es ≡ true → Assumptions k content es
-meets k content es h =
-    let a = and-true _ _ h in
-    let m = all-met k content es (a .0) in
+assumed : (k : ℕ) (content : Bits) (es : List Entry) → All (Met k content) es → spaced false es ≡ true → Assumptions k content es
+assumed k content es m s =
     record {
       line = all-map (λ e c. c .line) es m;
       order = all-map (λ e c. c .order) es m;
@@ -242,12 +240,28 @@ meets k content es h =
       not-whole = all-map (λ e c. c .not-whole) es m;
       sync-at-last = all-map (λ e c. c .sync-at-last) es m;
       sync-not-data = all-map (λ e c. c .sync-not-data) es m;
-      between-losses = spaced-between es (a .1);
+      between-losses = spaced-between es s;
     }
 
+pub meets : (k : ℕ) (content : Bits) (es : List Entry) → not (some (unmet k content) es) && spaced false es ≡ true → Assumptions k content es
+meets k content es h =
+    let a = and-true _ _ h in
+    assumed k content es (all-met k content es (not-true _ (a .0))) (a .1)
+
+unlost-spaced : (es : List Entry) → some isLost es ≡ false → spaced false es ≡ true
+unlost-spaced [] h = refl
+unlost-spaced (e ∷ es) h =
+    let a = or-false (isLost e) (some isLost es) h in
+    rw (a .0, unlost-spaced es (a .1), or-yes (isAlarm e))
+
+-- where no request is lost
+pub meets-unlost : (k : ℕ) (content : Bits) (es : List Entry) → some (unmet k content) es ≡ false → some isLost es ≡ false
+    → Assumptions k content es
+meets-unlost k content es met unlost = assumed k content es (all-met k content es met) (unlost-spaced es unlost)
+
 -- where losses are not spaced, that clause alone is broken
-pub breaks : (k : ℕ) (content : Bits) (es : List Entry) → eachMeets k content es && not (spaced false es) ≡ true
+pub breaks : (k : ℕ) (content : Bits) (es : List Entry) → not (some (unmet k content) es) && not (spaced false es) ≡ true
     → All (Met k content) es × (BetweenLosses es → ⊥)
 breaks k content es h =
     let a = and-true _ _ h in
-    (all-met k content es (a .0), λ b. false≢true (sym (ap not (between-spaced es b)) ∙ a .1))
+    (all-met k content es (not-true _ (a .0)), λ b. false≢true (sym (ap not (between-spaced es b)) ∙ a .1))

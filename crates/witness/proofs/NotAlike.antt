@@ -61,7 +61,7 @@ pub alarms-fails : Guarantees 240 480 content initialStore (course w₀ (allCall
 unfolding trace
 alarms-fails g =
     false≢true
-    (g .alarm (course w₀ before) [] (entry (final w₀ before) (receiving (bytesOf 33 (Two.block 0)) 260 initialStore)) refl refl)
+    (g .alarm (course w₀ before) [] (entry (final w₀ before) (receiving (bytesOf 33 (Two.block 0)) 260 true initialStore)) refl refl)
 
 -- ---- marks at the sender alone: item 0's mark is rule 7's matter, and the receiver is back in search each time it comes
 

@@ -48,7 +48,7 @@ abbrev pub allCalls : List Row → List Call
 allCalls = flatMap (λ r. r .calls)
 
 -- `receive`, and where this unfolds so does all that it computes with
-unfoldable pub received : Receiver → List ℕ → ℕ → List ℕ → Answer Reception
+unfoldable pub received : Receiver → List ℕ → ℕ → Bool → List ℕ → Answer Reception
 unfolding receive receiverInRange marksInRange isCodeSize reception inStep judge looksSync verdict passes remainder check blockBits syncBlock serviceRule endRule endPayload markRule place isOf isMark letter isLetter validLength itemCount number binary bitsOf bytesOf zeroArray freshReceiver isLength storeAt
 received = receive
 
@@ -94,21 +94,29 @@ good taken ended = receiver 0 false taken ended P.InStep
 abbrev pub bad : (bad-row taken : ℕ) → Receiver
 bad bad-row taken = receiver bad-row true taken false P.InStep
 
+-- in step behind a block that waits
+abbrev pub waited : (taken : ℕ) → Receiver
+waited taken = bad 0 taken
+
 -- between two periods all bits of the last block are used
 abbrev pub between : Sender → Receiver → List ℕ → Block → World
 between s r store b = record { sender = s; receiver = r; store = store; block = b; left = [] }
 
--- A period: one sending call, and one receiving call that takes the whole copy. The order, the store lent and as it is
--- left; the reading and the copy; the block sent, the return bit then standing, whether the copy is as sent, the event; the
--- states afterwards.
-abbrev pub period : (order store store′ : List ℕ) (reading : Bool) (arrives : Bits) (b : Block) (back as-sent : Bool) (event : Event)
-    (s : Sender) (r : Receiver) → Row
-period order store store′ reading arrives b back as-sent event s r =
+-- A period: one sending call, and one receiving call that takes the whole copy. Whether the machine is ready; the order, the
+-- store lent and as it is left; the reading and the copy; the block sent, the return bit then standing, whether the copy is as
+-- sent, the event; the states afterwards.
+abbrev pub periodWith : (ready : Bool) (order store store′ : List ℕ) (reading : Bool) (arrives : Bits) (b : Block) (back as-sent : Bool)
+    (event : Event) (s : Sender) (r : Receiver) → Row
+periodWith ready order store store′ reading arrives b back as-sent event s r =
     record {
-      calls = sending order reading (replicate 33 0) arrives ∷ receiving (bytesOf 33 arrives) 260 store ∷ [];
+      calls = sending order reading (replicate 33 0) arrives ∷ receiving (bytesOf 33 arrives) 260 ready store ∷ [];
       outcomes = sends b reading back as-sent ∷ hears event 260 ∷ [];
       world = between s r store′ b;
     }
+
+abbrev pub period : (order store store′ : List ℕ) (reading : Bool) (arrives : Bits) (b : Block) (back as-sent : Bool) (event : Event)
+    (s : Sender) (r : Receiver) → Row
+period = periodWith true
 
 -- the first bit inverted
 abbrev pub damaged : Bits → Bits

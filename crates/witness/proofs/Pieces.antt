@@ -8,7 +8,7 @@ use Rattle.crc.specs.Bits.{Bits, bytesOf}
 use Rattle.block.specs.Answer.{done}
 use Rattle.block.specs.Block.{syncBlock}
 use Rattle.line.specs.Order.{letterA, letterB}
-use Rattle.line.specs.Receiving.{sequence-found, accepts, blank}
+use Rattle.line.specs.Receiving.{sequence-found, accepts, waits, blank}
 use Rattle.line.specs.Pieces.{Piece, call, Pieces}
 use Rattle.line.specs.declared.receiver.Receiver.{Receiver}
 use Rattle.line.specs.declared.receiving.Phase.the-variants as P
@@ -28,11 +28,11 @@ abbrev all : Piece
 all = record { line = bytesOf 40 (earlier ++ drop 20 (syncBlock 240)); count = 320 }
 
 -- found at the last bit
-pub search-split : call searches [] all
+pub search-split : call searches true [] all
     ≡ record { answer = done (record { rule = sequence-found; row = []; used = 320; state = blank searches 0 false 2 false P.InStep }); store = [] }
 unfolding Pieces received
 search-split =
-    pieces searches [] all (record { line = bytesOf 10 earlier; count = 80 })
+    pieces searches true [] all (record { line = bytesOf 10 earlier; count = 80 })
     (record { line = bytesOf 30 (drop 20 (syncBlock 240)); count = 240 } ∷ [])
     length-zeroArray refl refl refl
 
@@ -54,10 +54,19 @@ abbrev joint : Piece
 joint = record { line = bytesOf 38 (zeroBlock letterA ++ take 40 (zeroBlock letterB)); count = 300 }
 
 -- accepted and stored at the block's last bit
-pub step-split : call stepping (replicate 30 255) joint
+pub step-split : call stepping true (replicate 30 255) joint
     ≡ record {
       answer = done (record { rule = accepts; row = zeroBlock letterA; used = 260; state = blank stepping 0 false 1 false P.InStep });
       store = replicate 30 0;
     }
 unfolding Pieces received
-step-split = pieces stepping (replicate 30 255) joint first further length-zeroArray refl refl refl
+step-split = pieces stepping true (replicate 30 255) joint first further length-zeroArray refl refl refl
+
+-- the machine not ready, it waits at that bit, and nothing is stored
+pub wait-split : call stepping false (replicate 30 255) joint
+    ≡ record {
+      answer = done (record { rule = waits; row = zeroBlock letterA; used = 260; state = blank stepping 0 true 0 false P.InStep });
+      store = replicate 30 255;
+    }
+unfolding Pieces received
+wait-split = pieces stepping false (replicate 30 255) joint first further length-zeroArray refl refl refl

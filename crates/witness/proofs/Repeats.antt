@@ -14,7 +14,7 @@ use Rattle.line.specs.declared.receiving.Event.the-variants as E
 use Rattle.line.specs.declared.receiving.Phase.the-variants as P
 use Rattle.witness.proofs.Meets.{meets}
 use Rattle.witness.proofs.PeriodRows.{Row, allCalls, trace, sender, receiver, good, bad, period}
-use Rattle.witness.proofs.TwoItems.{Items, blockOf, order, content, block, one, two, w₀, sixty, synchronised, accepted, asks, cancels, fails, resynchronises, ends}
+use Rattle.witness.proofs.TwoItems.{Items, order, content, block, one, two, w₀, sixty, synchronised, accepted, asks, cancels, fails, resynchronises, accepted-again, ends, finishes}
 
 -- ---- any order of two data items
 
@@ -25,14 +25,7 @@ module _ (x : Items) where
 
   -- Item 1 is repeated.
   abbrev pub repeats : List Row
-  repeats =
-      asked
-      ++ (period (x .order) (x .one) (x .two) true (blockOf x 1) (item 1 false false false) true true E.Accepted
-      (sender (x .L) 2 1 false Newer false) (good 2 false)
-      ∷ ends x false
-      ∷ period (x .order) (x .two) (x .two) false (blockOf x 3) (item 3 true true false) false true E.Previous
-      (sender (x .L) 3 0 false Newer true) (good 2 true)
-      ∷ [])
+  repeats = asked ++ (accepted-again x ∷ ends x false ∷ finishes x ∷ [])
 
 -- ---- the order of 60 bytes
 

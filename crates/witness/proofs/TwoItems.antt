@@ -60,11 +60,23 @@ module _ (x : Items) where
       period (x .order) store store true (cancelled (blockOf 2)) (item 2 true true true) back true E.Bad
       (sender (x .L) 2 run false next false) r
 
+  -- item 1 comes again, and is accepted
+  abbrev pub accepted-again : Row
+  accepted-again =
+      period (x .order) (x .one) (x .two) true (blockOf 1) (item 1 false false false) true true E.Accepted
+      (sender (x .L) 2 1 false Newer false) (good 2 false)
+
   -- item 2 brings the end: the return bit then standing
   abbrev pub ends : Bool → Row
   ends back =
       period (x .order) (x .two) (x .two) false (blockOf 2) (item 2 true true false) back true (E.Ended (x .L))
       (sender (x .L) 3 0 false Newer false) (good 2 true)
+
+  -- item 3, the end again, and the sender is finished
+  abbrev pub finishes : Row
+  finishes =
+      period (x .order) (x .two) (x .two) false (blockOf 3) (item 3 true true false) false true E.Previous
+      (sender (x .L) 3 0 false Newer true) (good 2 true)
 
 -- ---- one of 60 bytes
 

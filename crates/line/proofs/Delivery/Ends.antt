@@ -164,7 +164,7 @@ pub record Between (s : Ends) (n : Next) : Type 0 where
   pub zero : s .bad-row + 8 * s .search ≤ 8 * s .back
   pub behind : s .taken + s .ended ≤ s .item
   pub ahead : s .item ≤ s .taken + s .ended + 1 + s .danger
-  pub ready : s .item + 2 * isNewer n ≤ s .taken + s .ended + 2 * s .back + 2
+  pub newer : s .item + 2 * isNewer n ≤ s .taken + s .ended + 2 * s .back + 2
   pub rows : s .bad-row ≤ 2 * s .run + isNewer n + 8 * s .opening + 8 * s .lost
   pub searches : 8 * s .search ≤ 2 * s .run + isNewer n + 8 * s .opening + 8 * s .lost
   pub resync : 4 * isSync n ≤ s .run + 4 * s .opening + 4 * s .lost

@@ -27,7 +27,7 @@ use Rattle.line.specs.ReceivingInPlace.{withArray}
 -- ---- what the private functions ask of their arguments
 
 -- an array of a receiver's length, and a head whose fields that a block's judging uses are in range
-pub record ReadyHead (h : Head) (array : List ℕ) : Type 0 where
+pub record HeadInRange (h : Head) (array : List ℕ) : Type 0 where
   pub array-length : length array ≡ arrayBytes
   pub known : isLength (h .setup .k) ≡ true
   pub bad-row : h .«bad_row» < lastBad
@@ -35,7 +35,7 @@ pub record ReadyHead (h : Head) (array : List ℕ) : Type 0 where
 
 -- and a slice that holds the n bits of a block
 pub record FinishedBlock (h : Head) (array slice : List ℕ) : Type 0 where
-  pub ready : ReadyHead h array
+  pub range : HeadInRange h array
   pub held : blockLength (h .setup .k) ≤ 8 * length slice
 
 -- a window of at most 15 bits

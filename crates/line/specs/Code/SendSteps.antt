@@ -12,13 +12,13 @@ use Rattle.line.specs.declared.sender.Step.{Step}
 use Rattle.line.specs.Sending.{lastRun, transmit, senderInRange, sendBytes, sentAnswer}
 
 -- a state in range that is not at rest for giving up
-pub record Ready (s : Sender) : Type 0 where
+pub record GoingOn (s : Sender) : Type 0 where
   pub range : senderInRange s ≡ true
-  pub going-on : s .run < lastRun
+  pub run : s .run < lastRun
 
 -- such a state, with the order lent whole and room for the block
 pub record Lent (s : Sender) (order slice : List ℕ) : Type 0 where
-  pub ready : Ready s
+  pub sender : GoingOn s
   pub order-lent : s .setup .length ≤ 8 * length order
   pub room : blockLength (s .setup .k) ≤ 8 * length slice
 

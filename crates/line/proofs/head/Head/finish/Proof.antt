@@ -28,7 +28,7 @@ by-row h array store used ready row row′ r array′ store′ e =
 judge-requires : tie.Need-judge-requires
 judge-requires c κs =
     let a = c .before .before .before .before .before .before .before in
-    record { ready = a .pre .0; held = omega arith }
+    record { range = a .pre .0; held = omega arith }
 
 same-length : tie.Need-same-length
 same-length c = search needs
@@ -63,7 +63,7 @@ judge-requires-2 c κs =
     let a = c .before .before .before .before .before .before .before .before .before .before .before .before .before in
     let f = length-facts (a .args .self .setup .k) (a .pre .0 .known) in
     let n : length (c .before .before .before .before .put-bits .last .0) ≡ 483 = search needs in
-    record { ready = a .pre .0; held = omega arith }
+    record { range = a .pre .0; held = omega arith }
 
 same-length-3 : tie.Need-same-length-3
 same-length-3 c = search needs

@@ -31,7 +31,7 @@ passed-rule c =
     let j = c .before in
     let k = j .before .before .before .before in
     let e = sym (k .before .before .looks-sync .ensures) ∙ k .before .if1 .left in
-    let v = check-passes (a .args .self .setup .k) (a .pre .ready .known) (a .args .row .now) (a .pre .held) _ (k .check-block .ensures) _ (j .before .before .answer .given .1) in
+    let v = check-passes (a .args .self .setup .k) (a .pre .range .known) (a .args .row .now) (a .pre .held) _ (k .check-block .ensures) _ (j .before .before .answer .given .1) in
     c .or-wait .ensures ∙ ap (orWait (a .args .ready)) (j .service-rule .ensures)
     ∙ rule-passed (withArray (a .args .self) (a .args .array .now)) _ (a .args .ready) _ e v
 
@@ -69,7 +69,7 @@ returns-2 c =
     let b = m .before .before in
     let a = b .before .before .before .before .before in
     let e = sym (b .before .looks-sync .ensures) ∙ b .if1 .left in
-    let v = check-not-passed (a .args .self .setup .k) (a .pre .ready .known) (a .args .row .now) (a .pre .held) _ (m .before .check-block .ensures) (m .match .keys2) in
+    let v = check-not-passed (a .args .self .setup .k) (a .pre .range .known) (a .args .row .now) (a .pre .held) _ (m .before .check-block .ensures) (m .match .keys2) in
     handed-rule _ _ _ _ _ (a .args .ready) check-fails (rule-failed (withArray (a .args .self) (a .args .array .now)) _ (a .args .ready) e v) refl
     (c .before .before .after-bad .ensures ∙ handed-bad (withArray (a .args .self) (a .args .array .now)) (a .args .used))
 

@@ -66,14 +66,14 @@ module _ (s : Receiver) (known : isLength (s .setup .k) ≡ true) (slice store :
 mul-start : tie.Need-mul-start
 mul-start c =
     let a = c .before .before .before .before .before in
-    let h = start-lt (a .args .self .setup .k) (a .args .self .taken) (a .pre .0 .ready .known) (a .pre .0 .ready .items) in
+    let h = start-lt (a .args .self .setup .k) (a .args .self .taken) (a .pre .0 .range .known) (a .pre .0 .range .items) in
     omega arith
 
 add-move-data : tie.Need-add-move-data
 add-move-data c =
     let a = c .before .before .before .before .before in
-    let h = start-lt (a .args .self .setup .k) (a .args .self .taken) (a .pre .0 .ready .known) (a .pre .0 .ready .items) in
-    let f = length-facts (a .args .self .setup .k) (a .pre .0 .ready .known) in
+    let h = start-lt (a .args .self .setup .k) (a .args .self .taken) (a .pre .0 .range .known) (a .pre .0 .range .items) in
+    let f = length-facts (a .args .self .setup .k) (a .pre .0 .range .known) in
     omega arith
 
 sub-move-data : tie.Need-sub-move-data
@@ -85,7 +85,7 @@ part-move-data-start c = search needs
 part-move-data-end : tie.Need-part-move-data-end
 part-move-data-end c =
     let a = c .before .before .before .before .before in
-    room (a .args .self .setup .k) (a .args .self .taken) (a .pre .0 .ready .known) (a .args .store .now) (a .pre .1)
+    room (a .args .self .setup .k) (a .args .self .taken) (a .pre .0 .range .known) (a .args .store .now) (a .pre .1)
 
 move-data-requires : tie.Need-move-data-requires
 move-data-requires c κs = search needs
@@ -104,7 +104,7 @@ returns c =
     let m = c .before .before .before .before .before .before in
     let l = m .before .before in
     let a = l .before .before .before .before .before in
-    stored (withArray (a .args .self) (a .args .array .now)) (a .pre .0 .ready .known) (a .args .row .now) (a .args .store .now) (a .args .used) (a .pre .0 .held)
+    stored (withArray (a .args .self) (a .args .array .now)) (a .pre .0 .range .known) (a .args .row .now) (a .args .store .now) (a .args .used) (a .pre .0 .held)
     (λ i. l .before .before .slice-known2 .given i .fits) (a .pre .1) _ _ (m .move-data .ensures) _ (c .before .before .stop .ensures)
 
 pub store-item-spec : {M : Type 1} → statement M

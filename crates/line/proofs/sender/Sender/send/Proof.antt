@@ -11,7 +11,7 @@ use Rattle.block.proofs.Lengths.{length-facts}
 use Rattle.line.specs.Sending.{senderInRange, gaveUp, transmit, send}
 use Rattle.line.specs.Code.SendSteps.{Lent}
 use Rattle.line.proofs.Items.{valid-length}
-use Rattle.line.proofs.SenderRange.{in-range, refused-call, sent-call, spoiled-call, rest-call, ready, order-call, slice-call, going-call}
+use Rattle.line.proofs.SenderRange.{in-range, refused-call, sent-call, spoiled-call, rest-call, goes-on, order-call, slice-call, going-call}
 use Rattle.line.proofs.sender.Sender.send.Statement.{statement}
 use Rattle.line.proofs.sender.Sender.send.Tie as tie
 
@@ -100,7 +100,7 @@ prepared c =
     let l = c .before .before .before .before in
     let g = l .before .before .before in
     record {
-      ready = ready (start c .args .self) (start c .args .order .now) (start c .args .reading) (start c .args .block .now) (ranged (g .before .before)) (going g);
+      sender = goes-on (start c .args .self) (start c .args .order .now) (start c .args .reading) (start c .args .block .now) (ranged (g .before .before)) (going g);
       order-lent = ltb-false _ _ (lent l);
       room = ltb-false _ _ (room c);
     }
@@ -118,7 +118,7 @@ enum-told : tie.Need-enum-told
 enum-told c = search needs
 
 send-sync-requires : tie.Need-send-sync-requires
-send-sync-requires c κs = let p = prepared (c .before .before .before) in (p .ready, p .room)
+send-sync-requires c κs = let p = prepared (c .before .before .before) in (p .sender, p .room)
 
 enum-told-2 : tie.Need-enum-told-2
 enum-told-2 c = search needs

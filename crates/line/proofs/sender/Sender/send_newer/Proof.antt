@@ -19,7 +19,7 @@ use Rattle.line.proofs.sender.Sender.send_newer.Tie as tie
 write-item-requires : tie.Need-write-item-requires
 write-item-requires c κs =
     let start = c .before .before .before .before in
-    let r = in-range (start .args .self) (start .pre .ready .range) in
+    let r = in-range (start .args .self) (start .pre .sender .range) in
     (r .known, r .valid, start .pre .order-lent, start .pre .room)
 
 cancel-block-requires : tie.Need-cancel-block-requires
@@ -45,7 +45,7 @@ returns c =
     let s = a .self in
     let k = s .setup .k in
     let L = s .setup .length in
-    let r = in-range s (start .pre .ready .range) in
+    let r = in-range s (start .pre .sender .range) in
     let content : Bits = orderBits L (a .order .now) in
     let row : Bits = itemBits (s .setup .marks) k L content (s .newer) in
     let n : length row ≡ blockLength k =

@@ -10,13 +10,13 @@ use Rattle.line.proofs.sender.Sender.send_older.Tie as tie
 sub-older : tie.Need-sub-older
 sub-older c =
     let start = c .before .before .before .before in
-    let r = in-range (start .args .self) (start .pre .ready .range) in
+    let r = in-range (start .args .self) (start .pre .sender .range) in
     omega (arith, r .first)
 
 write-item-requires : tie.Need-write-item-requires
 write-item-requires c κs =
     let start = c .before .before .before .before .before in
-    let r = in-range (start .args .self) (start .pre .ready .range) in
+    let r = in-range (start .args .self) (start .pre .sender .range) in
     (r .known, r .valid, start .pre .order-lent, start .pre .room)
 
 item-requires : tie.Need-item-requires
