@@ -15,7 +15,7 @@ use Rattle.line.specs.declared.receiver.Receiver.{Receiver}
 use Rattle.line.specs.declared.receiving.Phase.the-variants as P
 use Rattle.line.specs.declared.receiving.Event.the-variants as E
 use Rattle.line.proofs.Delivery.WrittenBits.{length-zeroArray}
-use Rattle.line.proofs.Delivery.BitByBit.{bitByBit, Waiting, bit-by-bit}
+use Rattle.line.proofs.Delivery.BitByBit.{bitByBit, Missing, bit-by-bit}
 use Rattle.witness.proofs.PeriodRows.{received, receiver, good, bad, waited, damaged, zeroBlock}
 
 abbrev endBlock : ℕ → Bits
@@ -36,8 +36,8 @@ abbrev gives : (Bool → Answer Reception) → Answer Reception → Case
 gives call answer = record { call = call; answer = λ ready. answer }
 
 -- at ready, this; and otherwise that
-abbrev divides : (Bool → Answer Reception) → Answer Reception → Answer Reception → Case
-divides call this that = record { call = call; answer = λ ready. cond ready this that }
+abbrev depends : (Bool → Answer Reception) → Answer Reception → Answer Reception → Case
+depends call this that = record { call = call; answer = λ ready. cond ready this that }
 
 -- a block lent whole in one call, with a store for the first item
 abbrev lends : Receiver → Bits → Bool → Answer Reception
@@ -52,7 +52,7 @@ reads s row rule after = gives (lends s row) (whole row rule after)
 
 -- ... or waits, where the machine is not ready
 abbrev takes : Receiver → Bits → Rule → Receiver → Case
-takes s row rule after = divides (lends s row) (whole row rule after) (whole row waits (waited (s .taken)))
+takes s row rule after = depends (lends s row) (whole row rule after) (whole row waits (waited (s .taken)))
 
 -- bits lent in search, with the sequence found at the last of them
 abbrev finds : Receiver → Bits → ℕ → Receiver → Case
@@ -117,7 +117,7 @@ cases =
     -- a wait clears the bad row
     ∷ takes (bad 7 0) (zeroBlock letterA) accepts (good 1 false)
     -- the store is judged only where a block would be accepted and does not wait, and then none of the bits is used
-    ∷ divides (calls (good 0 false) (bytesOf 33 (zeroBlock letterA)) 260 (replicate 29 0)) (refused A.short)
+    ∷ depends (calls (good 0 false) (bytesOf 33 (zeroBlock letterA)) 260 (replicate 29 0)) (refused A.short)
     (whole (zeroBlock letterA) waits (waited 0))
     ∷ takes (good 0 false) (zeroBlock letterA) accepts (good 1 false)
     ∷ gives (calls (good 1 false) (bytesOf 33 (zeroBlock letterA)) 260 []) (whole (zeroBlock letterA) previous (good 1 false))
@@ -135,9 +135,9 @@ busy-corners = refl
 abbrev tail : Bits
 tail = drop 1 (zeroBlock letterA)
 
-waiting : Waiting (bad 2 0) (length (false ∷ tail))
+all-missing : Missing (bad 2 0) (length (false ∷ tail))
 unfolding received
-waiting =
+all-missing =
     record {
       known = refl;
       marks = refl;
@@ -154,5 +154,5 @@ lastBit rule after = done (record { rule = rule; row = zeroBlock letterA; used =
 pub one-bit-calls : (ready : Bool) → bitByBit (bad 2 0) ready (replicate 30 0) (false ∷ tail) (refused 0)
     ≡ cond ready (lastBit accepts (good 1 false)) (lastBit waits (waited 0))
 unfolding received
-one-bit-calls true = bit-by-bit (bad 2 0) true (replicate 30 0) false tail (refused 0) waiting
-one-bit-calls false = bit-by-bit (bad 2 0) false (replicate 30 0) false tail (refused 0) waiting
+one-bit-calls true = bit-by-bit (bad 2 0) true (replicate 30 0) false tail (refused 0) all-missing
+one-bit-calls false = bit-by-bit (bad 2 0) false (replicate 30 0) false tail (refused 0) all-missing

@@ -75,10 +75,10 @@ unfolding trace
 example-stored = refl
 
 -- both ends opened at 200 bit/s with loop 0, and what demand 3 says of the calls as they run
-abbrev ready : Opened
-ready = record { state = freshReceiver 240 noMarks; answer = Opening.Opened }
+abbrev machine : Opened
+machine = record { state = freshReceiver 240 noMarks; answer = Opening.Opened }
 
-pub example-opened : Openings 240 200 0 8 C.NotGiven C.NotGiven order (freshSender 240 8 noMarks) ready initialStore
+pub example-opened : Openings 240 200 0 8 C.NotGiven C.NotGiven order (freshSender 240 8 noMarks) machine initialStore
 unfolding openSender loopTime isSpeed hasEntry longestLoop blockTime openReceiver isLength marksInRange itemCount
 example-opened =
     record {
@@ -92,5 +92,5 @@ example-opened =
 pub example-delivered : Delivered 240 8 content initialStore (runs (freshSender 240 8 noMarks) (freshReceiver 240 noMarks) (allCalls rows))
 unfolding Delivery
 example-delivered =
-    delivery 240 200 0 8 C.NotGiven C.NotGiven order (freshSender 240 8 noMarks) ready initialStore example-opened (allCalls rows)
+    delivery 240 200 0 8 C.NotGiven C.NotGiven order (freshSender 240 8 noMarks) machine initialStore example-opened (allCalls rows)
     (runs (freshSender 240 8 noMarks) (freshReceiver 240 noMarks) (allCalls rows))

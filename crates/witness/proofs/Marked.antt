@@ -82,10 +82,10 @@ unfolding trace
 whole-stored = refl
 
 -- both ends opened with marks, at 200 bit/s with loop 0, and what demand 3 says of the calls as they run
-abbrev ready : Opened
-ready = record { state = freshReceiver 240 eight; answer = Opening.Opened }
+abbrev machine : Opened
+machine = record { state = freshReceiver 240 eight; answer = Opening.Opened }
 
-pub whole-opened : Openings 240 200 0 480 (C.Given 5) (C.Given 8) order (freshSender 240 480 five) ready initialStore
+pub whole-opened : Openings 240 200 0 480 (C.Given 5) (C.Given 8) order (freshSender 240 480 five) machine initialStore
 unfolding openSender loopTime isSpeed hasEntry longestLoop blockTime openReceiver isLength marksInRange isCodeSize itemCount
 whole-opened =
     record {
@@ -100,7 +100,7 @@ pub whole-delivered :
     Delivered 240 480 content initialStore (runs (freshSender 240 480 five) (freshReceiver 240 eight) (allCalls whole))
 unfolding Delivery
 whole-delivered =
-    delivery 240 200 0 480 (C.Given 5) (C.Given 8) order (freshSender 240 480 five) ready initialStore whole-opened
+    delivery 240 200 0 480 (C.Given 5) (C.Given 8) order (freshSender 240 480 five) machine initialStore whole-opened
     (allCalls whole) (runs (freshSender 240 480 five) (freshReceiver 240 eight) (allCalls whole))
 
 -- ---- the reading of item 1 is turned over: item 1 is cancelled, and item 0, with its mark, is the previous item

@@ -114,6 +114,7 @@ periodWith ready order store store′ reading arrives b back as-sent event s r =
       world = between s r store′ b;
     }
 
+-- the machine being ready
 abbrev pub period : (order store store′ : List ℕ) (reading : Bool) (arrives : Bits) (b : Block) (back as-sent : Bool) (event : Event)
     (s : Sender) (r : Receiver) → Row
 period = periodWith true

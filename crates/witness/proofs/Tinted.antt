@@ -110,11 +110,11 @@ unfolding trace orderBytes
 tinted-stored = refl
 
 -- both ends opened without marks, at 200 bit/s with loop 0
-abbrev ready : Opened
-ready = record { state = freshReceiver 240 noMarks; answer = Opening.Opened }
+abbrev machine : Opened
+machine = record { state = freshReceiver 240 noMarks; answer = Opening.Opened }
 
 pub tinted-opened :
-    Openings 240 200 0 312 C.NotGiven C.NotGiven order (freshSender 240 312 noMarks) ready (items .initialStore)
+    Openings 240 200 0 312 C.NotGiven C.NotGiven order (freshSender 240 312 noMarks) machine (items .initialStore)
 unfolding openSender loopTime isSpeed hasEntry longestLoop blockTime openReceiver isLength marksInRange itemCount
 tinted-opened =
     record {
@@ -157,5 +157,5 @@ pub tinted : ReadAs doses result
 unfolding TintDelivery
 tinted =
     tint-delivery doses slice order 39 written order (bytes order refl) refl 240 200 0 312 C.NotGiven C.NotGiven
-    (freshSender 240 312 noMarks) ready (items .initialStore) refl (bytes (items .initialStore) refl) tinted-opened
+    (freshSender 240 312 noMarks) machine (items .initialStore) refl (bytes (items .initialStore) refl) tinted-opened
     (allCalls rows) tinted-meets tinted-ended result tinted-read

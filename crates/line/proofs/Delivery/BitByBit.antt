@@ -28,7 +28,7 @@ bitByBit s ready store (b ∷ bs) last =
     bitByBit (receiveState s (receive s (bytesOf 1 (b ∷ [])) 1 ready store)) ready store bs (receive s (bytesOf 1 (b ∷ [])) 1 ready store)
 
 -- in step, and so many bits of the block missing
-pub record Waiting (s : Receiver) (m : ℕ) : Type 0 where
+pub record Missing (s : Receiver) (m : ℕ) : Type 0 where
   pub known : isLength (s .setup .k) ≡ true
   pub marks : marksInRange (s .setup .marks) ≡ true
   pub bad-row : s .«bad_row» < lastBad
@@ -37,7 +37,7 @@ pub record Waiting (s : Receiver) (m : ℕ) : Type 0 where
   pub array : length (s .bits) ≡ arrayBytes
   pub held : s .held + m ≡ blockLength (s .setup .k)
 
-in-range : (s : Receiver) (m : ℕ) → Waiting s (suc m) → receiverInRange s ≡ true
+in-range : (s : Receiver) (m : ℕ) → Missing s (suc m) → receiverInRange s ≡ true
 in-range s m w =
     range-in s (record {
       known = w .known;
@@ -64,13 +64,13 @@ module _ (s : Receiver) (b ready : Bool) where
   oneMore = record { rule = unfinished; row = []; used = 1; state = holding s (b ∷ []) }
 
   -- not the block's last
-  bit-held : (m : ℕ) → Waiting s (suc (suc m))
+  bit-held : (m : ℕ) → Missing s (suc (suc m))
       → inStep s (b ∷ []) ready ≡ oneMore
   unfolding inStep
   bit-held m w = rw (lt-ltb 1 (missing s) (omega (arith, w .held)))
 
-  waits-on : (m : ℕ) → Waiting s (suc (suc m)) → Waiting (holding s (b ∷ [])) (suc m)
-  waits-on m w =
+  one-less : (m : ℕ) → Missing s (suc (suc m)) → Missing (holding s (b ∷ [])) (suc m)
+  one-less m w =
       record {
         known = w .known;
         marks = w .marks;
@@ -82,7 +82,7 @@ module _ (s : Receiver) (b ready : Bool) where
       }
 
   -- the block's last
-  bit-last : Waiting s 1
+  bit-last : Missing s 1
       → inStep s (b ∷ []) ready ≡ stops s (blockRule s (heldBits s ++ (b ∷ [])) ready) (heldBits s ++ (b ∷ [])) 1
   unfolding inStep
   bit-last w = let one : missing s ≡ 1 = omega (arith, w .held) in rw one refl
@@ -123,14 +123,14 @@ finished-holding s ready store new row row′ e =
     rule : Rule
     rule = blockRule s row′ ready
 
-pub bit-by-bit : (s : Receiver) (ready : Bool) (store : List ℕ) (b : Bool) (row : Bits) (last : Answer Reception) → Waiting s (length (b ∷ row))
+pub bit-by-bit : (s : Receiver) (ready : Bool) (store : List ℕ) (b : Bool) (row : Bits) (last : Answer Reception) → Missing s (length (b ∷ row))
     → bitByBit s ready store (b ∷ row) last ≡ finished s ready store (heldBits s ++ (b ∷ row))
 bit-by-bit s ready store b [] last w =
     one-call s b ready store (in-range s 0 w) (w .phase) ∙ ap (judgeStore s store) (bit-last s b ready w)
 bit-by-bit s ready store b (c ∷ row) last w =
     ap (λ (a : Answer Reception). bitByBit (receiveState s a) ready store (c ∷ row) a)
     (one-call s b ready store (in-range s (length (c ∷ row)) w) (w .phase) ∙ ap (judgeStore s store) (bit-held s b ready (length row) w))
-    ∙ bit-by-bit (holding s (b ∷ [])) ready store c row (done (oneMore s b ready)) (waits-on s b ready (length row) w)
+    ∙ bit-by-bit (holding s (b ∷ [])) ready store c row (done (oneMore s b ready)) (one-less s b ready (length row) w)
     ∙ finished-holding s ready store (b ∷ []) (heldBits (holding s (b ∷ [])) ++ (c ∷ row)) (heldBits s ++ (b ∷ (c ∷ row)))
     (ap (λ (r : Bits). r ++ (c ∷ row)) (heldBits-holding s (b ∷ []) (w .array) (omega (arith, w .held, length-facts (s .setup .k) (w .known))))
     ∙ append-assoc (heldBits s) (b ∷ []) (c ∷ row))
