@@ -2,20 +2,28 @@
 use mathlib.Core.Path.{_≡_, refl, sym, ap, _∙_}
 use mathlib.Core.Bool.{Bool, true, false, not, cond}
 use mathlib.Core.List.{List, []}
-use Prim.Native.Nat.{ℕ, _*_}
-use lib.ListN.{take}
+use mathlib.Core.Logic.{⊎-elim}
+use Prim.Native.Nat.{ℕ, _*_, _≤_, _<_}
+use native.Mathlib.Omega.{arith}
+use borrow.Author.Tests.{ltb-true, ltb-false}
+use lib.Dec.{eqb, ltb}
+use lib.ListN.{length, take, length-append}
+use lib.Seq.{length-take-le}
 use Rattle.crc.specs.Bits.{Bits, bitsOf}
 use Rattle.block.specs.Answer as A
 use Rattle.block.specs.Answer.{Answer, done, refuseIf}
 use Rattle.block.specs.Block.{payloadOf}
 use Rattle.block.specs.Calls.{tooShort}
-use Rattle.line.specs.Receiving.{Rule, meaning, judge, orWait, blockRule, Reception, idleRule, receiverInRange, judgeStore, reception, receive, storeAt}
+use Rattle.block.proofs.Truth.{either}
+use Rattle.line.specs.Receiving.{Rule, meaning, judge, orWait, heldBits, missing, finishedRow, inStep, byPhase, blockRule, Reception, idleRule, idle, receiverInRange, judgeStore, reception, receive, storeAt}
 use Rattle.line.specs.Readiness.{TakesNothing, Readiness}
 use Rattle.line.specs.declared.receiver.Receiver.{Receiver}
 use Rattle.line.specs.declared.receiving.Phase.{Phase}
 use Rattle.line.specs.declared.receiving.Phase.the-variants as P
 use Rattle.line.proofs.OrWait.{at-ready, others-stay, stores-nothing, takes-nothing}
-use Rattle.line.proofs.ReceivingCall.{idle-stores}
+use Rattle.line.proofs.InStepBits.{held-on, step-on, step-done}
+use Rattle.line.proofs.LineSearch.{search-stores}
+use Rattle.line.proofs.ReceivingCall.{InRange, in-range, held-step, idle-stores, heard}
 use Rattle.line.proofs.ReceptionCases.{reception-case, received-case}
 use Rattle.line.proofs.Delivery.BlockRules.{isWaiting, judge-never-waits}
 
@@ -73,6 +81,56 @@ module _ (s : Receiver) where
           → cond (meaning x .stores) (storeAt (s .taken * s .setup .k) (payloadOf (s .setup .k) row) store) store ≡ store
       kept x row e = ap (λ (b : Bool). cond b (storeAt (s .taken * s .setup .k) (payloadOf (s .setup .k) row) store) store) e
 
+-- ---- a call that completes no block
+
+module _ (s : Receiver) (r : InRange s) (ready ready′ : Bool) where
+  -- without a row of n bits the two are the same, and store nothing
+  abbrev Alike : Reception → Reception → Type 0
+  Alike x y = x .row ≡ [] → (y ≡ x) × (meaning (x .rule) .stores ≡ false)
+
+  step-alike : s .phase ≡ P.InStep → (new : Bits) → Alike (inStep s new ready) (inStep s new ready′)
+  step-alike e new = ⊎-elim (λ t. held (ltb-true (length new) (missing s) t))
+      (λ t n. absurd (complete (ltb-false (length new) (missing s) t) n)) (either (ltb (length new) (missing s)))
+    where
+      held : length new < missing s → Alike (inStep s new ready) (inStep s new ready′)
+      held h n =
+          let same : inStep s new ready ≡ held-on s new = step-on s new ready h in
+          (step-on s new ready′ h ∙ sym same, ap (λ (x : Reception). meaning (x .rule) .stores) same)
+
+      complete : missing s ≤ length new → inStep s new ready .row ≡ [] → ⊥
+      complete h n =
+          let row : finishedRow s new ≡ [] = sym (ap (λ (x : Reception). x .row) (step-done s new ready h)) ∙ n in
+          omega (
+            arith,
+            held-step s r e,
+            ap length row,
+            length-append (heldBits s) (take (missing s) new),
+            length-take-le (missing s) new h,
+          )
+
+  phase-alike : (p : Phase) → s .phase ≡ p → (new : Bits) → Alike (byPhase s p new ready) (byPhase s p new ready′)
+  phase-alike P.Search e new n = (refl, search-stores s (heldBits s) new 0)
+  phase-alike P.InStep e new n = step-alike e new n
+  phase-alike P.SequenceAlarm e new n = (refl, refl)
+  phase-alike P.LengthAlarm e new n = (refl, refl)
+
+  reception-alike : (new : Bits) (count : ℕ) → Alike (reception s new count ready) (reception s new count ready′)
+  unfolding reception
+  reception-alike new count = by-count (eqb count 0)
+    where
+      by-count : (b : Bool) → Alike (cond b (idle s) (byPhase s (s .phase) new ready)) (cond b (idle s) (byPhase s (s .phase) new ready′))
+      by-count true n = (refl, idle-stores (s .phase))
+      by-count false n = phase-alike (s .phase) refl new n
+
+undecided : (s : Receiver) (line : List ℕ) (count : ℕ) (ready ready′ : Bool) (store : List ℕ) (x : Reception)
+    → receive s line count ready store ≡ done x → x .row ≡ [] → receive s line count ready′ store ≡ done x
+unfolding receive
+undecided s line count ready ready′ store x e n =
+    let h = heard s line count ready store x e in
+    let a = reception-alike s (in-range s (h .0)) ready ready′ (take count (bitsOf line)) count (ap (λ (y : Reception). y .row) (h .2) ∙ n) in
+    let stores : meaning (x .rule) .stores ≡ false = sym (ap (λ (y : Reception). meaning (y .rule) .stores) (h .2)) ∙ a .1 in
+    rw (h .0, h .1, a .0 ∙ h .2, stores)
+
 pub readiness : Readiness
 readiness =
     record {
@@ -82,4 +140,5 @@ readiness =
       others = others-stay;
       takes-nothing = λ s line count store. nothing s store line count;
       any-store = any-store;
+      undecided = undecided;
     }

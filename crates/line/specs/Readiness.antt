@@ -1,8 +1,8 @@
 -- The machine's readiness: at ready the step to *wait* is the identity, and no call waits; not ready, only two rules wait, and a
--- call takes nothing and does not look at the store. Assumes nothing.
+-- call takes nothing and does not look at the store. The call that brings a block's last bit decides. Assumes nothing.
 use mathlib.Core.Path.{_≡_}
-use mathlib.Core.Bool.{true, false}
-use mathlib.Core.List.{List}
+use mathlib.Core.Bool.{Bool, true, false}
+use mathlib.Core.List.{List, []}
 use mathlib.Core.Option.{none}
 use Prim.Native.Nat.{ℕ}
 use Rattle.crc.specs.Bits.{Bits}
@@ -31,3 +31,6 @@ pub record Readiness : Type 0 where
       → receive s line count false store ≡ done x → TakesNothing s store x
   pub any-store : (s : Receiver) (line : List ℕ) (count : ℕ) (store store′ : List ℕ)
       → receive s line count false store ≡ receive s line count false store′
+  -- a call that completes no block, so that it has no row of n bits, comes to the same, ready or not
+  pub undecided : (s : Receiver) (line : List ℕ) (count : ℕ) (ready ready′ : Bool) (store : List ℕ) (x : Reception)
+      → receive s line count ready store ≡ done x → x .row ≡ [] → receive s line count ready′ store ≡ done x
