@@ -1,17 +1,21 @@
 -- Rows packed into bytes half a byte at a time: what a byte joined of two halves holds, and a row's first bytes. Assumes
 -- nothing.
 use mathlib.Core.Path.{_≡_, refl, sym, ap, ap₂, _∙_}
+use mathlib.Core.Bool.{cond}
 use mathlib.Core.List.{List, [], _∷_, _++_, append-assoc}
 use Prim.Native.Nat.{ℕ, suc, _+_, _*_, _/_, _%_, _^_, _≤_, _<_}
 use native.Mathlib.Nat.{add-suc, le-of-lt}
 use native.Mathlib.Numerals.{add-one, add-two}
 use native.Mathlib.Omega.{arith}
 use lib.Bits.{bitOr, bitAnd, or-shifted, and-mask}
+use lib.Dec.{eqb}
 use lib.ListN.{length, take, drop, getD, set, length-append, take-append-drop}
 use lib.Seq.{take-take, drop-at, take-suc, drop-cons, take-add, length-take-le, sets-eq}
 use Rattle.crc.specs.Bits.{Bits, zeros, binary, number, bitsOf, bytesOf}
+use Rattle.crc.specs.Check.{remainder, passes}
 use Rattle.crc.proofs.Rows.{length-binary, number-binary, binary-mod, binary-join, binary-split}
 use Rattle.crc.proofs.Bytes.{length-bitsOf, take-bitsOf, drop-bitsOf, bitsOf-last, bytesOf-zeros, byte-first, bytesOf-front}
+use Rattle.block.specs.Block.{passed, failed, verdict}
 
 -- ---- the first bytes of a row
 
@@ -115,6 +119,12 @@ pub service-number : (n : ℕ) (s : List ℕ) → 4 ≤ n → 0 < length s → g
     → number (take 4 (take n (bitsOf s))) ≡ getD s 0 0 / 16
 service-number n s h l b =
     ap number (take-take 4 n (bitsOf s) h ∙ service-first s l) ∙ number-binary 4 (getD s 0 0 / 16) (omega arith)
+
+-- the row judged by its remainder
+pub row-judged : (n : ℕ) (s : List ℕ) (r : ℕ) → 4 ≤ n → 0 < length s → getD s 0 0 < 256 → r ≡ remainder (take n (bitsOf s))
+    → cond (eqb r 0) (passed (getD s 0 0 / 16)) (failed r) ≡ verdict (take n (bitsOf s))
+unfolding verdict passes
+row-judged n s r h l b e = rw (e, service-number n s h l b)
 
 -- ---- the last three bytes of a block: four data bits, the check, four spare bits
 

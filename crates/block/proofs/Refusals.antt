@@ -1,22 +1,24 @@
 -- Which answer each call's definition gives, from the tests that the code makes on whole bytes. Assumes nothing.
 use mathlib.Core.Path.{_≡_, refl, sym, ap, _∙_}
-use mathlib.Core.Bool.{Bool, true, false}
+use mathlib.Core.Bool.{Bool, true, false, not}
 use mathlib.Core.List.{List, [], _∷_, _++_}
 use mathlib.Core.Logic.{⊎-elim}
 use Prim.Native.Nat.{ℕ, _+_, _*_, _/_, _≤_, _<_}
 use native.Mathlib.Omega.{arith}
-use borrow.Author.Tests.{lt-ltb, le-ltb}
+use borrow.Author.Tests.{lt-ltb, le-ltb, ltb-false}
 use lib.ListN.{length, take, drop, length-drop}
 use Rattle.crc.specs.Bits.{Bits, binary, bitsOf, bytesOf}
+use Rattle.crc.specs.Check.{remainder}
 use Rattle.crc.proofs.Bytes.{length-bitsOf}
 use Rattle.block.specs.Answer as A
 use Rattle.block.specs.Answer.{Answer, refused, done, refuseIf}
 use Rattle.block.specs.Lengths.{isLength, blockLength, blockBytes}
 use Rattle.block.specs.Block.{blockBits, payloadOf, verdict, syncBlock, cancelled}
-use Rattle.block.specs.Calls.{tooShort, overwritten, buildBlock, BuildBlock, readAnswer, checkBlock, CheckBlock, moveData, MoveData, readBlock, readBytes, ReadBlock, buildSync, BuildSync, cancelBlock, CancelBlock}
+use Rattle.block.specs.Calls.{tooShort, overwritten, buildBlock, BuildBlock, readAnswer, checkBlock, CheckBlock, readService, moveData, MoveData, readBlock, readBytes, ReadBlock, buildSync, BuildSync, cancelBlock, CancelBlock}
 use types.Run.{OneOf}
 use denote.Enum.Declared.{tagOf}
 use Rattle.block.specs.declared.Built.the-variants as B
+use Rattle.block.specs.declared.Checked.the-variants as C
 use Rattle.block.specs.declared.Read.{Read}
 use Rattle.block.specs.declared.Read.the-variants as R
 use Rattle.block.proofs.Read.{the-type}
@@ -27,6 +29,13 @@ use Rattle.block.proofs.Packing.{bytesOf-take}
 pub passed-test : {X : Type 0} (t : Bool) (n : ℕ) (next : Answer X) (x : X) → refuseIf t n next ≡ done x → (t ≡ false) × (next ≡ done x)
 passed-test true n next x h = absurd (let z : _≡_ {A = ℕ} 0 1 = cc in omega arith)
 passed-test false n next x h = (refl, h)
+
+-- calls that make the same two tests are refused alike
+same-refusal : {X Y : Type 0} (t u : Bool) (m m′ : ℕ) (x : X) (y : Y) (n : ℕ) → refuseIf t m (refuseIf u m′ (done x)) ≡ refused n
+    → refuseIf t m (refuseIf u m′ (done y)) ≡ refused n
+same-refusal true u m m′ x y n h = cc
+same-refusal false true m m′ x y n h = cc
+same-refusal false false m m′ x y n h = absurd (let z : _≡_ {A = ℕ} 0 1 = cc in omega arith)
 
 -- ---- slices, by bytes
 
@@ -85,19 +94,38 @@ module _ (k : ℕ) (slice : List ℕ) where
   abbrev row : Bits
   row = take (blockLength k) (bitsOf slice)
 
-  pub check-length : isLength k ≡ false → CheckBlock k slice (R.Refused A.block)
+  pub check-length : isLength k ≡ false → CheckBlock k slice (C.Refused A.block)
   unfolding checkBlock
   check-length e = record { answers = sym (rw e) }
 
   module _ (known : isLength k ≡ true) where
-    pub check-slice : length slice < k / 8 + 3 → CheckBlock k slice (R.Refused A.short)
+    pub check-slice : length slice < k / 8 + 3 → CheckBlock k slice (C.Refused A.short)
     unfolding checkBlock
     check-slice h = record { answers = sym (rw (known, block-short k known slice h)) }
 
     module _ (held : k / 8 + 3 ≤ length slice) where
-      pub check-done : checkBlock k slice ≡ done (verdict row)
+      pub check-done : checkBlock k slice ≡ done (remainder row)
       unfolding checkBlock
       check-done = rw (known, block-held k known slice held)
+
+      pub service-done : readService k slice ≡ done (verdict row)
+      unfolding readService
+      service-done = rw (known, block-held k known slice held)
+
+  -- reading without the data goes by the check's answer: it is refused alike
+  pub service-refused : (n : ℕ) → checkBlock k slice ≡ refused n → readService k slice ≡ refused n
+  unfolding checkBlock readService
+  service-refused n = same-refusal (not (isLength k)) (tooShort slice (blockLength k)) A.block A.short (remainder row) (verdict row) n
+
+  -- and otherwise the remainder is the row's, and there is a first byte
+  pub service-checked : (r : ℕ) → checkBlock k slice ≡ done r
+      → (r ≡ remainder row) × (0 < length slice) × (readService k slice ≡ done (verdict row))
+  unfolding checkBlock readService
+  service-checked r e =
+      let p = passed-test (not (isLength k)) A.block _ r e in
+      let q = passed-test (tooShort slice (blockLength k)) A.short (done (remainder row)) r (p .1) in
+      let same : done (remainder row) ≡ done r = q .1 in
+      (cc, omega (arith, ltb-false (8 * length slice) (blockLength k) (q .0)), rw (p .0, q .0))
 
 -- ---- moving its data
 
@@ -166,7 +194,7 @@ module _ (k : ℕ) (slice payload : List ℕ) where
             where
               kept : (a : Read) → OneOf (1 ∷ 2 ∷ []) (tagOf the-type a) → payload ≡ readBytes k slice payload (readAnswer a)
               kept (R.Passed s) t = ⊎-elim (λ z. absurd (omega arith)) (λ z. absurd (omega arith)) t
-              kept R.Failed t = refl
+              kept (R.Failed r) t = refl
               kept (R.Refused n) t = refl
 
           -- one that passes has its data moved
@@ -181,7 +209,7 @@ module _ (k : ℕ) (slice payload : List ℕ) where
               moved-by : (a : Read) → OneOf (0 ∷ []) (tagOf the-type a)
                   → overwritten (k / 8) (payloadOf k (bitsOf slice)) payload ≡ readBytes k slice payload (readAnswer a)
               moved-by (R.Passed s) t = refl
-              moved-by R.Failed t = absurd (omega arith)
+              moved-by (R.Failed r) t = absurd (omega arith)
               moved-by (R.Refused n) t = absurd (omega arith)
 
 -- ---- the synchronising block, and cancelling

@@ -105,7 +105,7 @@ module _ (k service : ℕ) (payload slice room : List ℕ) (known : isLength k �
 
 passed-answer : (answer : Read) (s : ℕ) → readAnswer answer ≡ done (passed s) → answer ≡ R.Passed s
 passed-answer (R.Passed x) s h = cc
-passed-answer R.Failed s h = absurd (let z : _≡_ {A = ℕ} 0 1 = cc in omega arith)
+passed-answer (R.Failed r) s h = absurd (let z : _≡_ {A = ℕ} 0 1 = cc in omega arith)
 passed-answer (R.Refused n) s h = absurd (let z : _≡_ {A = ℕ} 0 1 = cc in omega arith)
 
 -- a block that was built is read with its service bits and its data, wherever the data have room

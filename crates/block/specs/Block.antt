@@ -4,7 +4,7 @@ use mathlib.Core.List.{[], _∷_, _++_}
 use Prim.Native.Nat.{ℕ, zero, suc, _/_}
 use lib.ListN.{take, drop}
 use Rattle.crc.specs.Bits.{Bits, binary, number}
-use Rattle.crc.specs.Check.{check, passes}
+use Rattle.crc.specs.Check.{remainder, check, passes}
 
 -- service bits and data, then the check bits of both
 unfoldable pub blockBits : Bits → Bits → Bits
@@ -17,13 +17,14 @@ serviceOf row = take 4 row
 abbrev pub payloadOf : ℕ → Bits → Bits
 payloadOf k row = take k (drop 4 row)
 
--- what reading a row of n bits finds: it passes, with its service bits as a number, or it fails
+-- what reading a row of n bits finds, judged by its remainder: by 0 it passes, with its service bits as a number; by any other
+-- it fails, with the remainder
 pub data Verdict : Type 0 where
   passed : ℕ → Verdict
-  failed : Verdict
+  failed : ℕ → Verdict
 
 unfoldable pub verdict : Bits → Verdict
-verdict row = cond (passes row) (passed (number (serviceOf row))) failed
+verdict row = cond (passes row) (passed (number (serviceOf row))) (failed (remainder row))
 
 -- ---- the synchronising block: 0101, then 10 repeated over k bits, then 0101000010100101
 

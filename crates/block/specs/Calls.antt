@@ -6,12 +6,15 @@ use Prim.Native.Nat.{ℕ, _+_, _*_}
 use lib.Dec.{ltb}
 use lib.ListN.{length, take, drop}
 use Rattle.crc.specs.Bits.{Bits, binary, bitsOf, bytesOf}
+use Rattle.crc.specs.Check.{remainder}
 use Rattle.block.specs.Answer as A
 use Rattle.block.specs.Answer.{Answer, refused, done, refuseIf}
 use Rattle.block.specs.Lengths.{isLength, blockLength, payloadBytes, blockBytes}
 use Rattle.block.specs.Block.{blockBits, payloadOf, Verdict, passed, failed, verdict, syncBlock, cancelled}
 use Rattle.block.specs.declared.Built.{Built}
 use Rattle.block.specs.declared.Built.the-variants as B
+use Rattle.block.specs.declared.Checked.{Checked}
+use Rattle.block.specs.declared.Checked.the-variants as C
 use Rattle.block.specs.declared.Read.{Read}
 use Rattle.block.specs.declared.Read.the-variants as R
 
@@ -21,10 +24,20 @@ abbrev pub builtAnswer : Built → Answer (Unit {0})
 builtAnswer B.Done = done tt
 builtAnswer (B.Refused n) = refused n
 
+abbrev pub checkedAnswer : Checked → Answer ℕ
+checkedAnswer (C.Remainder r) = done r
+checkedAnswer (C.Refused n) = refused n
+
 abbrev pub readAnswer : Read → Answer Verdict
 readAnswer (R.Passed s) = done (passed s)
-readAnswer R.Failed = done failed
+readAnswer (R.Failed r) = done (failed r)
 readAnswer (R.Refused n) = refused n
+
+-- the remainder that a reader's answer carries, 0 where it carries none
+abbrev pub carriedRemainder : Answer Verdict → ℕ
+carriedRemainder (refused n) = 0
+carriedRemainder (done (passed s)) = 0
+carriedRemainder (done (failed r)) = r
 
 -- a slice of bytes holds fewer bits than these
 abbrev pub tooShort : List ℕ → ℕ → Bool
@@ -51,15 +64,25 @@ pub record BuildBlock (k service : ℕ) (payload slice : List ℕ) (answer : Bui
   pub answers : builtAnswer answer ≡ buildBlock k service payload slice
   pub writes : slice′ ≡ builtBytes k service payload slice (buildBlock k service payload slice)
 
--- ---- checking one: 1, 6; nothing is written
+-- ---- checking one: 1, 6; the remainder of all n bits is handed over, and nothing is written
 
-unfoldable pub checkBlock : ℕ → List ℕ → Answer Verdict
+unfoldable pub checkBlock : ℕ → List ℕ → Answer ℕ
 checkBlock k slice =
+    refuseIf (not (isLength k)) A.block
+    (refuseIf (tooShort slice (blockLength k)) A.short (done (remainder (take (blockLength k) (bitsOf slice)))))
+
+pub record CheckBlock (k : ℕ) (slice : List ℕ) (answer : Checked) : Type 0 where
+  pub answers : checkedAnswer answer ≡ checkBlock k slice
+
+-- ---- reading one without its data: 1, 6; nothing is written
+
+unfoldable pub readService : ℕ → List ℕ → Answer Verdict
+readService k slice =
     refuseIf (not (isLength k)) A.block
     (refuseIf (tooShort slice (blockLength k)) A.short (done (verdict (take (blockLength k) (bitsOf slice)))))
 
-pub record CheckBlock (k : ℕ) (slice : List ℕ) (answer : Read) : Type 0 where
-  pub answers : readAnswer answer ≡ checkBlock k slice
+pub record ReadService (k : ℕ) (slice : List ℕ) (answer : Read) : Type 0 where
+  pub answers : readAnswer answer ≡ readService k slice
 
 -- ---- moving the first m data bytes of a packed block, whatever its check: 6
 
@@ -84,7 +107,7 @@ readBlock k slice payload =
 
 abbrev pub readBytes : ℕ → List ℕ → List ℕ → Answer Verdict → List ℕ
 readBytes k slice payload (refused n) = payload
-readBytes k slice payload (done failed) = payload
+readBytes k slice payload (done (failed r)) = payload
 readBytes k slice payload (done (passed s)) =
     overwritten (payloadBytes k) (payloadOf k (bitsOf slice)) payload
 

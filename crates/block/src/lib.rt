@@ -1,16 +1,18 @@
 // The V.41 block: 4 service bits, k data bits, 16 check bits, packed with the earliest bit in the top bit.
 ghost use mathlib.Core.Path.{_≡_};
+ghost use mathlib.Core.Bool.{cond};
 ghost use mathlib.Core.List.{_++_};
 ghost use Prim.Native.Nat.{_+_, _*_, _/_, _≤_, _<_};
+ghost use lib.Dec.{eqb};
 ghost use lib.ListN.{length, take, drop, getD};
 ghost use Rattle.crc.specs.Bits.{binary, bitsOf, bytesOf};
 ghost use Rattle.crc.specs.Check.{remainder};
 ghost use Rattle.block.specs.Answer.{done};
 ghost use Rattle.block.specs.Lengths.{isLength};
-ghost use Rattle.block.specs.Block.{blockBits, verdict, syncBlock};
-ghost use Rattle.block.specs.Calls.{readAnswer, tooShort, overwritten, BuildBlock, CheckBlock, MoveData, ReadBlock, BuildSync, CancelBlock};
+ghost use Rattle.block.specs.Block.{blockBits, passed, failed, syncBlock};
+ghost use Rattle.block.specs.Calls.{readAnswer, carriedRemainder, tooShort, overwritten, BuildBlock, CheckBlock, ReadService, MoveData, ReadBlock, BuildSync, CancelBlock};
 
-// Document 01, "What the ends turn away".
+// docs/PROTOCOL.md, "What the ends turn away".
 pub const BLOCK: u8 = 1;
 
 pub const SHORT: u8 = 6;
@@ -30,11 +32,30 @@ pub enum Built {
     Refused(u8),
 }
 
+pub enum Checked {
+    // The remainder of all n bits.
+    Remainder(u16),
+    Refused(u8),
+}
+
 pub enum Read {
     // The service bits of a block that passes.
     Passed(u8),
-    Failed,
+    // The remainder of one that fails.
+    Failed(u16),
     Refused(u8),
+}
+
+impl Read {
+    // The remainder of a block that fails, 0 with any other answer.
+    pub fn remainder(self) -> u16
+        ensures { λ r. ⌜ r ≡ carriedRemainder (readAnswer self) ⌝ }
+    {
+        match self {
+            Read::Failed(remainder) => remainder,
+            _ => 0,
+        }
+    }
 }
 
 // Whether k is one of the four numbers of data bits.
@@ -142,30 +163,38 @@ fn remainder_of(m: usize, block: &[u8]) -> u16
     check ^ received_check(block[m], block[m + 1], block[m + 2])
 }
 
-// The check of a packed block of m data bytes.
-fn checked(m: usize, block: &[u8]) -> Read
-    requires { ⌜ m + 3 ≤ length (now block) ⌝ }
-    ensures { λ r. ⌜ readAnswer r ≡ done (verdict (take (8 * m + 20) (bitsOf (now (block .entry))))) ⌝ }
-{
-    if remainder_of(m, block) != 0 {
-        return Read::Failed;
-    }
-    let service = block[0] >> 4;
-    Read::Passed(service)
-}
-
 // One block checked; nothing is written. Refused in the order 1, 6.
-pub fn check_block(k: usize, block: &[u8]) -> Read
+pub fn check_block(k: usize, block: &[u8]) -> Checked
     ensures { λ r. ⌜ CheckBlock k (now (block .entry)) r ⌝ }
 {
     if !known_length(k) {
-        return Read::Refused(BLOCK);
+        return Checked::Refused(BLOCK);
     }
     let m = k / 8;
     if block.len() < m + 3 {
-        return Read::Refused(SHORT);
+        return Checked::Refused(SHORT);
     }
-    checked(m, block)
+    Checked::Remainder(remainder_of(m, block))
+}
+
+// By its remainder a block passes or fails; its service bits.
+fn judged(remainder: u16, service: u8) -> Read
+    ensures { λ r. ⌜ readAnswer r ≡ done (cond (eqb remainder 0) (passed service) (failed remainder)) ⌝ }
+{
+    if remainder != 0 {
+        return Read::Failed(remainder);
+    }
+    Read::Passed(service)
+}
+
+// One block read without its data. Refused in the order 1, 6.
+pub fn read_service(k: usize, block: &[u8]) -> Read
+    ensures { λ r. ⌜ ReadService k (now (block .entry)) r ⌝ }
+{
+    match check_block(k, block) {
+        Checked::Remainder(remainder) => judged(remainder, block[0] >> 4),
+        Checked::Refused(number) => Read::Refused(number),
+    }
 }
 
 // The first m data bytes of a packed block moved, whatever its check. Refused 6.
@@ -196,7 +225,7 @@ pub fn read_block(k: usize, block: &[u8], payload: &mut [u8]) -> Read
     if payload.len() < m {
         return Read::Refused(SHORT);
     }
-    let answer = checked(m, block);
+    let answer = judged(remainder_of(m, block), block[0] >> 4);
     if let Read::Passed(_) = answer {
         shift_half(m, block, payload);
     }

@@ -7,10 +7,12 @@ use native.Mathlib.Omega.{arith}
 use borrow.Author.Tests.{not-true, not-false}
 use lib.ListN.{take}
 use Rattle.crc.specs.Bits.{bitsOf}
+use Rattle.crc.specs.Check.{remainder}
 use Rattle.block.specs.Answer.{done}
 use Rattle.block.specs.Lengths.{isLength, blockLength}
 use Rattle.block.specs.Block.{verdict}
 use Rattle.block.specs.Calls.{readAnswer}
+use Rattle.block.proofs.Packing.{row-judged}
 use Rattle.block.proofs.Lengths.{length-bytes}
 use Rattle.block.proofs.Refusals.{read-length, read-slice, read-payload, read-kept, read-moved}
 use borrow.Author.Needs.{needs}
@@ -40,8 +42,14 @@ returns-3 c =
     let known : isLength (a .k) ≡ true = sym (c .before .before .before .known-length .ensures) ∙ not-false _ (c .before .before .if1 .left) in
     read-payload (a .k) (a .block .now) (a .payload .now) known (omega arith) (c .if3 .taken)
 
-checked-requires : tie.Need-checked-requires
-checked-requires c κs = search needs
+remainder-of-requires : tie.Need-remainder-of-requires
+remainder-of-requires c κs = search needs
+
+shared-slice-read-judged : tie.Need-shared-slice-read-judged
+shared-slice-read-judged c = search needs
+
+judged-requires : tie.Need-judged-requires
+judged-requires c κs = search needs
 
 enum-told : tie.Need-enum-told
 enum-told c = search needs
@@ -52,16 +60,20 @@ shift-half-requires c κs = search needs
 same-length : tie.Need-same-length
 same-length c = search needs
 
-abbrev start : tie.After-checked → tie.Start
-start c = c .before .before .before .before .before .before .before
+abbrev start : tie.After-judged → tie.Start
+start c = c .before .before .before .before .before .before .before .before .before
 
-known : (c : tie.After-checked) → isLength (start c .args .k) ≡ true
-known c = sym (c .before .before .before .before .known-length .ensures) ∙ not-false _ (c .before .before .before .if1 .left)
+known : (c : tie.After-judged) → isLength (start c .args .k) ≡ true
+known c = sym (c .before .before .before .before .before .before .known-length .ensures) ∙ not-false _ (c .before .before .before .before .before .if1 .left)
 
-answered : (c : tie.After-checked) → readAnswer (c .checked .result) ≡ done (verdict (take (blockLength (start c .args .k)) (bitsOf (start c .args .block .now))))
+answered : (c : tie.After-judged) → readAnswer (c .judged .result) ≡ done (verdict (take (blockLength (start c .args .k)) (bitsOf (start c .args .block .now))))
 answered c =
-    c .checked .ensures
-    ∙ ap (λ (x : ℕ). done (verdict (take (x + 20) (bitsOf (start c .args .block .now))))) (length-bytes (start c .args .k) (known c))
+    let a = start c .args in
+    let e : c .before .before .remainder-of .result ≡ remainder (take (blockLength (a .k)) (bitsOf (a .block .now))) =
+    c .before .before .remainder-of .ensures
+    ∙ ap (λ (x : ℕ). remainder (take (x + 20) (bitsOf (a .block .now)))) (length-bytes (a .k) (known c)) in
+    c .judged .ensures
+    ∙ ap done (row-judged (blockLength (a .k)) (a .block .now) _ (omega arith) (omega arith) (c .before .shared-slice-known2 .given 0 .fits) e)
 
 returns-4 : tie.Need-returns-4
 returns-4 c =
@@ -84,7 +96,9 @@ read-block-spec =
     add-if2
     returns-2
     returns-3
-    checked-requires
+    remainder-of-requires
+    shared-slice-read-judged
+    judged-requires
     enum-told
     shift-half-requires
     same-length
