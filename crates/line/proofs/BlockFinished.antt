@@ -1,4 +1,4 @@
--- What is handed back where a block is complete: the rule that reads it, the check's answer, the data moved and the store.
+-- What is handed back where a block is complete: the rule that reads it, the reader's answer, the data moved and the store.
 -- Assumes nothing.
 use mathlib.Core.Path.{_≡_, refl, sym, ap, _∙_, subst}
 use mathlib.Core.Bool.{Bool, true, false, _||_, or-false}
@@ -17,13 +17,13 @@ use Rattle.block.specs.Answer as A
 use Rattle.block.specs.Answer.{done}
 use Rattle.block.specs.Lengths.{isLength, blockLength}
 use Rattle.block.specs.Block.{payloadOf, passed, failed, verdict}
-use Rattle.block.specs.Calls.{tooShort, readAnswer, CheckBlock, movedBytes, MoveData}
+use Rattle.block.specs.Calls.{tooShort, readAnswer, carriedRemainder, ReadService, movedBytes, MoveData}
 use Rattle.block.specs.declared.Built.{Built}
 use Rattle.block.specs.declared.Read.{Read}
 use Rattle.block.specs.declared.Read.the-variants as B
 use Rattle.block.proofs.Read.{the-type}
 use Rattle.block.proofs.Lengths.{length-facts}
-use Rattle.block.proofs.Refusals.{check-done, move-done}
+use Rattle.block.proofs.Refusals.{service-done, move-done}
 use Rattle.line.specs.Receiving.{lastBad, afterBad, Rule, sync-block, check-fails, accepts, meaning, endRule, serviceRule, looksSync, judge, orWait, blockRule, stops, Reception, storeAt}
 use Rattle.line.specs.Code.ReceiveSteps.{ruleOf, stepped, handedBack, judged, Handed}
 use Rattle.line.specs.declared.receiver.Receiver.{Receiver}
@@ -42,9 +42,10 @@ pub handed-plain : (s : Receiver) (store : List ℕ) (x : Reception) → meaning
 handed-plain s store x e = record { answers = rw e; state = rw e; writes = sym (simp e) }
 
 -- a block whose check fails is never a reason of itself to search
-pub handed-bad : (s : Receiver) (used : ℕ)
-    → stepped (afterBad s (leb lastBad (s .«bad_row» + 1) || false)) E.Bad used ≡ handedBack (stops s check-fails [] used)
-handed-bad s used = ap (λ (t : Bool). stepped (afterBad s t) E.Bad used) (or-false (leb lastBad (s .«bad_row» + 1)))
+pub handed-bad : (s : Receiver) (remainder used : ℕ)
+    → stepped (afterBad s (leb lastBad (s .«bad_row» + 1) || false)) (E.Bad remainder) used
+    ≡ handedBack (stops s (check-fails remainder) [] used)
+handed-bad s remainder used = ap (λ (t : Bool). stepped (afterBad s t) (E.Bad remainder) used) (or-false (leb lastBad (s .«bad_row» + 1)))
 
 -- every rule of the code but the first stores nothing
 pub stores-nothing : (r : D.Rule) → OneOf (1 ∷ 2 ∷ 3 ∷ 4 ∷ 5 ∷ 6 ∷ 7 ∷ []) (tagOf code.the-type r) → meaning (ruleOf r) .stores ≡ false
@@ -90,9 +91,10 @@ module _ (s : Receiver) (row : Bits) (ready : Bool) where
   unfolding judge
   rule-sync e = sym (rw e)
 
-  pub rule-failed : looksSync (s .setup .k) row ≡ false → verdict row ≡ failed → check-fails ≡ blockRule s row ready
+  pub rule-failed : (remainder : ℕ) → looksSync (s .setup .k) row ≡ false → verdict row ≡ failed remainder
+      → check-fails remainder ≡ blockRule s row ready
   unfolding judge
-  rule-failed e v = sym (rw (e, v))
+  rule-failed remainder e v = sym (rw (e, v))
 
   pub rule-passed : (service : ℕ) → looksSync (s .setup .k) row ≡ false → verdict row ≡ passed service
       → orWait ready (serviceRule (s .setup .marks .«in_use») (s .setup .k) (s .taken) (s .ended) service (payloadOf (s .setup .k) row))
@@ -100,7 +102,7 @@ module _ (s : Receiver) (row : Bits) (ready : Bool) where
   unfolding judge
   rule-passed service e v = sym (rw (e, v))
 
--- ---- the check's answer and the data moved
+-- ---- the reader's answer and the data moved
 
 module _ (k : ℕ) (known : isLength k ≡ true) (slice : List ℕ) (h : blockLength k ≤ 8 * length slice) where
   abbrev row : Bits
@@ -109,9 +111,9 @@ module _ (k : ℕ) (known : isLength k ≡ true) (slice : List ℕ) (h : blockLe
   held-bytes : k / 8 + 3 ≤ length slice
   held-bytes = let f = length-facts k known in omega arith
 
-  module _ (answer : Read) (p : CheckBlock k slice answer) where
+  module _ (answer : Read) (p : ReadService k slice answer) where
     answered : readAnswer answer ≡ done (verdict row)
-    answered = p .answers ∙ check-done k slice known held-bytes
+    answered = p .answers ∙ service-done k slice known held-bytes
 
     pub check-passes : (service : ℕ) → answer ≡ B.Passed service → verdict row ≡ passed service
     check-passes service e =
@@ -119,12 +121,13 @@ module _ (k : ℕ) (known : isLength k ≡ true) (slice : List ℕ) (h : blockLe
         cc
 
     -- the other answer is that the check fails: nothing is refused here
-    pub check-not-passed : OneOf (1 ∷ 2 ∷ []) (tagOf the-type answer) → verdict row ≡ failed
+    pub check-not-passed : OneOf (1 ∷ 2 ∷ []) (tagOf the-type answer) → verdict row ≡ failed (carriedRemainder (readAnswer answer))
     check-not-passed t = go answer answered t
       where
-        go : (a : Read) → readAnswer a ≡ done (verdict row) → OneOf (1 ∷ 2 ∷ []) (tagOf the-type a) → verdict row ≡ failed
+        go : (a : Read) → readAnswer a ≡ done (verdict row) → OneOf (1 ∷ 2 ∷ []) (tagOf the-type a)
+            → verdict row ≡ failed (carriedRemainder (readAnswer a))
         go (B.Passed n) e t = ⊎-elim (λ z. absurd (omega arith)) (λ z. absurd (omega arith)) t
-        go B.Failed e t = cc
+        go (B.Failed r) e t = cc
         go (B.Refused n) e t = cc
 
   -- the first m data bytes

@@ -19,7 +19,7 @@ module _ (s : Receiver) where
   after-setup (standing alarm) = refl
   after-setup sequence-found = refl
   after-setup sync-block = refl
-  after-setup check-fails = bad-setup (leb lastBad (s .«bad_row» + 1))
+  after-setup (check-fails n) = bad-setup (leb lastBad (s .«bad_row» + 1))
   after-setup accepts = refl
   after-setup previous = refl
   after-setup out-of-sequence = refl

@@ -80,7 +80,7 @@ pub data Rule : Type 0 where
   standing : Event → Rule  -- an alarm stood before the call
   sequence-found : Rule  -- the search found its sequence
   sync-block : Rule  -- rule 1
-  check-fails : Rule  -- rule 2
+  check-fails : ℕ → Rule  -- rule 2, with this remainder
   accepts : Rule  -- rule 3
   previous : Rule  -- rule 4
   out-of-sequence : Rule  -- rule 5
@@ -107,14 +107,14 @@ meaning unfinished = meant E.None true false false false
 meaning (standing alarm) = meant alarm true false false false
 meaning sequence-found = meant E.Sync false false false false
 meaning sync-block = meant E.Sync false false false false
-meaning check-fails = meant E.Bad false false false false
+meaning (check-fails r) = meant (E.Bad r) false false false false
 meaning accepts = meant E.Accepted false true true true
 meaning previous = meant E.Previous false false true true
 meaning out-of-sequence = meant E.SequenceAlarm false false true true
 meaning (ends L) = meant (E.Ended L) false false true true
 meaning wrong-length = meant E.LengthAlarm false false true true
 meaning ends-again = meant E.Previous false false true true
-meaning anything-else = meant E.Bad false false false true
+meaning anything-else = meant (E.Bad 0) false false false true
 meaning waits = meant E.Wait false false true true
 
 -- what an event says: a new block, a wait, an alarm, the end with its length
@@ -127,7 +127,7 @@ pub record EventKind : Type 0 where
 abbrev pub eventKind : Event → EventKind
 eventKind E.None = record { new = false; wait = false; alarm = false; length = none }
 eventKind E.Sync = record { new = false; wait = false; alarm = false; length = none }
-eventKind E.Bad = record { new = false; wait = false; alarm = false; length = none }
+eventKind (E.Bad r) = record { new = false; wait = false; alarm = false; length = none }
 eventKind E.Accepted = record { new = true; wait = false; alarm = false; length = none }
 eventKind E.Previous = record { new = false; wait = false; alarm = false; length = none }
 eventKind E.SequenceAlarm = record { new = false; wait = false; alarm = true; length = none }
@@ -192,7 +192,7 @@ serviceRule in-use k r ended service payload =
 
 -- rule 2
 abbrev pub verdictRule : Bool → ℕ → ℕ → Bool → Bits → Verdict → Rule
-verdictRule in-use k r ended row failed = check-fails
+verdictRule in-use k r ended row (failed remainder) = check-fails remainder
 verdictRule in-use k r ended row (passed service) = serviceRule in-use k r ended service (payloadOf k row)
 
 -- rule 1: first four bits 0101 and last sixteen the sequence
@@ -210,7 +210,7 @@ orWait ready unfinished = unfinished
 orWait ready (standing alarm) = standing alarm
 orWait ready sequence-found = sequence-found
 orWait ready sync-block = sync-block
-orWait ready check-fails = check-fails
+orWait ready (check-fails r) = check-fails r
 orWait ready accepts = cond ready accepts waits
 orWait ready previous = previous
 orWait ready out-of-sequence = out-of-sequence
@@ -261,7 +261,7 @@ after s unfinished = s
 after s (standing alarm) = s
 after s sequence-found = afterGood s (s .taken) (s .ended)
 after s sync-block = afterGood s (s .taken) (s .ended)
-after s check-fails = afterBad s (leb lastBad (s .«bad_row» + 1))
+after s (check-fails r) = afterBad s (leb lastBad (s .«bad_row» + 1))
 after s accepts = afterGood s (s .taken + 1) (s .ended)
 after s previous = afterGood s (s .taken) (s .ended)
 after s out-of-sequence = alarmed s P.SequenceAlarm

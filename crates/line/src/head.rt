@@ -157,17 +157,18 @@ impl Head {
         next.after(array, event, used)
     }
 
-    // A bad block; lost where rule 7 goes back to search.
-    fn after_bad(self, array: &mut [u8], lost: bool, used: usize) -> HeadStep
+    // A bad block with its remainder; lost where rule 7 goes back to search.
+    fn after_bad(self, array: &mut [u8], remainder: u16, lost: bool, used: usize) -> HeadStep
         requires { ⌜ HeadInRange self (now array) ⌝ }
-        ensures { λ r. ⌜ stepWith r (now (array .exit)) ≡ stepped (S.afterBad (withArray self (now (array .entry))) (leb S.lastBad (self .«bad_row» + 1) || lost)) Event.Bad used ⌝ }
+        ensures { λ r. ⌜ stepWith r (now (array .exit)) ≡ stepped (S.afterBad (withArray self (now (array .entry))) (leb S.lastBad (self .«bad_row» + 1) || lost)) (Event.Bad remainder) used ⌝ }
     {
         let bad_row = self.bad_row + 1;
+        let event = Event::Bad(remainder);
         if LAST_BAD <= bad_row {
-            return self.return_one(array, Phase::Search, Event::Bad, used);
+            return self.return_one(array, Phase::Search, event, used);
         }
         if lost {
-            return self.return_one(array, Phase::Search, Event::Bad, used);
+            return self.return_one(array, Phase::Search, event, used);
         }
         let next = Head {
             held: 0,
@@ -176,7 +177,7 @@ impl Head {
             phase: Phase::InStep,
             ..self
         };
-        next.after(array, Event::Bad, used)
+        next.after(array, event, used)
     }
 
     // What a rule comes to, the store apart.
@@ -203,7 +204,7 @@ impl Head {
                 used,
             ),
             Rule::EndsAgain => self.after_good(array, taken, ended, Event::Previous, used),
-            Rule::AnythingElse => self.after_bad(array, taken == 0, used),
+            Rule::AnythingElse => self.after_bad(array, 0, taken == 0, used),
             Rule::Waits => self.return_one(array, Phase::InStep, Event::Wait, used),
         }
     }
@@ -246,9 +247,9 @@ impl Head {
         if looks_sync(k, row) {
             return self.after_good(array, taken, ended, Event::Sync, used);
         }
-        let answer = block::check_block(k, row);
+        let answer = block::read_service(k, row);
         let Read::Passed(service) = answer else {
-            return self.after_bad(array, false, used);
+            return self.after_bad(array, answer.remainder(), false, used);
         };
         let judged = service_rule(self.setup.marks.in_use, k, taken, ended, service, row);
         let rule = judged.or_wait(ready);

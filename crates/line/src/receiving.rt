@@ -21,7 +21,8 @@ pub struct Setup {
 pub enum Event {
     None,
     Sync,
-    Bad,
+    // With the remainder of the block's bits; 0 where the check passes and the block fits nowhere.
+    Bad(u16),
     Accepted,
     Previous,
     SequenceAlarm,

@@ -90,7 +90,7 @@ module _ (s : Receiver) (b ready : Bool) where
 -- what a rule that ends a block leaves does not depend on the bits held
 pub after-holding : (s : Receiver) (new : Bits) {x : Rule} → Judged x → after (holding s new) x ≡ after s x
 after-holding s new as-sync = refl
-after-holding s new fails = refl
+after-holding s new (fails n) = refl
 after-holding s new {x} (as-data h) = data-or-end x h
   where
     data-or-end : (x : Rule) → meaning x .data-or-end ≡ true → after (holding s new) x ≡ after s x
@@ -98,7 +98,7 @@ after-holding s new {x} (as-data h) = data-or-end x h
     data-or-end (standing alarm) e = absurd (false≢true e)
     data-or-end sequence-found e = refl
     data-or-end sync-block e = refl
-    data-or-end check-fails e = refl
+    data-or-end (check-fails n) e = refl
     data-or-end accepts e = refl
     data-or-end previous e = refl
     data-or-end out-of-sequence e = refl

@@ -11,7 +11,7 @@ use lib.Seq.{take-at, drop-at}
 use lib.Dec.{eqb, ltb}
 use borrow.Author.Tests.{eqb-true, eqb-false, ltb-true, ltb-false, le-leb, lt-ltb, eq-eqb, ne-eqb}
 use Rattle.crc.specs.Bits.{Bits, bit, number, binary, zeros}
-use Rattle.crc.specs.Check.{passes}
+use Rattle.crc.specs.Check.{remainder, passes}
 use Rattle.crc.proofs.Rows.{length-binary, number-binary}
 use Rattle.block.specs.Lengths.{isLength}
 use Rattle.block.specs.Block.{serviceOf, payloadOf, Verdict, passed, failed, verdict, serviceSync, syncSequence, tens, syncBlock}
@@ -120,11 +120,11 @@ module _ (m : Marks) (k L : ℕ) (content : Bits) (known : isLength k ≡ true) 
 -- ---- a block that fails the check
 
 pub judge-fails : (in-use : Bool) (k r : ℕ) (ended : Bool) (row : Bits) → passes row ≡ false
-    → (judge in-use k r ended row ≡ sync-block) ⊎ (judge in-use k r ended row ≡ check-fails)
+    → (judge in-use k r ended row ≡ sync-block) ⊎ (judge in-use k r ended row ≡ check-fails (remainder row))
 unfolding judge verdict
 judge-fails in-use k r ended row h =
-    cond-case (λ (x : Rule). (x ≡ sync-block) ⊎ (x ≡ check-fails)) (looksSync k row) (λ e. inl refl)
-    (λ e. inr (ap (λ (b : Bool). verdictRule in-use k r ended row (cond b (passed (number (serviceOf row))) failed)) h))
+    cond-case (λ (x : Rule). (x ≡ sync-block) ⊎ (x ≡ check-fails (remainder row))) (looksSync k row) (λ e. inl refl)
+    (λ e. inr (ap (λ (b : Bool). verdictRule in-use k r ended row (cond b (passed (number (serviceOf row))) (failed (remainder row)))) h))
 
 -- ---- a synchronising block
 
@@ -146,7 +146,7 @@ judge-sync in-use k r ended h =
 -- any block: rule 1, rule 2, rules 3 to 6, or rule 7
 pub data Judged : Rule → Type 0 where
   as-sync : Judged sync-block
-  fails : Judged check-fails
+  fails : (n : ℕ) → Judged (check-fails n)
   as-data : {x : Rule} → meaning x .data-or-end ≡ true → Judged x
   as-other : Judged anything-else
 
@@ -184,7 +184,7 @@ module _ (P : Rule → Type 0) (some : (x : Rule) → meaning x .data-or-end ≡
       (λ a. cond-case P (eqb service endService) (λ e. end-case payload) (λ e. mark-case service))
 
 verdict-judged : (in-use : Bool) (k r : ℕ) (ended : Bool) (row : Bits) (v : Verdict) → Judged (verdictRule in-use k r ended row v)
-verdict-judged in-use k r ended row failed = fails
+verdict-judged in-use k r ended row (failed n) = fails n
 verdict-judged in-use k r ended row (passed service) =
     service-case Judged (λ x d w. as-data d) as-other in-use k r ended service (payloadOf k row)
 
@@ -195,7 +195,7 @@ judged in-use k r ended row =
 
 -- the judging itself never comes to *wait*
 verdict-never-waits : (in-use : Bool) (k r : ℕ) (ended : Bool) (row : Bits) (v : Verdict) → isWaiting (verdictRule in-use k r ended row v) ≡ false
-verdict-never-waits in-use k r ended row failed = refl
+verdict-never-waits in-use k r ended row (failed n) = refl
 verdict-never-waits in-use k r ended row (passed service) =
     service-case (λ (x : Rule). isWaiting x ≡ false) (λ x d w. w) refl in-use k r ended service (payloadOf k row)
 
@@ -207,7 +207,7 @@ judge-never-waits in-use k r ended row =
 -- ready or not
 or-wait-judged : (ready : Bool) {x : Rule} → Judged x → Judged (orWait ready x)
 or-wait-judged ready as-sync = as-sync
-or-wait-judged ready fails = fails
+or-wait-judged ready (fails n) = fails n
 or-wait-judged ready {x} (as-data h) = as-data (same-data-or-end ready x ∙ h)
 or-wait-judged ready as-other = as-other
 

@@ -34,7 +34,7 @@ endsBlock unfinished = false
 endsBlock (standing alarm) = false
 endsBlock sequence-found = true
 endsBlock sync-block = true
-endsBlock check-fails = true
+endsBlock (check-fails n) = true
 endsBlock accepts = true
 endsBlock previous = true
 endsBlock out-of-sequence = true
@@ -94,7 +94,7 @@ module _ (r : Receiver) where
   after-is (standing alarm) e = absurd (false≢true e)
   after-is sequence-found e = good-after
   after-is sync-block e = good-after
-  after-is check-fails e = bad-after (leb lastBad (r .«bad_row» + 1)) (leb-false lastBad (r .«bad_row» + 1))
+  after-is (check-fails n) e = bad-after (leb lastBad (r .«bad_row» + 1)) (leb-false lastBad (r .«bad_row» + 1))
   after-is accepts e = blank-after 0 false (r .taken + 1) (r .ended) P.InStep true false none (omega arith) (omega arith) same-end
   after-is previous e = good-after
   after-is out-of-sequence e = alarm-after P.SequenceAlarm
@@ -159,10 +159,10 @@ module _ (o : Session) (s : Sender) (r : Receiver) (l d : ℕ) (step : r .phase 
       (record { search = refl; bad-row = refl; back = refl; taken = refl; ended = refl; alarm = refl; danger = refl })
 
   -- a bad block
-  bad-reads : (f : LineBlock) (search : Bool) → NotWhole f → r .«bad_row» ≤ 7
+  bad-reads : (f : LineBlock) (remainder : ℕ) (search : Bool) → NotWhole f → r .«bad_row» ≤ 7
       → (search ≡ true → (r .«bad_row» ≡ 7) ⊎ ((f ≡ LineBlock.sync) × (r .taken ≡ 0))) → (search ≡ false → r .«bad_row» < 7)
-      → Reads (N o) (S.ends s r l d) (S.ends s (afterBad r search) l d) f E.Bad
-  bad-reads f true w h y n =
+      → Reads (N o) (S.ends s r l d) (S.ends s (afterBad r search) l d) f (E.Bad remainder)
+  bad-reads f remainder true w h y n =
       ⊎-elim
       (λ e. D.bad-eighth (same-sender s r (afterBad r true) l d d) in-step e w rejected)
       (λ e. rw (e .0) (D.bad-first (same-sender s r (afterBad r true) l d d) in-step (e .1) rejected))
@@ -178,20 +178,20 @@ module _ (o : Session) (s : Sender) (r : Receiver) (l d : ℕ) (step : r .phase 
         alarm = refl;
         danger = refl;
       }
-  bad-reads f false w h y n =
+  bad-reads f remainder false w h y n =
       D.bad-step (same-sender s r (afterBad r false) l d d) in-step (n refl) w
       (record { search = refl; bad-row = refl; back = refl; taken = refl; ended = refl; alarm = refl; danger = refl })
 
-  pub fails-reads : (f : LineBlock) → NotWhole f → r .«bad_row» ≤ 7
-      → Reads (N o) (S.ends s r l d) (S.ends s (after r check-fails) l d) f E.Bad
-  fails-reads f w h =
-      bad-reads f (leb lastBad (r .«bad_row» + 1)) w h
+  pub fails-reads : (f : LineBlock) (remainder : ℕ) → NotWhole f → r .«bad_row» ≤ 7
+      → Reads (N o) (S.ends s r l d) (S.ends s (after r (check-fails remainder)) l d) f (E.Bad remainder)
+  fails-reads f remainder w h =
+      bad-reads f remainder (leb lastBad (r .«bad_row» + 1)) w h
       (λ e. let q = leb-true lastBad (r .«bad_row» + 1) e in inl (omega arith))
       (λ e. let q = leb-false lastBad (r .«bad_row» + 1) e in omega arith)
 
-  pub other-reads : r .«bad_row» ≤ 7 → Reads (N o) (S.ends s r l d) (S.ends s (after r anything-else) l d) LineBlock.sync E.Bad
+  pub other-reads : r .«bad_row» ≤ 7 → Reads (N o) (S.ends s r l d) (S.ends s (after r anything-else) l d) LineBlock.sync (E.Bad 0)
   other-reads h =
-      bad-reads LineBlock.sync (leb lastBad (r .«bad_row» + 1) || eqb (r .taken) 0) (inl refl) h
+      bad-reads LineBlock.sync 0 (leb lastBad (r .«bad_row» + 1) || eqb (r .taken) 0) (inl refl) h
       (λ e. ⊎-elim (λ z. let q = leb-true lastBad (r .«bad_row» + 1) z in inl (omega arith))
       (λ z. inr (refl, eqb-true (r .taken) 0 z)) (or-true (leb lastBad (r .«bad_row» + 1)) (eqb (r .taken) 0) e))
       (λ e. let q = leb-false lastBad (r .«bad_row» + 1)

@@ -122,11 +122,11 @@ pub data Reads (N : ℕ) (s t : Ends) : LineBlock → Event → Type 0 where
       → Reads N s t f E.None
   syncs : SameSender s t → s .alarm ≡ 0 → InStep t (s .taken) (s .ended) (s .danger) → Reads N s t sync E.Sync
   -- rule 2, or rule 7 of a synchronising block
-  bad-step : {f : LineBlock} → SameSender s t → Synchronised s → s .bad-row < 7 → NotWhole f → Rejected s t 0 (s .bad-row + 1)
-      → Reads N s t f E.Bad
-  bad-eighth : {f : LineBlock} → SameSender s t → Synchronised s → s .bad-row ≡ 7 → NotWhole f → Rejected s t 1 0
-      → Reads N s t f E.Bad
-  bad-first : SameSender s t → Synchronised s → s .taken ≡ 0 → Rejected s t 1 0 → Reads N s t sync E.Bad
+  bad-step : {f : LineBlock} {n : ℕ} → SameSender s t → Synchronised s → s .bad-row < 7 → NotWhole f → Rejected s t 0 (s .bad-row + 1)
+      → Reads N s t f (E.Bad n)
+  bad-eighth : {f : LineBlock} {n : ℕ} → SameSender s t → Synchronised s → s .bad-row ≡ 7 → NotWhole f → Rejected s t 1 0
+      → Reads N s t f (E.Bad n)
+  bad-first : {n : ℕ} → SameSender s t → Synchronised s → s .taken ≡ 0 → Rejected s t 1 0 → Reads N s t sync (E.Bad n)
   -- rules 3 to 6 of a data or end block that arrives whole
   accepts : {i : ℕ} → SameSender s t → Synchronised s → i < N → s .ended ≡ 0 → i ≡ s .taken → InStep t (s .taken + 1) 0 0
       → Reads N s t (item i 1) E.Accepted

@@ -111,13 +111,13 @@ module _ (o : Session) (fit : Fit o) (w : World) (l d : ℕ) (copy : Bits) (f : 
     quiet : alarmStands (r .phase) ≡ false
     quiet = ap alarmStands step
 
-    fails-ruling : D.NotWhole f → (f ≡ LineBlock.sync → copy ≡ syncBlock (o .k) → ⊥) → Ruling check-fails
-    fails-ruling n c =
+    fails-ruling : (remainder : ℕ) → D.NotWhole f → (f ≡ LineBlock.sync → copy ≡ syncBlock (o .k) → ⊥) → Ruling (check-fails remainder)
+    fails-ruling remainder n c =
         record {
           ends-block = refl;
           reads =
-              subst (λ (m : ℕ). ReadBy check-fails m f) (sym (not-good false (inl refl)))
-              (fails-reads o (w .sender) r l d step f n (during quiet .bad-row));
+              subst (λ (m : ℕ). ReadBy (check-fails remainder) m f) (sym (not-good false (inl refl)))
+              (fails-reads o (w .sender) r l d step f remainder n (during quiet .bad-row));
           length = λ M n. absurd (false≢true n);
           takes = λ n. absurd (false≢true n);
           clean = λ a b. absurd (c a b);
@@ -147,8 +147,8 @@ module _ (o : Session) (fit : Fit o) (w : World) (l d : ℕ) (copy : Bits) (f : 
     synchronising-read : (ready : Bool) {x : Rule} → Judged x → x ≡ rule → f ≡ LineBlock.sync → w .block ≡ synchronising
         → meaning (orWait ready x) .data-or-end ≡ false → Ruling (orWait ready x)
     synchronising-read ready J.as-sync e q z a = sync-ruling quiet q
-    synchronising-read ready J.fails e q z a =
-        fails-ruling (inl q) (λ p c. let v = whole-sync c in let y : _≡_ {A = ℕ} 0 1 = cc in omega arith)
+    synchronising-read ready (J.fails remainder) e q z a =
+        fails-ruling remainder (inl q) (λ p c. let v = whole-sync c in let y : _≡_ {A = ℕ} 0 1 = cc in omega arith)
     synchronising-read ready {x} (J.as-data n) e q z a = absurd (true≢false (sym n ∙ sym (same-data-or-end ready x) ∙ a))
     synchronising-read ready J.as-other e q z a =
         other-ruling q z (λ c. let v = whole-sync c in let y : _≡_ {A = ℕ} 0 1 = cc in omega arith)
@@ -205,7 +205,7 @@ module _ (o : Session) (fit : Fit o) (w : World) (l d : ℕ) (copy : Bits) (f : 
         go (damaged {i = i} z p) q =
             ⊎-elim
             (λ y. absurd (not-item z (so (ap (λ (x : Rule). meaning (orWait ready x) .event) y))))
-            (λ y. subst (λ (x : Rule). Ruling (orWait ready x)) (sym y) (fails-ruling (inr (i, q)) (λ a b. not-sync q a)))
+            (λ y. subst (λ (x : Rule). Ruling (orWait ready x)) (sym y) (fails-ruling _ (inr (i, q)) (λ a b. not-sync q a)))
             (judge-fails (o .marks .«in_use») (o .k) (r .taken) (r .ended) copy p)
 
   -- a synchronising block on the line is one at block level

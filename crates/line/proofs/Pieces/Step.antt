@@ -114,7 +114,7 @@ quiet-rule unfinished = (refl, refl)
 quiet-rule (standing alarm) = (refl, refl)
 quiet-rule sequence-found = (refl, refl)
 quiet-rule sync-block = (refl, refl)
-quiet-rule check-fails = (refl, refl)
+quiet-rule (check-fails r) = (refl, refl)
 quiet-rule accepts = (refl, refl)
 quiet-rule previous = (refl, refl)
 quiet-rule out-of-sequence = (refl, refl)
@@ -126,6 +126,6 @@ quiet-rule waits = (refl, refl)
 
 pub judged-event : {x : Rule} → Judged x → meaning x .uses-all ≡ false
 judged-event as-sync = refl
-judged-event fails = refl
+judged-event (fails n) = refl
 judged-event {x} (as-data h) = rw h at (quiet-rule x .1)
 judged-event as-other = refl

@@ -1,4 +1,4 @@
--- `Head::judge` meets its contract: rule 1, the check, which refuses nothing here, and the rules of what passes.
+-- `Head::judge` meets its contract: rule 1, the check, where the reader refuses nothing, and the rules of what passes.
 -- Assumes nothing.
 use mathlib.Core.Path.{_≡_, refl, sym, ap, _∙_}
 use mathlib.Core.Bool.{true}
@@ -7,6 +7,7 @@ use borrow.Author.Tests.{not-true, not-false}
 use lib.ListN.{take}
 use Rattle.crc.specs.Bits.{Bits, bitsOf}
 use Rattle.block.specs.Lengths.{blockLength}
+use Rattle.block.specs.Block.{failed}
 use Rattle.block.specs.Calls.{tooShort}
 use Rattle.line.specs.Receiving.{sync-block, check-fails, orWait, blockRule}
 use Rattle.line.specs.ReceivingInPlace.{withArray}
@@ -31,7 +32,7 @@ passed-rule c =
     let j = c .before in
     let k = j .before .before .before .before in
     let e = sym (k .before .before .looks-sync .ensures) ∙ k .before .if1 .left in
-    let v = check-passes (a .args .self .setup .k) (a .pre .range .known) (a .args .row .now) (a .pre .held) _ (k .check-block .ensures) _ (j .before .before .answer .given .1) in
+    let v = check-passes (a .args .self .setup .k) (a .pre .range .known) (a .args .row .now) (a .pre .held) _ (k .read-service .ensures) _ (j .before .before .answer .given .1) in
     c .or-wait .ensures ∙ ap (orWait (a .args .ready)) (j .service-rule .ensures)
     ∙ rule-passed (withArray (a .args .self) (a .args .array .now)) _ (a .args .ready) _ e v
 
@@ -51,11 +52,14 @@ returns c =
     let e = sym (t .before .looks-sync .ensures) ∙ t .if1 .taken in
     handed-rule _ _ _ _ _ (a .ready) sync-block (rule-sync (withArray (a .self) (a .array .now)) _ (a .ready) e) refl (c .before .before .after-good .ensures)
 
-check-block-requires : tie.Need-check-block-requires
-check-block-requires c κs = search needs
+read-service-requires : tie.Need-read-service-requires
+read-service-requires c κs = search needs
 
 enum-known-answer : tie.Need-enum-known-answer
 enum-known-answer c = search needs
+
+remainder-requires : tie.Need-remainder-requires
+remainder-requires c κs = search needs
 
 after-bad-requires : tie.Need-after-bad-requires
 after-bad-requires c κs = search needs
@@ -65,13 +69,14 @@ same-length-2 c = search needs
 
 returns-2 : tie.Need-returns-2
 returns-2 c =
-    let m = c .before .before .before .before in
+    let n = c .before .before .before in
+    let m = n .before .before in
     let b = m .before .before in
     let a = b .before .before .before .before .before in
     let e = sym (b .before .looks-sync .ensures) ∙ b .if1 .left in
-    let v = check-not-passed (a .args .self .setup .k) (a .pre .range .known) (a .args .row .now) (a .pre .held) _ (m .before .check-block .ensures) (m .match .keys2) in
-    handed-rule _ _ _ _ _ (a .args .ready) check-fails (rule-failed (withArray (a .args .self) (a .args .array .now)) _ (a .args .ready) e v) refl
-    (c .before .before .after-bad .ensures ∙ handed-bad (withArray (a .args .self) (a .args .array .now)) (a .args .used))
+    let v = check-not-passed (a .args .self .setup .k) (a .pre .range .known) (a .args .row .now) (a .pre .held) _ (m .before .read-service .ensures) (m .match .keys2) ∙ ap failed (sym (n .remainder .ensures)) in
+    handed-rule _ _ _ _ _ (a .args .ready) (check-fails (n .remainder .result)) (rule-failed (withArray (a .args .self) (a .args .array .now)) _ (a .args .ready) (n .remainder .result) e v) refl
+    (c .before .before .after-bad .ensures ∙ handed-bad (withArray (a .args .self) (a .args .array .now)) (n .remainder .result) (a .args .used))
 
 service-rule-requires : tie.Need-service-rule-requires
 service-rule-requires c κs = search needs
@@ -138,8 +143,9 @@ judge-spec =
     after-good-requires
     same-length
     returns
-    check-block-requires
+    read-service-requires
     enum-known-answer
+    remainder-requires
     after-bad-requires
     same-length-2
     returns-2
