@@ -1,16 +1,19 @@
--- The block as a row: its length and parts, that it passes, that the synchronising block fails, and what cancelling inverts.
--- Assumes nothing.
+-- The block as a row: its length and parts, that it passes, that the synchronising block fails, what cancelling inverts, and the
+-- remainder that it leaves. Assumes nothing.
 use mathlib.Core.Path.{_≡_, refl, sym, ap, ap₂, _∙_}
 use mathlib.Core.Bool.{Bool, true, false, not, Bool·not-not}
 use mathlib.Core.List.{[], _∷_, _++_, append-assoc}
 use Prim.Native.Nat.{ℕ, zero, suc, _+_, _-_, _*_, _/_, _<_}
 use native.Mathlib.Omega.{arith}
 use borrow.Author.Tests.{not-true}
+use lib.Bits.{bitXor, xor-zero-r}
 use lib.ListN.{length, take, drop, length-append}
 use lib.Seq.{take-at, drop-at}
 use Rattle.crc.specs.Bits.{Bits, zeros, binary, xor, xorBits}
-use Rattle.crc.specs.Check.{check, remainder, passes}
+use Rattle.crc.specs.Check.{divide, check, remainder, passes}
 use Rattle.crc.proofs.Rows.{length-binary, xor-bits-self}
+use Rattle.crc.proofs.Linear.{divide-zeros, remainder-append, remainder-xor}
+use Rattle.crc.proofs.Division.{passes-remainder}
 use Rattle.crc.proofs.Codeword.{passes-checked}
 use Rattle.block.specs.Lengths.{isLength, blockLength}
 use Rattle.block.specs.Block.{blockBits, serviceOf, payloadOf, tens, serviceSync, syncSequence, syncBlock, cancelled}
@@ -95,6 +98,22 @@ cancelled-last (b ∷ c ∷ bs) h =
     let e : suc (suc (length bs)) - 1 ≡ suc (suc (length bs) - 1) = omega arith in
     ap₂ (λ (x : Bool) (l : Bits). x ∷ l) (xor-bits-self b) (cancelled-last (c ∷ bs) (omega arith))
     ∙ ap (λ (n : ℕ). zeros n ++ true ∷ []) (sym e)
+
+-- the first bits stay
+pub cancelled-front : (m : ℕ) (b : Bits) → m < length b → take m (cancelled b) ≡ take m b
+unfolding cancelled
+cancelled-front m [] h = absurd (omega arith)
+cancelled-front zero (b ∷ bs) h = refl
+cancelled-front (suc m) (b ∷ []) h = absurd (omega arith)
+cancelled-front (suc m) (b ∷ c ∷ bs) h = ap (λ (l : Bits). b ∷ l) (cancelled-front m (c ∷ bs) (omega arith))
+
+-- of a row that passes, the inverted last bit alone is left
+pub cancelled-remainder : (b : Bits) → 0 < length b → passes b ≡ true → remainder (cancelled b) ≡ 1
+unfolding remainder
+cancelled-remainder b h p =
+    sym (xor-zero-r (remainder (cancelled b))) ∙ ap (bitXor (remainder (cancelled b))) (sym (passes-remainder b .0 p))
+    ∙ sym (remainder-xor (cancelled b) b (length-cancelled b)) ∙ ap remainder (cancelled-last b h)
+    ∙ remainder-append (zeros (length b - 1)) (true ∷ []) ∙ ap (λ (c : ℕ). divide c (true ∷ [])) (divide-zeros (length b - 1))
 
 pub cancelled-cancelled : (b : Bits) → cancelled (cancelled b) ≡ b
 unfolding cancelled

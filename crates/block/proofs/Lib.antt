@@ -1,6 +1,7 @@
 -- Lemmas of the block; those of one function of the code stand in its folder.
 -- Truth values: Truth. The four lengths: Lengths. The block as a row: Block; its bytes: Packing. Which answer a call gives:
--- Refusals. Reading what was built: RoundTrip. Passing and dividing: Passing. The theorems at one case: Witness.
+-- Refusals. Reading what was built: RoundTrip. Passing and dividing: Passing. A block that was cancelled:
+-- Cancelled. The theorems at one case: Witness.
 pub mod Truth
 pub mod Lengths
 pub mod Block
@@ -8,4 +9,5 @@ pub mod Packing
 pub mod Refusals
 pub mod RoundTrip
 pub mod Passing
+pub mod Cancelled
 pub mod Witness

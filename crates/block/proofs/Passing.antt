@@ -24,11 +24,11 @@ both : (b : Bool) → b ≡ true → b ≡ false → ⊥
 both b q r = let z : _≡_ {A = ℕ} 0 1 = cc in omega arith
 
 -- what the verdict says of the check
-verdict-passed : (t : Bool) (n r s : ℕ) → cond t (passed n) (failed r) ≡ passed s → t ≡ true
+pub verdict-passed : (t : Bool) (n r s : ℕ) → cond t (passed n) (failed r) ≡ passed s → t ≡ true
 verdict-passed true n r s h = refl
 verdict-passed false n r s h = absurd (let z : _≡_ {A = ℕ} 0 1 = cc in omega arith)
 
-verdict-failed : (t : Bool) (n r s : ℕ) → cond t (passed n) (failed r) ≡ failed s → (t ≡ false) × (r ≡ s)
+pub verdict-failed : (t : Bool) (n r s : ℕ) → cond t (passed n) (failed r) ≡ failed s → (t ≡ false) × (r ≡ s)
 verdict-failed true n r s h = absurd (let z : _≡_ {A = ℕ} 0 1 = cc in omega arith)
 verdict-failed false n r s h = (refl, cc)
 
@@ -37,7 +37,7 @@ module _ (k : ℕ) (slice payload payload′ : List ℕ) where
   abbrev row : Bits
   row = take (blockLength k) (bitsOf slice)
 
-  verdict-row : (v : Verdict) → readBlock k slice payload ≡ done v → verdict row ≡ v
+  pub verdict-row : (v : Verdict) → readBlock k slice payload ≡ done v → verdict row ≡ v
   unfolding readBlock
   verdict-row v e =
       let t1 = passed-test (not (isLength k)) A.block _ v e in

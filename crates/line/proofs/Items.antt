@@ -19,7 +19,7 @@ use Rattle.block.proofs.Lengths.{length-facts}
 use Rattle.block.proofs.Block.{length-blockBits, passes-blockBits, service-blockBits, payload-blockBits}
 use Rattle.block.proofs.Truth.{and-left, and-right, cond-case}
 use Rattle.line.specs.declared.marks.Marks.{Marks}
-use Rattle.line.proofs.ServiceBits.{service-lt16}
+use Rattle.line.proofs.ServiceBits.{service-lt16, service-not-sync}
 use Rattle.line.specs.Order.{longestOrder, mostItems, validLength, itemCount, endService, dataService, orderBits, filled, version, endPayload, isData, itemService, itemPayload, itemBits}
 
 -- ---- the number of items
@@ -128,6 +128,12 @@ pub passes-itemBits : (m : Marks) (k L : ℕ) (content : Bits) (i : ℕ) → pas
 unfolding itemBits
 passes-itemBits m k L content i = passes-blockBits (binary 4 (itemService m k L i)) (itemPayload k L content i)
 
+-- the check bits alone are so many
+pub itemBits-long : (m : Marks) (k L : ℕ) (content : Bits) (i : ℕ) → 16 ≤ length (itemBits m k L content i)
+unfolding itemBits
+itemBits-long m k L content i =
+    omega (arith, length-blockBits (binary 4 (itemService m k L i)) (itemPayload k L content i))
+
 -- ---- service bits and data
 
 module _ (m : Marks) (k L i : ℕ) where
@@ -142,6 +148,11 @@ module _ (m : Marks) (k L i : ℕ) where
   pub itemService-lt16 : itemService m k L i < 16
   unfolding itemService
   itemService-lt16 = cond-case (λ (s : ℕ). s < 16) (isData k L i) (λ e. service-lt16 m i) (λ e. omega arith)
+
+  pub itemService-not-sync : itemService m k L i ≡ 0b0101 → ⊥
+  unfolding itemService
+  itemService-not-sync =
+      cond-case (λ (s : ℕ). s ≡ 0b0101 → ⊥) (isData k L i) (λ e. service-not-sync m i) (λ e z. omega arith)
 
   pub service-itemBits : (content : Bits) → number (serviceOf (itemBits m k L content i)) ≡ itemService m k L i
   unfolding itemBits

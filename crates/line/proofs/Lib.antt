@@ -4,7 +4,8 @@
 -- by bytes: BitMoves. A receiving call: ReceivingCall, ReceptionCases (the ways it can end), KeptSetup (what opening fixed stays),
 -- and in place InPlace; in search SearchWindow, LineSearch; in step InStepBits, BlockFields (what a block's bytes say),
 -- StorePlace (where its data go), OrWait (the step to *wait*), BlockFinished (what is handed back). Demand 3: Delivery. Ready or
--- not: Readiness. Calls lent in pieces: Pieces. The examples of docs/PROTOCOL.md: Examples.
+-- not: Readiness. What a bad event's number says: BadRemainder. Calls lent in pieces: Pieces. The examples of docs/PROTOCOL.md:
+-- Examples.
 pub mod Table
 pub mod LoopTime
 pub mod CodeSizes
@@ -28,5 +29,6 @@ pub mod KeptSetup
 pub mod InPlace
 pub mod Delivery
 pub mod Readiness
+pub mod BadRemainder
 pub mod Pieces
 pub mod Examples

@@ -1,6 +1,6 @@
 -- `read_service` keeps its promise: it is refused as the check is, and judges the check's remainder by zero. Assumes nothing.
 use mathlib.Core.Path.{_≡_, sym, ap, _∙_}
-use Prim.Native.Nat.{_+_, _<_}
+use Prim.Native.Nat.{_<_}
 use native.Mathlib.Omega.{arith}
 use lib.ListN.{length, take}
 use Rattle.crc.specs.Bits.{bitsOf}

@@ -23,8 +23,8 @@ use Rattle.line.specs.Receiving.{Rule, sync-block, check-fails, accepts,
 use Rattle.line.specs.declared.marks.Marks.{Marks}
 use Rattle.line.specs.declared.receiver.Receiver.{Receiver}
 use Rattle.line.proofs.OrWait.{same-data-or-end}
-use Rattle.line.proofs.ServiceBits.{service-not-sync, place-expected, place-last, place-next, by-place}
-use Rattle.line.proofs.Items.{itemService-data, itemService-end, itemPayload-end, service-itemBits, payload-itemBits, passes-itemBits}
+use Rattle.line.proofs.ServiceBits.{place-expected, place-last, place-next, by-place}
+use Rattle.line.proofs.Items.{itemService-data, itemService-end, itemService-not-sync, itemPayload-end, service-itemBits, payload-itemBits, passes-itemBits}
 use Rattle.line.proofs.Delivery.Ends.{Neighbour}
 
 -- ---- an item that arrives as it was before cancelling, with r items taken
@@ -83,20 +83,14 @@ module _ (k L : ℕ) where
 
 module _ (m : Marks) (k L : ℕ) (content : Bits) (known : isLength k ≡ true) (low : 1 ≤ L) (high : L ≤ longestOrder)
     (long : length content ≡ L) where
-  not-sync : (i : ℕ) → (i < itemCount k L) ⊎ (itemCount k L ≤ i) → eqb (itemService m k L i) (number serviceSync) ≡ false
-  unfolding number
-  not-sync i (inl h) = ne-eqb (itemService m k L i) 5 (λ e. service-not-sync m i (sym (itemService-data m k L i h) ∙ e))
-  not-sync i (inr h) = ne-eqb (itemService m k L i) 5
-      (λ e. let z : endService ≡ 5 = sym (itemService-end m k L i h) ∙ e in omega arith)
-
   which : (i : ℕ) → (i < itemCount k L) ⊎ (itemCount k L ≤ i)
   which i =
       ⊎-elim (λ e. inl (ltb-true i (itemCount k L) e)) (λ e. inr (ltb-false i (itemCount k L) e)) (either (ltb i (itemCount k L)))
 
   -- rule 1 never reads it
   item-never-sync : (i : ℕ) → looksSync k (itemBits m k L content i) ≡ false
-  unfolding looksSync
-  item-never-sync i = rw (service-itemBits m k L i content, not-sync i (which i)) refl
+  unfolding looksSync number
+  item-never-sync i = rw (service-itemBits m k L i content, ne-eqb (itemService m k L i) 5 (itemService-not-sync m k L i)) refl
 
   -- it is read by its service bits
   pub item-read : (r : ℕ) (ended : Bool) (i : ℕ)

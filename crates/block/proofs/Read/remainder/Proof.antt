@@ -1,7 +1,6 @@
 -- `Read::remainder` takes the remainder from a failed reading. Assumes nothing.
 use mathlib.Core.List.{[], _∷_}
 use mathlib.Core.Path.{_≡_, refl}
-use Prim.Native.Nat.{ℕ}
 use types.Run.{OneOf, miss}
 use denote.Enum.Declared.{tagOf}
 use Rattle.block.specs.Calls.{readAnswer, carriedRemainder}
