@@ -1,6 +1,6 @@
 -- A block that passes, once it is cancelled, fails with the remainder 1: on the promises of the calls. Assumes nothing.
 use mathlib.Core.Path.{_≡_, refl, sym, ap, _∙_}
-use mathlib.Core.Bool.{true, false, not, _||_}
+use mathlib.Core.Bool.{true, not}
 use mathlib.Core.List.{List, _++_}
 use Prim.Native.Nat.{ℕ, _+_, _*_, _≤_}
 use native.Mathlib.Omega.{arith}
@@ -14,7 +14,7 @@ use Rattle.block.specs.Answer as A
 use Rattle.block.specs.Answer.{done}
 use Rattle.block.specs.Lengths.{isLength, blockLength}
 use Rattle.block.specs.Block.{serviceOf, passed, failed, verdict, cancelled}
-use Rattle.block.specs.Calls.{tooShort, readAnswer, readBlock, ReadBlock, cancelBlock, cancelBytes, CancelBlock}
+use Rattle.block.specs.Calls.{tooShort, readAnswer, ReadBlock, cancelBlock, cancelBytes, CancelBlock}
 use Rattle.block.specs.declared.Built.the-variants as B
 use Rattle.block.specs.declared.Read.{Read}
 use Rattle.block.specs.declared.Read.the-variants as R

@@ -163,12 +163,12 @@ impl Head {
         ensures { λ r. ⌜ stepWith r (now (array .exit)) ≡ stepped (S.afterBad (withArray self (now (array .entry))) (leb S.lastBad (self .«bad_row» + 1) || lost)) (Event.Bad remainder) used ⌝ }
     {
         let bad_row = self.bad_row + 1;
-        let event = Event::Bad(remainder);
+        let bad = Event::Bad(remainder);
         if LAST_BAD <= bad_row {
-            return self.return_one(array, Phase::Search, event, used);
+            return self.return_one(array, Phase::Search, bad, used);
         }
         if lost {
-            return self.return_one(array, Phase::Search, event, used);
+            return self.return_one(array, Phase::Search, bad, used);
         }
         let next = Head {
             held: 0,
@@ -177,7 +177,7 @@ impl Head {
             phase: Phase::InStep,
             ..self
         };
-        next.after(array, event, used)
+        next.after(array, bad, used)
     }
 
     // What a rule comes to, the store apart.
