@@ -3,7 +3,7 @@ use mathlib.Core.Path.{_≡_}
 use Prim.Native.Nat.{ℕ, _+_, _*_}
 
 abbrev pub major : ℕ
-major = 4
+major = 5
 
 abbrev pub minor : ℕ
 minor = 0

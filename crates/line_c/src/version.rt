@@ -1,7 +1,7 @@
 // The version of the library; docs/VERSION.md says what it promises.
 ghost use Rattle.line_c.specs.Version.{VersionCall};
 
-pub const MAJOR: u32 = 4;
+pub const MAJOR: u32 = 5;
 
 pub const MINOR: u32 = 0;
 
