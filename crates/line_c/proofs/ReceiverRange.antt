@@ -73,7 +73,7 @@ module _ (s : Receiver) (r : InRange s) (f : ReceiverFits s) where
   after-fits (standing alarm) = f
   after-fits sequence-found = blank-fits 0 false (s .taken) (s .ended) P.InStep (omega arith) (omega arith)
   after-fits sync-block = blank-fits 0 false (s .taken) (s .ended) P.InStep (omega arith) (omega arith)
-  after-fits check-fails = afterBad-fits (leb lastBad (s .«bad_row» + 1))
+  after-fits (check-fails n) = afterBad-fits (leb lastBad (s .«bad_row» + 1))
   after-fits accepts = blank-fits 0 false (s .taken + 1) (s .ended) P.InStep (omega arith) (omega arith)
   after-fits previous = blank-fits 0 false (s .taken) (s .ended) P.InStep (omega arith) (omega arith)
   after-fits out-of-sequence = blank-fits 0 true (s .taken) (s .ended) P.SequenceAlarm (omega arith) (omega arith)

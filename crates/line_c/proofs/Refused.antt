@@ -42,7 +42,7 @@ from-64 n h = rw (le-ltb n 64 h)
 event-told : (e : Event) → isRefusal (eventNumber e) ≡ false
 event-told E.None = refl
 event-told E.Sync = refl
-event-told E.Bad = refl
+event-told (E.Bad r) = refl
 event-told E.Accepted = refl
 event-told E.Previous = refl
 event-told E.SequenceAlarm = refl
@@ -52,7 +52,7 @@ event-told E.Wait = refl
 
 verdict-told : (v : Verdict) → isRefusal (readNumber (done v)) ≡ false
 verdict-told (passed service) = from-64 (0x100 + service) (omega arith)
-verdict-told failed = refl
+verdict-told (failed r) = refl
 
 sent-told : (b : Block) → isRefusal (sentWord (done b)) ≡ false
 sent-told synchronising = refl

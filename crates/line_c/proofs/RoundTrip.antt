@@ -375,10 +375,11 @@ holds-of state s e =
     (not-false (holdsReceiver state) (p .0), cc (p .1))
 
 -- after a receiving call that is not refused, the bytes hold the state that it hands back
-pub received-read-back : (state line : List ℕ) (count : ℕ) (ready : Bool) (store : List ℕ) (used len result : ℕ) (state′ store′ : List ℕ) (used′ len′ : ℕ)
-    (s : Receiver) (x : Reception) → ReceiveCall state line count ready store used len result state′ store′ used′ len′
+pub received-read-back : (state line : List ℕ) (count : ℕ) (ready : Bool) (store : List ℕ) (used len remainder result : ℕ)
+    (state′ store′ : List ℕ) (used′ len′ remainder′ : ℕ) (s : Receiver) (x : Reception)
+    → ReceiveCall state line count ready store used len remainder result state′ store′ used′ len′ remainder′
     → receiverOf state ≡ done s → receive s line count ready store ≡ done x → receiverOf state′ ≡ done (x .state)
-received-read-back state line count ready store used len result state′ store′ used′ len′ s x p e f =
+received-read-back state line count ready store used len remainder result state′ store′ used′ len′ remainder′ s x p e f =
     let w : state′ ≡ receiverOver state (x .state) = rw (e, f) at (p .keeps) in
     let h = holds-of state s e in
     let b : length (s .bits) ≡ arrayBytes = rw (h .1) (length-bits state (h .0)) in

@@ -24,8 +24,15 @@ pub record BuildBlockCall (k service : ℕ) (payload slice : List ℕ) (result :
 abbrev pub readNumber : Answer Verdict → ℕ
 readNumber (refused n) = n
 readNumber (done (passed service)) = 0x100 + service
-readNumber (done failed) = 0x200
+readNumber (done (failed r)) = 0x200
 
-pub record ReadBlockCall (k : ℕ) (slice payload : List ℕ) (result : ℕ) (payload′ : List ℕ) : Type 0 where
+-- the remainder that comes with a block that fails; without it, the number stays
+abbrev pub readRemainder : ℕ → Answer Verdict → ℕ
+readRemainder remainder (refused n) = remainder
+readRemainder remainder (done (passed service)) = remainder
+readRemainder remainder (done (failed r)) = r
+
+pub record ReadBlockCall (k : ℕ) (slice payload : List ℕ) (remainder result : ℕ) (payload′ : List ℕ) (remainder′ : ℕ) : Type 0 where
   pub answers : result ≡ readNumber (readBlock k slice payload)
   pub writes : payload′ ≡ readBytes k slice payload (readBlock k slice payload)
+  pub fails : remainder′ ≡ readRemainder remainder (readBlock k slice payload)

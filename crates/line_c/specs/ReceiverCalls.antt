@@ -40,7 +40,7 @@ pub record OpenReceiverCall (k : ℕ) (size : CodeSize) (state : List ℕ) (resu
 abbrev pub eventNumber : Event → ℕ
 eventNumber E.None = 64
 eventNumber E.Sync = 65
-eventNumber E.Bad = 66
+eventNumber (E.Bad r) = 66
 eventNumber E.Accepted = 67
 eventNumber E.Previous = 68
 eventNumber E.SequenceAlarm = 69
@@ -51,6 +51,18 @@ eventNumber E.Wait = 72
 -- the length that comes with the end; without it, the number stays
 abbrev pub eventLength : ℕ → Event → ℕ
 eventLength len event = withLength len (λ L. L) (eventKind event .length)
+
+-- the remainder that comes with a bad event; without it, the number stays
+abbrev pub eventRemainder : ℕ → Event → ℕ
+eventRemainder remainder E.None = remainder
+eventRemainder remainder E.Sync = remainder
+eventRemainder remainder (E.Bad r) = r
+eventRemainder remainder E.Accepted = remainder
+eventRemainder remainder E.Previous = remainder
+eventRemainder remainder E.SequenceAlarm = remainder
+eventRemainder remainder E.LengthAlarm = remainder
+eventRemainder remainder (E.Ended L) = remainder
+eventRemainder remainder E.Wait = remainder
 
 abbrev pub reportNumber : Answer Report → ℕ
 reportNumber (refused n) = n
@@ -63,6 +75,10 @@ reportUsed used (done r) = r .used
 abbrev pub reportLength : ℕ → Answer Report → ℕ
 reportLength len (refused n) = len
 reportLength len (done r) = eventLength len (r .event)
+
+abbrev pub reportRemainder : ℕ → Answer Report → ℕ
+reportRemainder remainder (refused n) = remainder
+reportRemainder remainder (done r) = eventRemainder remainder (r .event)
 
 -- a call on the receiver that the bytes hold, the bytes afterwards, and the store
 abbrev pub receiveIn : List ℕ → ℕ → Bool → List ℕ → Answer Receiver → Answer Reception
@@ -78,13 +94,15 @@ receivedStore store (refused n) answer = store
 receivedStore store (done s) answer = receiveStore s store answer
 
 pub record ReceiveCall
-    (state line : List ℕ) (count : ℕ) (ready : Bool) (store : List ℕ) (used len result : ℕ) (state′ store′ : List ℕ) (used′ len′ : ℕ)
+    (state line : List ℕ) (count : ℕ) (ready : Bool) (store : List ℕ) (used len remainder result : ℕ) (state′ store′ : List ℕ)
+    (used′ len′ remainder′ : ℕ)
     : Type 0 where
   pub answers : result ≡ reportNumber (reported (receiveIn line count ready store (receiverOf state)))
   pub keeps : state′ ≡ receivedState state (receiveIn line count ready store (receiverOf state))
   pub writes : store′ ≡ receivedStore store (receiverOf state) (receiveIn line count ready store (receiverOf state))
   pub uses : used′ ≡ reportUsed used (reported (receiveIn line count ready store (receiverOf state)))
   pub ends : len′ ≡ reportLength len (reported (receiveIn line count ready store (receiverOf state)))
+  pub fails : remainder′ ≡ reportRemainder remainder (reported (receiveIn line count ready store (receiverOf state)))
 
 -- ---- the return bit
 

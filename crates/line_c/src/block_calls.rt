@@ -38,12 +38,20 @@ pub extern "C" fn order_line_build_block(
 }
 
 #[no_mangle]
-pub extern "C" fn order_line_read_block(k: usize, block: &[u8], payload: &mut [u8]) -> u16
-    ensures { λ r. ⌜ ReadBlockCall k (now (block .entry)) (now (payload .entry)) r (now (payload .exit)) ⌝ }
+pub extern "C" fn order_line_read_block(
+    k: usize,
+    block: &[u8],
+    payload: &mut [u8],
+    remainder: &mut u16,
+) -> u16
+    ensures { λ r. ⌜ ReadBlockCall k (now (block .entry)) (now (payload .entry)) (now (remainder .entry)) r (now (payload .exit)) (now (remainder .exit)) ⌝ }
 {
     match read_block(k, block, payload) {
         Read::Passed(service) => PASSED + service as u16,
-        Read::Failed => FAILED,
+        Read::Failed(found) => {
+            *remainder = found;
+            FAILED
+        }
         Read::Refused(number) => number as u16,
     }
 }

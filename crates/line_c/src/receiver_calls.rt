@@ -1,6 +1,6 @@
 // The receiving end's calls, the receiver in lent bytes.
 ghost use mathlib.Core.Path.{_≡_};
-ghost use Rattle.line_c.specs.ReceiverCalls.{OpenReceiverCall, eventNumber, eventLength, ReceiveCall, ReturnBitCall};
+ghost use Rattle.line_c.specs.ReceiverCalls.{OpenReceiverCall, eventNumber, eventLength, eventRemainder, ReceiveCall, ReturnBitCall};
 use crate::layout::HEAD_SIZE;
 use crate::receiver_bytes::ARRAY_END;
 use crate::receiver_bytes::RECEIVER_SIZE;
@@ -77,7 +77,7 @@ fn number_of(event: Event) -> u8
     match event {
         Event::None => NONE,
         Event::Sync => SYNC,
-        Event::Bad => BAD,
+        Event::Bad(_) => BAD,
         Event::Accepted => ACCEPTED,
         Event::Previous => PREVIOUS,
         Event::SequenceAlarm => SEQUENCE_ALARM,
@@ -87,15 +87,21 @@ fn number_of(event: Event) -> u8
     }
 }
 
-// An event's number; the length that comes with the end is written.
-fn report(event: Event, length: &mut usize) -> u8
-    ensures { λ r. ⌜ (r ≡ eventNumber event) × (now (length .exit) ≡ eventLength (now (length .entry)) event) ⌝ }
+// An event's number; the remainder that comes with a bad event is written, and the length that comes with the end.
+fn report(event: Event, length: &mut usize, remainder: &mut u16) -> u8
+    ensures { λ r. ⌜ (r ≡ eventNumber event) × (now (length .exit) ≡ eventLength (now (length .entry)) event) × (now (remainder .exit) ≡ eventRemainder (now (remainder .entry)) event) ⌝ }
 {
-    if let Event::Ended(bits) = event {
-        *length = bits;
-        return ENDED;
+    match event {
+        Event::Bad(found) => {
+            *remainder = found;
+            BAD
+        }
+        Event::Ended(bits) => {
+            *length = bits;
+            ENDED
+        }
+        _ => number_of(event),
     }
-    number_of(event)
 }
 
 #[no_mangle]
@@ -107,8 +113,9 @@ pub extern "C" fn order_line_receive(
     store: &mut [u8],
     used: &mut usize,
     length: &mut usize,
+    remainder: &mut u16,
 ) -> u8
-    ensures { λ r. ⌜ ReceiveCall (now (state .entry)) (now (line .entry)) bits ready (now (store .entry)) (now (used .entry)) (now (length .entry)) r (now (state .exit)) (now (store .exit)) (now (used .exit)) (now (length .exit)) ⌝ }
+    ensures { λ r. ⌜ ReceiveCall (now (state .entry)) (now (line .entry)) bits ready (now (store .entry)) (now (used .entry)) (now (length .entry)) (now (remainder .entry)) r (now (state .exit)) (now (store .exit)) (now (used .exit)) (now (length .exit)) (now (remainder .exit)) ⌝ }
 {
     if !holds_receiver(state) {
         return block::SPOILED;
@@ -122,7 +129,7 @@ pub extern "C" fn order_line_receive(
         Received::Used { event, bits } => {
             put_head(next, state);
             *used = bits;
-            report(event, length)
+            report(event, length, remainder)
         }
     }
 }

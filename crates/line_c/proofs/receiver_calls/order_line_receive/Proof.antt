@@ -21,7 +21,7 @@ use Rattle.line.specs.declared.receiving.Event.{Event}
 use Rattle.line.proofs.InPlace.{by-value}
 use Rattle.line.proofs.KeptSetup.{received-setup}
 use Rattle.line_c.specs.State.{headSize, marksBytes, arrayEnd, receiverSize, holdsReceiver, receiverIn, receiverOf, receiverHead, receiverBytes}
-use Rattle.line_c.specs.ReceiverCalls.{receiverOver, eventNumber, eventLength, reportNumber, reportUsed, reportLength, receivedState, ReceiveCall}
+use Rattle.line_c.specs.ReceiverCalls.{receiverOver, eventNumber, eventLength, eventRemainder, reportNumber, reportUsed, reportLength, reportRemainder, receivedState, ReceiveCall}
 use Rattle.line_c.proofs.RoundTrip.{held, marks-written-back}
 use borrow.Author.Needs.{needs}
 use Rattle.line_c.proofs.receiver_calls.order_line_receive.Statement.{statement}
@@ -77,10 +77,11 @@ module _ (state : List ℕ) where
         ∙ ap (λ (l : List ℕ). array′ ++ l) (drop-drop arrayBytes headSize state ∙ sym m))
         ∙ simp append-assoc
 
-module _ (state line : List ℕ) (count : ℕ) (ready : Bool) (store : List ℕ) (used len : ℕ) where
-  unheld : holdsReceiver state ≡ false → ReceiveCall state line count ready store used len A.spoiled state store used len
+module _ (state line : List ℕ) (count : ℕ) (ready : Bool) (store : List ℕ) (used len remainder : ℕ) where
+  unheld : holdsReceiver state ≡ false
+      → ReceiveCall state line count ready store used len remainder A.spoiled state store used len remainder
   unfolding receiverOf
-  unheld h = record { answers = rw h; keeps = rw h; writes = rw h; uses = rw h; ends = rw h }
+  unheld h = record { answers = rw h; keeps = rw h; writes = rw h; uses = rw h; ends = rw h; fails = rw h }
 
   module _ (h : holdsReceiver state ≡ true) (head : Head) (e : withArray head (array state) ≡ receiverIn state) where
     abbrev s : Receiver
@@ -105,7 +106,7 @@ module _ (state line : List ℕ) (count : ℕ) (ready : Bool) (store : List ℕ)
       call = by-value head (array state) line count ready store (length-array state enough) result array′ store′ q
 
       turned : (n : ℕ) → receivedAnswer (result .answer) ≡ refused n
-          → ReceiveCall state line count ready store used len n (with-array state array′) store′ used len
+          → ReceiveCall state line count ready store used len remainder n (with-array state array′) store′ used len remainder
       turned n a =
           let r : reported (receive s line count ready store) ≡ refused n = sym (call .answers) ∙ a in
           let k = kept-refused state s (receive s line count ready store) n r in
@@ -116,13 +117,15 @@ module _ (state line : List ℕ) (count : ℕ) (ready : Bool) (store : List ℕ)
             writes = rw receiver-held (call .writes);
             uses = rw receiver-held (sym (ap (reportUsed used) r));
             ends = rw receiver-held (sym (ap (reportLength len) r));
+            fails = rw receiver-held (sym (ap (reportRemainder remainder) r));
           }
 
       heard : (event : Event) (bits : ℕ) → receivedAnswer (result .answer) ≡ done (record { event = event; used = bits })
-          → (number : ℕ) (state′ : List ℕ) (len′ : ℕ) → number ≡ eventNumber event
+          → (number : ℕ) (state′ : List ℕ) (len′ remainder′ : ℕ) → number ≡ eventNumber event
           → state′ ≡ receiverHead (withArray (result .head) []) ++ drop headSize (with-array state array′)
-          → len′ ≡ eventLength len event → ReceiveCall state line count ready store used len number state′ store′ bits len′
-      heard event bits a number state′ len′ n w l =
+          → len′ ≡ eventLength len event → remainder′ ≡ eventRemainder remainder event
+          → ReceiveCall state line count ready store used len remainder number state′ store′ bits len′ remainder′
+      heard event bits a number state′ len′ remainder′ n w l f =
           let r = sym (call .answers) ∙ a in
           let k : result .head .setup ≡ s .setup =
           ap (λ (x : Receiver). x .setup) (call .state) ∙ kept-setup s line count ready store (receive s line count ready store) refl _ r in
@@ -134,6 +137,7 @@ module _ (state line : List ℕ) (count : ℕ) (ready : Bool) (store : List ℕ)
             writes = rw receiver-held (call .writes);
             uses = rw receiver-held (sym (ap (reportUsed used) r));
             ends = rw receiver-held (l ∙ sym (ap (reportLength len) r));
+            fails = rw receiver-held (f ∙ sym (ap (reportRemainder remainder) r));
           }
 
 -- the places where the test was passed and where the function began
@@ -153,7 +157,7 @@ same-length : tie.Need-same-length
 same-length c = search needs
 
 returns : tie.Need-returns
-returns c = unheld _ _ _ _ _ _ _ (sym (c .before .holds-receiver .ensures) ∙ not-true _ (c .if1 .taken))
+returns c = unheld _ _ _ _ _ _ _ _ (sym (c .before .holds-receiver .ensures) ∙ not-true _ (c .if1 .taken))
 
 load-head-requires : tie.Need-load-head-requires
 load-head-requires c κs = size-held (c .before)
@@ -195,7 +199,7 @@ returns-2 : tie.Need-returns-2
 returns-2 c =
     let receive = c .before .before .before .before .before .before .before .before in
     let loaded = receive .before .before .before in
-    turned _ _ _ _ _ _ _ (bytes-held (loaded .before .before)) _ (loaded .load-head .ensures) _ _ _ (receive .receive .ensures) _
+    turned _ _ _ _ _ _ _ _ (bytes-held (loaded .before .before)) _ (loaded .load-head .ensures) _ _ _ (receive .receive .ensures) _
     (ap receivedAnswer (c .before .answer .given .1))
 
 same-length-4 : tie.Need-same-length-4
@@ -206,11 +210,13 @@ same-length-5 c = search needs
 
 returns-3 : tie.Need-returns-3
 returns-3 c =
-    let put = c .before .before .before .before in
-    let receive = c .before .before .before .before .before .before .before .before .before .before .before .before .before .before in
+    let put = c .before .before .before .before .before in
+    let answered = put .before .before .before in
+    let receive = answered .before .before .before .before .before .before .before in
     let loaded = receive .before .before .before in
-    heard _ _ _ _ _ _ _ (bytes-held (loaded .before .before)) _ (loaded .load-head .ensures) _ _ _ (receive .receive .ensures) _ _
-    (ap receivedAnswer (c .before .before .before .before .before .before .before .answer2 .given .1)) _ _ _ (c .report .ensures .0) (put .put-head .ensures) (c .report .ensures .1)
+    heard _ _ _ _ _ _ _ _ (bytes-held (loaded .before .before)) _ (loaded .load-head .ensures) _ _ _ (receive .receive .ensures) _ _
+    (ap receivedAnswer (answered .answer2 .given .1)) _ _ _ _ (c .report .ensures .0) (put .put-head .ensures) (c .report .ensures .1)
+    (c .report .ensures .2)
 
 pub order-line-receive-spec : {M : Type 1} → statement M
 order-line-receive-spec =
