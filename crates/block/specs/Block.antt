@@ -17,8 +17,8 @@ serviceOf row = take 4 row
 abbrev pub payloadOf : ℕ → Bits → Bits
 payloadOf k row = take k (drop 4 row)
 
--- what reading a row of n bits finds, judged by its remainder: by 0 it passes, with its service bits as a number; by any other
--- it fails, with the remainder
+-- what reading a row of n bits finds: it passes, with its service bits as a number, if its remainder is 0, and otherwise it
+-- fails, with the remainder
 pub data Verdict : Type 0 where
   passed : ℕ → Verdict
   failed : ℕ → Verdict

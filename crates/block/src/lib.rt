@@ -177,7 +177,7 @@ pub fn check_block(k: usize, block: &[u8]) -> Checked
     Checked::Remainder(remainder_of(m, block))
 }
 
-// By its remainder a block passes or fails; its service bits.
+// What its remainder makes of a block with these service bits.
 fn judged(remainder: u16, service: u8) -> Read
     ensures { λ r. ⌜ readAnswer r ≡ done (cond (eqb remainder 0) (passed service) (failed remainder)) ⌝ }
 {
