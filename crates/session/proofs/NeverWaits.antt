@@ -24,7 +24,7 @@ use Rattle.session.specs.declared.period.Last.the-variants as L
 last-event : (last e : Event) → eventKind last .wait ≡ false → eventKind e .wait ≡ false → eventKind (lastEvent last e) .wait ≡ false
 last-event last E.None h w = h
 last-event last E.Sync h w = refl
-last-event last E.Bad h w = refl
+last-event last (E.Bad r) h w = refl
 last-event last E.Accepted h w = refl
 last-event last E.Previous h w = refl
 last-event last E.SequenceAlarm h w = refl

@@ -67,7 +67,7 @@ disturbed K.Damaged line = set line 0 (bitXor (getD line 0 0) 128)
 abbrev pub lastEvent : Event → Event → Event
 lastEvent last E.None = last
 lastEvent last E.Sync = E.Sync
-lastEvent last E.Bad = E.Bad
+lastEvent last (E.Bad r) = E.Bad r
 lastEvent last E.Accepted = E.Accepted
 lastEvent last E.Previous = E.Previous
 lastEvent last E.SequenceAlarm = E.SequenceAlarm

@@ -75,7 +75,7 @@ readingText (R.Used b) = bitText b
 abbrev pub eventText : Event → List ℕ
 eventText E.None = ascii "none"
 eventText E.Sync = ascii "sync"
-eventText E.Bad = ascii "bad"
+eventText (E.Bad r) = ascii "bad"
 eventText E.Accepted = ascii "accepted"
 eventText E.Previous = ascii "previous"
 eventText E.SequenceAlarm = ascii "sequence alarm"

@@ -94,7 +94,7 @@ fn last_event(last: Event, event: Event) -> Event
     match event {
         Event::None => last,
         Event::Sync => event,
-        Event::Bad => event,
+        Event::Bad(_) => event,
         Event::Accepted => event,
         Event::Previous => event,
         Event::SequenceAlarm => event,

@@ -127,7 +127,7 @@ impl Text {
         match event {
             Event::None => self.word(b"none"),
             Event::Sync => self.word(b"sync"),
-            Event::Bad => self.word(b"bad"),
+            Event::Bad(_) => self.word(b"bad"),
             Event::Accepted => self.word(b"accepted"),
             Event::Previous => self.word(b"previous"),
             Event::SequenceAlarm => self.word(b"sequence alarm"),
