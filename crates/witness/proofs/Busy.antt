@@ -27,7 +27,7 @@ use Rattle.line.specs.declared.receiving.Event.{Event}
 use Rattle.line.specs.declared.receiving.Event.the-variants as E
 use Rattle.line.proofs.Delivery.Prefixes.{course-append, final-append}
 use Rattle.witness.proofs.Meets.{sameBits, same-bit, same-bits, unmet, meets, meets-unlost}
-use Rattle.witness.proofs.PeriodRows.{Row, allCalls, trace, sender, good, bad, waited, between, period, periodWith}
+use Rattle.witness.proofs.PeriodRows.{Row, allCalls, trace, sender, good, bad, waited, between, period, periodWith, cancelledRemainder}
 use Rattle.witness.proofs.TwoItems.{order, content, block, initialStore, one, two, w₀, sixty, synchronised, accepted, cancels, accepted-again, finishes}
 
 -- A period in which the machine is not ready, undisturbed otherwise: the store; the return bit, which is also the reading; the
@@ -39,7 +39,9 @@ busy store back bits b event s r = periodWith false order store store back bits 
 
 -- item 3 is cancelled: the run afterwards
 abbrev last-cancelled : ℕ → Row
-last-cancelled run = busy two true (cancelled (block 3)) (item 3 true true true) E.Bad (sender 480 3 run false Older false) (bad 1 2)
+last-cancelled run =
+    busy two true (cancelled (block 3)) (item 3 true true true) (E.Bad cancelledRemainder)
+    (sender 480 3 run false Older false) (bad 1 2)
 
 -- Item 1 waits, and is accepted when it comes again. The end waits, waits again, and is then taken.
 abbrev pub waits : List Row
@@ -77,7 +79,8 @@ data-waits run = busy initialStore false (block 0) (item 0 false false false) E.
 
 abbrev next-cancelled : ℕ → Row
 next-cancelled run =
-    busy initialStore true (cancelled (block 1)) (item 1 false true true) E.Bad (sender 480 1 (run + 1) true Sync false) (bad 1 0)
+    busy initialStore true (cancelled (block 1)) (item 1 false true true) (E.Bad cancelledRemainder)
+    (sender 480 1 (run + 1) true Sync false) (bad 1 0)
 
 abbrev turn : ℕ → List Row
 turn run = sync-found run ∷ data-waits run ∷ next-cancelled run ∷ []

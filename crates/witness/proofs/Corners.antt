@@ -16,7 +16,7 @@ use Rattle.line.specs.declared.receiving.Phase.the-variants as P
 use Rattle.line.specs.declared.receiving.Event.the-variants as E
 use Rattle.line.proofs.Delivery.WrittenBits.{length-zeroArray}
 use Rattle.line.proofs.Delivery.BitByBit.{bitByBit, Missing, bit-by-bit}
-use Rattle.witness.proofs.PeriodRows.{received, receiver, good, bad, waited, damaged, zeroBlock}
+use Rattle.witness.proofs.PeriodRows.{received, receiver, good, bad, waited, damaged, damagedRemainder, damagedSyncRemainder, zeroBlock}
 
 abbrev endBlock : ℕ → Bits
 endBlock L = blockBits (binary 4 endService) (endPayload 240 L)
@@ -89,15 +89,15 @@ cases =
     ∷ finds (searching (receiver 0 true 2 false P.Search) (drop 245 (zeroBlock letterB))) (syncBlock 240) 260 (good 2 false)
     ∷ reads (good 2 false) (zeroBlock letterB) previous (good 2 false)
     -- the eighth bad is a synchronising block: a search begins behind it, and does not see its sequence
-    ∷ reads (bad 7 2) (damaged (syncBlock 240)) check-fails (receiver 0 true 2 false P.Search)
-    ∷ reads (bad 6 2) (damaged (syncBlock 240)) check-fails (bad 7 2)
+    ∷ reads (bad 7 2) (damaged (syncBlock 240)) (check-fails damagedSyncRemainder) (receiver 0 true 2 false P.Search)
+    ∷ reads (bad 6 2) (damaged (syncBlock 240)) (check-fails damagedSyncRemainder) (bad 7 2)
     ∷ reads (bad 7 2) (syncBlock 240) sync-block (good 2 false)
     -- rule 7 goes back to search with r at 0, where the letter C is of no item; rule 2 does not
     ∷ reads (bad 2 0) (zeroBlock 0b1111) anything-else (receiver 0 true 0 false P.Search)
     ∷ reads (good 0 false) (zeroBlock letterC) anything-else (receiver 0 true 0 false P.Search)
     ∷ reads (bad 2 1) (zeroBlock 0b1111) anything-else (bad 3 1)
     ∷ reads (bad 7 1) (zeroBlock 0b1111) anything-else (receiver 0 true 1 false P.Search)
-    ∷ reads (bad 2 0) (damaged (zeroBlock letterA)) check-fails (bad 3 0)
+    ∷ reads (bad 2 0) (damaged (zeroBlock letterA)) (check-fails damagedRemainder) (bad 3 0)
     ∷ reads (good 0 false) (zeroBlock letterB) out-of-sequence (receiver 0 true 0 false P.SequenceAlarm)
     ∷ reads (good 0 false) (endBlock 240) wrong-length (receiver 0 true 0 false P.LengthAlarm)
     -- r at 1,093: no further item; the letters of items 1,092 and 1,094 as ever

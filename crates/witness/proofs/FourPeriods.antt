@@ -11,7 +11,7 @@ use Rattle.line.specs.declared.sender.Next.the-variants.{Sync, Older, Newer}
 use Rattle.line.specs.declared.receiving.Event.the-variants as E
 use Rattle.line.specs.declared.receiving.Phase.the-variants as P
 use Rattle.witness.proofs.Meets.{meets}
-use Rattle.witness.proofs.PeriodRows.{outcome, Row, allCalls, trace, sender, receiver, good, bad, period, damaged}
+use Rattle.witness.proofs.PeriodRows.{outcome, Row, allCalls, trace, sender, receiver, good, bad, period, damaged, damagedSyncRemainder}
 use Rattle.witness.proofs.TwoItems.{order, content, block, one, two, w₀, sixty, synchronised, accepted, cancels, fails, resynchronises, ends}
 
 -- A reading of 1 where 0 was meant, and damage up to a synchronising block, the eighth bad in a row. The five periods
@@ -30,7 +30,7 @@ late =
     ∷ cancels sixty two true 3 Older (bad 5 2)
     ∷ fails two 3 (bad 6 2)
     ∷ cancels sixty two true 4 Sync (bad 7 2)
-    ∷ period order two two true (damaged (syncBlock 240)) synchronising true false E.Bad
+    ∷ period order two two true (damaged (syncBlock 240)) synchronising true false (E.Bad damagedSyncRemainder)
     (sender 480 2 4 false Older false) (receiver 0 true 2 false P.Search)
     ∷ (resynchronises two 2
     ++ (period order two two false (block 1) (item 1 false false false) false true E.Previous

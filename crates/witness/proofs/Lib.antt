@@ -24,3 +24,4 @@ pub mod NotOpened
 pub mod NotAlike
 pub mod EndLength
 pub mod FourPeriods
+pub mod Remainders

@@ -10,14 +10,14 @@ use Rattle.line.specs.declared.sender.Next.the-variants.{Sync, Older, Newer}
 use Rattle.line.specs.declared.receiving.Event.the-variants as E
 use Rattle.line.specs.declared.receiving.Phase.the-variants as P
 use Rattle.witness.proofs.Meets.{meets}
-use Rattle.witness.proofs.PeriodRows.{Row, allCalls, trace, sender, receiver, good, bad, period, damaged}
+use Rattle.witness.proofs.PeriodRows.{Row, allCalls, trace, sender, receiver, good, bad, period, damaged, cancelledRemainder, damagedRemainder}
 use Rattle.witness.proofs.TwoItems.{order, content, block, initialStore, one, two, w₀, sixty, synchronised, accepted, cancels, fails, ends}
 
 -- Item 0 is damaged and its request lost: item 1 brings the sequence alarm, which stays.
 abbrev pub alarms : List Row
 alarms =
     synchronised sixty
-    ∷ period order initialStore initialStore false (damaged (block 0)) (item 0 false false false) false false E.Bad
+    ∷ period order initialStore initialStore false (damaged (block 0)) (item 0 false false false) false false (E.Bad damagedRemainder)
     (sender 480 1 0 true Newer false) (bad 1 0)
     ∷ period order initialStore initialStore false (block 1) (item 1 false true false) true true E.SequenceAlarm
     (sender 480 2 0 false Newer false) (receiver 0 true 0 false P.SequenceAlarm)
@@ -39,11 +39,11 @@ abbrev pub two-losses : List Row
 two-losses =
     synchronised sixty
     ∷ accepted sixty
-    ∷ period order one one true (cancelled (block 1)) (item 1 false true true) false true E.Bad
+    ∷ period order one one true (cancelled (block 1)) (item 1 false true true) false true (E.Bad cancelledRemainder)
     (sender 480 1 1 true Sync false) (bad 1 1)
     ∷ period order one one true (syncBlock 240) synchronising true true E.Sync
     (sender 480 1 1 true Older false) (good 1 false)
-    ∷ period order one one false (damaged (block 0)) (item 0 false false false) false false E.Bad
+    ∷ period order one one false (damaged (block 0)) (item 0 false false false) false false (E.Bad damagedRemainder)
     (sender 480 1 1 true Newer false) (bad 1 1)
     ∷ period order one two false (block 1) (item 1 false true false) true true E.Accepted
     (sender 480 2 0 false Newer false) (good 2 false)

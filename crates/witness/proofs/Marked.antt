@@ -28,7 +28,7 @@ use Rattle.line.specs.declared.receiving.Phase.the-variants as P
 use Rattle.line.proofs.Delivery.Answers.{runs}
 use Rattle.line.proofs.Delivery.Theorem.{delivery}
 use Rattle.witness.proofs.Meets.{meets}
-use Rattle.witness.proofs.PeriodRows.{Row, allCalls, trace, senderWith, receiverWith, period}
+use Rattle.witness.proofs.PeriodRows.{Row, allCalls, trace, senderWith, receiverWith, period, cancelledRemainder}
 use Rattle.witness.proofs.TwoItems.{order, content, initialStore, one, two}
 
 abbrev five : Marks
@@ -108,7 +108,7 @@ whole-delivered =
 abbrev pub again : List Row
 again =
     begins
-    ++ (period order one one true (cancelled (block 1)) (item 1 false true true) false true E.Bad
+    ++ (period order one one true (cancelled (block 1)) (item 1 false true true) false true (E.Bad cancelledRemainder)
     (sender 1 1 true Sync false) (receiverWith eight 1 true 1 false P.InStep)
     ∷ period order one one true (syncBlock 240) synchronising true true E.Sync (sender 1 1 true Older false) (good 1 false)
     ∷ period order one one false (block 0) (item 0 false false false) false true E.Previous (sender 1 1 true Newer false) (good 1 false)

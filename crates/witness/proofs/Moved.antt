@@ -16,7 +16,7 @@ use Rattle.line.specs.declared.sender.Next.the-variants.{Older, Newer}
 use Rattle.line.specs.declared.receiving.Event.the-variants as E
 use Rattle.line.proofs.Delivery.BetweenLosses.{BetweenLosses}
 use Rattle.witness.proofs.Meets.{Met, breaks}
-use Rattle.witness.proofs.PeriodRows.{Row, allCalls, trace, noMarks, sender, good, bad, period, damaged}
+use Rattle.witness.proofs.PeriodRows.{Row, allCalls, trace, noMarks, sender, good, bad, period, damaged, damagedRemainder}
 
 -- five data items
 abbrev order : List ℕ
@@ -49,9 +49,9 @@ moved =
     (sender 1200 1 0 true Older false) (good 0 false)
     ∷ period order initialStore one false (block 0) (item 0 false false false) false true E.Accepted
     (sender 1200 1 0 true Newer false) (good 1 false)
-    ∷ period order one one false (damaged (block 1)) (item 1 false true false) false false E.Bad
+    ∷ period order one one false (damaged (block 1)) (item 1 false true false) false false (E.Bad damagedRemainder)
     (sender 1200 2 0 false Newer false) (bad 1 1)
-    ∷ period order one one false (damaged (block 2)) (item 2 false true false) true false E.Bad
+    ∷ period order one one false (damaged (block 2)) (item 2 false true false) true false (E.Bad damagedRemainder)
     (sender 1200 3 0 false Newer false) (bad 2 1)
     ∷ period order one one false (block 3) (item 3 false true false) true true E.Previous
     (sender 1200 4 0 false Newer false) (good 1 false)

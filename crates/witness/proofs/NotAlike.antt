@@ -76,7 +76,7 @@ abbrev pub circles : List Row
 circles =
     period order initialStore initialStore true (syncBlock 240) synchronising true true E.Sync
     (senderWith five 480 1 0 true Older false) (good 0 false)
-    ∷ period order initialStore initialStore false (block 0) (item 0 false false false) false true E.Bad
+    ∷ period order initialStore initialStore false (block 0) (item 0 false false false) false true (E.Bad 0)
     (senderWith five 480 1 0 true Newer false) (receiver 0 true 0 false P.Search)
     ∷ period order initialStore initialStore true (cancelled (block 1)) (item 1 false true true) true true E.None
     (senderWith five 480 1 1 true Sync false) (searching (receiver 0 true 0 false P.Search) (drop 245 (cancelled (block 1))))

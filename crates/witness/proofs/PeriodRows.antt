@@ -124,6 +124,17 @@ abbrev pub damaged : Bits → Bits
 damaged [] = []
 damaged (b ∷ bs) = not b ∷ bs
 
+-- The remainders of a cancelled block, of a damaged one, which is that of x^259, and of a damaged synchronising block, which
+-- does not pass undamaged either.
+abbrev pub cancelledRemainder : ℕ
+cancelledRemainder = 1
+
+abbrev pub damagedRemainder : ℕ
+damagedRemainder = 0x31cc
+
+abbrev pub damagedSyncRemainder : ℕ
+damagedSyncRemainder = 0xaef6
+
 -- a block of these service bits whose data are zeros
 abbrev pub zeroBlock : ℕ → Bits
 zeroBlock service = blockBits (binary 4 service) (zeros 240)

@@ -15,7 +15,7 @@ use Rattle.line.specs.declared.sender.Next.the-variants.{Sync, Older, Newer}
 use Rattle.line.specs.declared.receiver.Receiver.{Receiver}
 use Rattle.line.specs.declared.receiving.Event.the-variants as E
 use Rattle.line.specs.declared.receiving.Phase.the-variants as P
-use Rattle.witness.proofs.PeriodRows.{Row, noMarks, sender, receiver, good, bad, period, damaged}
+use Rattle.witness.proofs.PeriodRows.{Row, noMarks, sender, receiver, good, bad, period, damaged, cancelledRemainder, damagedRemainder}
 
 -- ---- any such order
 
@@ -51,13 +51,13 @@ module _ (x : Items) where
   -- item 1 is damaged, and asked for again
   abbrev pub asks : Row
   asks =
-      period (x .order) (x .one) (x .one) false (damaged (blockOf 1)) (item 1 false true false) false false E.Bad
+      period (x .order) (x .one) (x .one) false (damaged (blockOf 1)) (item 1 false true false) false false (E.Bad damagedRemainder)
       (sender (x .L) 2 0 false Newer false) (bad 1 1)
 
   -- item 2 is cancelled: the store, the return bit then standing, the run, what is next, and the receiver afterwards
   abbrev pub cancels : List ℕ → Bool → ℕ → Next → Receiver → Row
   cancels store back run next r =
-      period (x .order) store store true (cancelled (blockOf 2)) (item 2 true true true) back true E.Bad
+      period (x .order) store store true (cancelled (blockOf 2)) (item 2 true true true) back true (E.Bad cancelledRemainder)
       (sender (x .L) 2 run false next false) r
 
   -- item 1 comes again, and is accepted
@@ -107,7 +107,8 @@ w₀ = openedOf sixty
 -- item 1 is repeated, and damaged: the store, the run, and the receiver afterwards
 abbrev pub fails : List ℕ → ℕ → Receiver → Row
 fails store run r =
-    period order store store true (damaged (block 1)) (item 1 false false false) true false E.Bad (sender 480 2 run false Newer false) r
+    period order store store true (damaged (block 1)) (item 1 false false false) true false (E.Bad damagedRemainder)
+    (sender 480 2 run false Newer false) r
 
 -- a search passes item 1 and a cancelled block, and finds a synchronising block: the store and the items taken
 abbrev pub resynchronises : List ℕ → ℕ → List Row
