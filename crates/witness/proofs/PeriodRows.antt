@@ -124,7 +124,7 @@ abbrev pub damaged : Bits → Bits
 damaged [] = []
 damaged (b ∷ bs) = not b ∷ bs
 
--- The remainders of a cancelled block, of a damaged one, which is that of x^259, and of a damaged synchronising block, which
+-- Remainders at k 240: of a cancelled block; of a damaged one, which is that of x^259; of a damaged synchronising block, which
 -- does not pass undamaged either.
 abbrev pub cancelledRemainder : ℕ
 cancelledRemainder = 1
