@@ -107,7 +107,7 @@ meaning unfinished = meant E.None true false false false
 meaning (standing alarm) = meant alarm true false false false
 meaning sequence-found = meant E.Sync false false false false
 meaning sync-block = meant E.Sync false false false false
-meaning (check-fails r) = meant (E.Bad r) false false false false
+meaning (check-fails remainder) = meant (E.Bad remainder) false false false false
 meaning accepts = meant E.Accepted false true true true
 meaning previous = meant E.Previous false false true true
 meaning out-of-sequence = meant E.SequenceAlarm false false true true
@@ -127,7 +127,7 @@ pub record EventKind : Type 0 where
 abbrev pub eventKind : Event → EventKind
 eventKind E.None = record { new = false; wait = false; alarm = false; length = none }
 eventKind E.Sync = record { new = false; wait = false; alarm = false; length = none }
-eventKind (E.Bad r) = record { new = false; wait = false; alarm = false; length = none }
+eventKind (E.Bad remainder) = record { new = false; wait = false; alarm = false; length = none }
 eventKind E.Accepted = record { new = true; wait = false; alarm = false; length = none }
 eventKind E.Previous = record { new = false; wait = false; alarm = false; length = none }
 eventKind E.SequenceAlarm = record { new = false; wait = false; alarm = true; length = none }
@@ -210,7 +210,7 @@ orWait ready unfinished = unfinished
 orWait ready (standing alarm) = standing alarm
 orWait ready sequence-found = sequence-found
 orWait ready sync-block = sync-block
-orWait ready (check-fails r) = check-fails r
+orWait ready (check-fails remainder) = check-fails remainder
 orWait ready accepts = cond ready accepts waits
 orWait ready previous = previous
 orWait ready out-of-sequence = out-of-sequence
@@ -261,7 +261,7 @@ after s unfinished = s
 after s (standing alarm) = s
 after s sequence-found = afterGood s (s .taken) (s .ended)
 after s sync-block = afterGood s (s .taken) (s .ended)
-after s (check-fails r) = afterBad s (leb lastBad (s .«bad_row» + 1))
+after s (check-fails remainder) = afterBad s (leb lastBad (s .«bad_row» + 1))
 after s accepts = afterGood s (s .taken + 1) (s .ended)
 after s previous = afterGood s (s .taken) (s .ended)
 after s out-of-sequence = alarmed s P.SequenceAlarm
