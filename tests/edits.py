@@ -188,12 +188,17 @@ def try_edits(name, edits):
     return results.count(False)
 
 
+def work(name, edits):
+    """About how long a crate's edits take, beside others': their number times the bytes of its definitions and proofs."""
+    return len(edits) * sum(path.stat().st_size for path in (ROOT / "crates" / name).rglob("*.antt"))
+
+
 def try_all(chosen):
     """Tries the chosen edits, by crate: the exit status."""
     began = time.monotonic()
     if subprocess.run(["rt", "check", *chosen], cwd=ROOT, stdout=subprocess.DEVNULL).returncode:
         sys.exit("edits.py: rt check: a crate is not proved as it is")
-    longest_first = sorted(chosen, key=lambda name: -len(chosen[name]))
+    longest_first = sorted(chosen, key=lambda name: -work(name, chosen[name]))
     with concurrent.futures.ThreadPoolExecutor(os.cpu_count()) as pool:
         failed = sum(pool.map(lambda name: try_edits(name, chosen[name]), longest_first))
     tried = sum(map(len, chosen.values()))
