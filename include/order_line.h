@@ -36,11 +36,11 @@ extern "C" {
 /* ---- the version ---- */
 
 /*
- * Version 4.0.0: major * 65536 + minor * 256 + patch. A later version with the same major number keeps the layouts, the
+ * Version 5.0.0: major * 65536 + minor * 256 + patch. A later version with the same major number keeps the layouts, the
  * numbers, the signatures and the promises of this one (docs/VERSION.md). order_line_version returns the version of the
  * library; the two differ where a header and a library of different versions were brought together.
  */
-#define ORDER_LINE_VERSION 0x040000u
+#define ORDER_LINE_VERSION 0x050000u
 
 uint32_t order_line_version(void);
 
@@ -123,11 +123,12 @@ uint8_t order_line_build_block(size_t k, uint8_t service, const uint8_t *payload
 
 /*
  * Reads a block. If its check passes, returns ORDER_LINE_PASSED + its service bits and writes its k data bits over the
- * first ORDER_LINE_PAYLOAD_BYTES(k) bytes of payload; if not, returns ORDER_LINE_FAILED and writes nothing.
+ * first ORDER_LINE_PAYLOAD_BYTES(k) bytes of payload, and *remainder stays as it is. If not, returns ORDER_LINE_FAILED;
+ * *remainder becomes the remainder of the block's n bits, which is never 0, and no data are written.
  * Refused: BLOCK, SHORT (block or payload, both judged first).
  */
 uint16_t order_line_read_block(size_t k, const uint8_t *block, size_t block_bytes, uint8_t *payload,
-                               size_t payload_bytes);
+                               size_t payload_bytes, uint16_t *remainder);
 
 #define ORDER_LINE_PASSED 0x100
 #define ORDER_LINE_FAILED 0x200
@@ -235,17 +236,27 @@ uint8_t order_line_open_receiver_with_marks(size_t k, size_t size, uint8_t *stat
  * store is not judged. Every other event is the same whether ready is true or false. The sender repeats a block that
  * waits; if the machine stays busy, it gives up after 64 cancels.
  *
+ * With ORDER_LINE_EVENT_BAD, *remainder becomes the remainder of the n bits that were read as a block, divided by V.41's
+ * polynomial; it stays as it is otherwise. It is for service staff, who may count bad blocks by it:
+ *   - 1: a block that the office cancelled, and that is otherwise unharmed and read in step, shows 1, at every k. But 1
+ *     is no proof of a cancel: damage on the line can leave 1 as well.
+ *   - 0: the check passes and the block fits nowhere. Every other bad block shows another number.
+ *   - any other number: the block was damaged on the line, cancelled or not, or the machine is out of step.
+ * DECIDE NOTHING ABOUT THE ORDER BY IT: the events alone say what is in the store. docs/INTEGRATION.md, "Counting
+ * cancelled blocks", says what such a count does not tell.
+ *
  * Refused: SPOILED (also a state that is too short), SHORT (line has fewer than `bits` bits; or ready is true, a block
  * would be accepted and the store cannot hold it: then no bit is used, and the call may be made again with a longer
  * store).
  */
 uint8_t order_line_receive(uint8_t *state, size_t state_bytes, const uint8_t *line, size_t line_bytes, size_t bits,
-                           bool ready, uint8_t *store, size_t store_bytes, size_t *used, size_t *length);
+                           bool ready, uint8_t *store, size_t store_bytes, size_t *used, size_t *length,
+                           uint16_t *remainder);
 
 /* The events; their numbers are this library's own. */
 #define ORDER_LINE_EVENT_NONE 64           /* all bits were used without an event */
 #define ORDER_LINE_EVENT_SYNC 65           /* a synchronising block, or its last 16 bits in search */
-#define ORDER_LINE_EVENT_BAD 66            /* the check failed, or the block fits nowhere */
+#define ORDER_LINE_EVENT_BAD 66            /* the check failed, or the block fits nowhere; the remainder is reported */
 #define ORDER_LINE_EVENT_ACCEPTED 67       /* the next data item: its data are in the store */
 #define ORDER_LINE_EVENT_PREVIOUS 68       /* the item before, or the end again: nothing stored */
 #define ORDER_LINE_EVENT_SEQUENCE_ALARM 69 /* an item was missed; stands until a receiver is opened anew */

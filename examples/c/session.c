@@ -87,9 +87,12 @@ static void machine_on_event(struct machine *machine, uint8_t event)
     switch (event) {
     case ORDER_LINE_EVENT_NONE: /* more bits are wanted */
         return;
+    case ORDER_LINE_EVENT_BAD: /* the return bit asks for a repeat; the remainder is for service staff alone */
+        if (machine->remainder == 1)
+            machine->bad_with_1++;
+        break;
     case ORDER_LINE_EVENT_SYNC:     /* in step with the blocks from here on */
-    case ORDER_LINE_EVENT_BAD:      /* the return bit asks for a repeat */
-    case ORDER_LINE_EVENT_WAIT:     /* so it does while a machine is busy, which this one never is */
+    case ORDER_LINE_EVENT_WAIT:     /* a busy machine asks for a repeat; this one is never busy */
     case ORDER_LINE_EVENT_ACCEPTED: /* one item more in the store; not to be used before the end */
     case ORDER_LINE_EVENT_PREVIOUS: /* a repeat of what is there already */
         break;
@@ -118,7 +121,8 @@ static void machine_on_bits(struct machine *machine, uint8_t byte, size_t bits)
     while (bits > 0 && machine->refusal == 0) {
         size_t used = 0;
         uint8_t answer = order_line_receive(machine->state, ORDER_LINE_RECEIVER_BYTES, &byte, 1, bits, true,
-                                            machine->store, STORE_BYTES, &used, &machine->length);
+                                            machine->store, STORE_BYTES, &used, &machine->length,
+                                            &machine->remainder);
 
         if (ORDER_LINE_IS_REFUSED(answer)) { /* with these buffers it means that the state's bytes were spoiled */
             machine->refusal = answer;
@@ -219,8 +223,8 @@ static void print_summary(const struct office *office, const struct machine *mac
     printf("%lu bytes, blocks of %lu data bits: %lu periods, %lu synchronising, %lu cancelled, %lu repeats\n",
            (unsigned long)office->order_bytes, (unsigned long)k, periods, office->synchronising, office->cancelled,
            office->repeats);
-    printf("events: %lu sync, %lu bad, %lu accepted, %lu previous, %lu ended, %lu alarms\n",
-           event_count(machine, ORDER_LINE_EVENT_SYNC), event_count(machine, ORDER_LINE_EVENT_BAD),
+    printf("events: %lu sync, %lu bad (%lu with remainder 1), %lu accepted, %lu previous, %lu ended, %lu alarms\n",
+           event_count(machine, ORDER_LINE_EVENT_SYNC), event_count(machine, ORDER_LINE_EVENT_BAD), machine->bad_with_1,
            event_count(machine, ORDER_LINE_EVENT_ACCEPTED), event_count(machine, ORDER_LINE_EVENT_PREVIOUS),
            event_count(machine, ORDER_LINE_EVENT_ENDED),
            event_count(machine, ORDER_LINE_EVENT_SEQUENCE_ALARM) + event_count(machine, ORDER_LINE_EVENT_LENGTH_ALARM));

@@ -37,6 +37,8 @@ struct machine {
     uint8_t refusal;    /* the refusal that stopped the machine, or 0 */
     uint8_t return_bit; /* what the return channel is held at */
     unsigned long events[EVENTS]; /* how often each came, from ORDER_LINE_EVENT_NONE on */
+    uint16_t remainder;           /* of the latest bad block */
+    unsigned long bad_with_1;     /* bad blocks with remainder 1, as a block shows that was only cancelled */
 };
 
 /* Whether library and header are of one version; says so if not. */

@@ -33,11 +33,15 @@ pub enum Read {
         service: u8,
     },
     /// The check failed: nothing was written.
-    Failed,
+    Failed {
+        /// The remainder of the block's bits, never 0; of a block that was cancelled and is otherwise unharmed, 1.
+        remainder: u16,
+    },
 }
 
 /// Reads a block: its k data bits go to `payload` if its check passes.
 pub fn read_block(k: usize, block: &[u8], payload: &mut [u8]) -> Result<Read, Refusal> {
+    let mut remainder = 0;
     let answer = unsafe {
         c::order_line_read_block(
             k,
@@ -45,10 +49,11 @@ pub fn read_block(k: usize, block: &[u8], payload: &mut [u8]) -> Result<Read, Re
             block.len(),
             payload.as_mut_ptr(),
             payload.len(),
+            &mut remainder,
         )
     };
     match answer {
-        FAILED => Ok(Read::Failed),
+        FAILED => Ok(Read::Failed { remainder }),
         passed if passed & !15 == PASSED => Ok(Read::Passed {
             service: (passed & 15) as u8,
         }),

@@ -24,6 +24,7 @@ unsafe extern "C" {
         block_bytes: usize,
         payload: *mut u8,
         payload_bytes: usize,
+        remainder: *mut u16,
     ) -> u16;
 
     pub fn order_line_open_sender(
@@ -81,6 +82,7 @@ unsafe extern "C" {
         store_bytes: usize,
         used: *mut usize,
         length: *mut usize,
+        remainder: *mut u16,
     ) -> u8;
 
     pub fn order_line_return_bit(state: *const u8, state_bytes: usize) -> u8;

@@ -11,8 +11,12 @@ pub enum Event {
     None,
     /// A synchronising block, or its last 16 bits in search.
     Sync,
-    /// The check failed, or the block fits nowhere.
-    Bad,
+    /// The check failed, or the block fits nowhere; the remainder of the bits that were read as a block.
+    ///
+    /// It is for service staff. A block that was cancelled, and that is otherwise unharmed and read in step, shows 1; but
+    /// damage on the line can leave 1 as well. It is 0 exactly where the check passes and the block fits nowhere. Decide
+    /// nothing about the order by it.
+    Bad(u16),
     /// The next data item: its data are in the store.
     Accepted,
     /// The item before, or the end again: nothing stored.
@@ -71,7 +75,7 @@ impl Receiver {
         ready: bool,
         store: &mut [u8],
     ) -> Result<(Event, usize), Refusal> {
-        let (mut used, mut length) = (0, 0);
+        let (mut used, mut length, mut remainder) = (0, 0, 0);
         let answer = unsafe {
             c::order_line_receive(
                 self.state.as_mut_ptr(),
@@ -84,12 +88,13 @@ impl Receiver {
                 store.len(),
                 &mut used,
                 &mut length,
+                &mut remainder,
             )
         };
         let event = match answer {
             EVENT_NONE => Event::None,
             EVENT_SYNC => Event::Sync,
-            EVENT_BAD => Event::Bad,
+            EVENT_BAD => Event::Bad(remainder),
             EVENT_ACCEPTED => Event::Accepted,
             EVENT_PREVIOUS => Event::Previous,
             EVENT_SEQUENCE_ALARM => Event::SequenceAlarm,

@@ -69,6 +69,8 @@ impl Office {
 struct Counts {
     sync: usize,
     bad: usize,
+    /// Bad blocks with remainder 1, as a block shows that was only cancelled.
+    bad_with_1: usize,
     accepted: usize,
     previous: usize,
     ended: usize,
@@ -130,9 +132,12 @@ impl Machine {
             Event::None => return Ok(()),
             // In step with the blocks from here on.
             Event::Sync => self.counts.sync += 1,
-            // The return bit asks for a repeat.
-            Event::Bad => self.counts.bad += 1,
-            // So it does while a machine is busy, which this one never is.
+            // The return bit asks for a repeat. The remainder is for service staff alone.
+            Event::Bad(remainder) => {
+                self.counts.bad += 1;
+                self.counts.bad_with_1 += usize::from(remainder == 1);
+            }
+            // A busy machine asks for a repeat; this one is never busy.
             Event::Wait => {}
             // One item more in the store; not to be used before the end.
             Event::Accepted => self.counts.accepted += 1,
@@ -257,8 +262,14 @@ fn print_summary(office: &Office, machine: &Machine, noise: &Noise, k: usize) {
     );
     let counts = &machine.counts;
     println!(
-        "events: {} sync, {} bad, {} accepted, {} previous, {} ended, {} alarms",
-        counts.sync, counts.bad, counts.accepted, counts.previous, counts.ended, counts.alarms,
+        "events: {} sync, {} bad ({} with remainder 1), {} accepted, {} previous, {} ended, {} alarms",
+        counts.sync,
+        counts.bad,
+        counts.bad_with_1,
+        counts.accepted,
+        counts.previous,
+        counts.ended,
+        counts.alarms,
     );
 }
 
