@@ -137,6 +137,7 @@ struct Buffers {
     size_t k;
     std::vector<uint8_t> data[kBlocks], good[kBlocks], bad[kBlocks];
     uint8_t place[512];
+    uint16_t remainder;
 };
 
 uint8_t mirrored(uint8_t x) {
@@ -179,9 +180,13 @@ Buffers buffers(size_t k, bool lowest_first) {
 
 using Pass = void (*)(Buffers &);
 
+uint16_t library_answer(Buffers &b, const std::vector<uint8_t> &block) {
+    return order_line_read_block(b.k, block.data(), block.size(), b.place, b.k / 8, &b.remainder);
+}
+
 void library_check(Buffers &b) {
     for (auto &block : b.bad)
-        require(order_line_read_block(b.k, block.data(), block.size(), b.place, b.k / 8) == ORDER_LINE_FAILED, "check");
+        require(library_answer(b, block) == ORDER_LINE_FAILED, "check");
 }
 
 void library_build(Buffers &b) {
@@ -192,7 +197,7 @@ void library_build(Buffers &b) {
 
 void library_read(Buffers &b) {
     for (auto &block : b.good)
-        require(order_line_read_block(b.k, block.data(), block.size(), b.place, b.k / 8) < ORDER_LINE_FAILED, "read");
+        require(library_answer(b, block) < ORDER_LINE_FAILED, "read");
 }
 
 template <class P> void peer_check(Buffers &b) {

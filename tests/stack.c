@@ -16,12 +16,16 @@ static uint8_t sender[ORDER_LINE_SENDER_BYTES], receiver[ORDER_LINE_RECEIVER_BYT
 static uint16_t doses[2 * ORDER_LINE_MOST_DOSES];
 static uint8_t tint[ORDER_LINE_TINT_BYTES(ORDER_LINE_MOST_DOSES)];
 static size_t bits, used, length, tint_bytes, count;
+static uint16_t remainder;
 static uint32_t answer;
 
 static void nothing(void) {}
 static void loop_time(void) { answer = order_line_loop_time(k, 200, 0); }
 static void build(void) { answer = order_line_build_block(k, 3, order, sizeof order, block, sizeof block); }
-static void read(void) { answer = order_line_read_block(k, block, sizeof block, payload, sizeof payload); }
+static void read(void)
+{
+    answer = order_line_read_block(k, block, sizeof block, payload, sizeof payload, &remainder);
+}
 static void open_sender(void)
 {
     answer = order_line_open_sender(k, 200, 0, ITEMS * k, order, sizeof order, sender, sizeof sender);
@@ -43,7 +47,7 @@ static void open_marked_receiver(void)
 static void receive(void)
 {
     answer = order_line_receive(receiver, sizeof receiver, line, sizeof line, bits, true, store, sizeof store, &used,
-                                &length);
+                                &length, &remainder);
 }
 static void return_bit(void) { answer = order_line_return_bit(receiver, sizeof receiver); }
 static void write_tint(void)

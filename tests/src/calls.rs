@@ -1,12 +1,11 @@
 //! The calls that every implementation offers, so that one comparison serves each of them.
 //!
-//! Those of the two ends are as the linked library has them: a state stands in lent bytes, and an
-//! answer is a number.
+//! They are as the linked library has them: a state stands in lent bytes, and an answer is a number.
 
 use crate::interface::{self, load_receiver, load_sender, store_receiver, store_sender, Counts};
 use crate::interface::{FINISHED, GAVE_UP, GOING_ON, RECEIVER_BYTES, SENDER_BYTES};
 use crate::interface::{RETURN_0, RETURN_1};
-use crate::reference::block::{self, Read};
+use crate::reference::block;
 use crate::reference::loop_time;
 use crate::reference::receiver;
 use crate::reference::refusal::{Refusal, SHORT, SPOILED};
@@ -20,7 +19,9 @@ pub trait Blocks {
     /// 0 or the refusal's number.
     fn build_block(&self, k: usize, service: u8, payload: &[u8], block: &mut [u8]) -> u8;
 
-    fn read_block(&self, k: usize, block: &[u8], payload: &mut [u8]) -> Read;
+    /// Its answer: the service bits, that the check fails, or the refusal's number. The remainder is
+    /// written beside it if the check fails.
+    fn read_block(&self, k: usize, block: &[u8], payload: &mut [u8], remainder: &mut u16) -> u16;
 }
 
 /// "Loop time": 0 or the refusal's number.
@@ -100,8 +101,8 @@ impl Blocks for Reference {
         built.err().unwrap_or(0)
     }
 
-    fn read_block(&self, k: usize, block: &[u8], payload: &mut [u8]) -> Read {
-        block::read_block(k, block, payload)
+    fn read_block(&self, k: usize, block: &[u8], payload: &mut [u8], remainder: &mut u16) -> u16 {
+        interface::encode_read(block::read_block(k, block, payload), remainder)
     }
 }
 
@@ -232,8 +233,8 @@ impl Blocks for TableDriven {
         built.err().unwrap_or(0)
     }
 
-    fn read_block(&self, k: usize, block: &[u8], payload: &mut [u8]) -> Read {
-        table::read_block(k, block, payload)
+    fn read_block(&self, k: usize, block: &[u8], payload: &mut [u8], remainder: &mut u16) -> u16 {
+        interface::encode_read(table::read_block(k, block, payload), remainder)
     }
 }
 

@@ -76,6 +76,19 @@ pub fn is_admitted(pattern: &[bool]) -> bool {
     count == 0 || count % 2 == 1 || span(pattern) <= ADMITTED_SPAN
 }
 
+/// The bits at these powers of x; the last bit is at power 0.
+pub fn at_powers(n: usize, powers: &[usize]) -> Bits {
+    (0..n).rev().map(|power| powers.contains(&power)).collect()
+}
+
+/// The remainder of x times a polynomial that has this remainder.
+pub fn times_x(remainder: u16) -> u16 {
+    match remainder >> 15 {
+        0 => remainder << 1,
+        _ => remainder << 1 ^ GENERATOR as u16,
+    }
+}
+
 /// From the first inverted bit to the last, both counted.
 fn span(pattern: &[bool]) -> usize {
     let first = pattern.iter().position(|&bit| bit);

@@ -257,7 +257,7 @@ impl Delivery {
         if event == Event::Sync && !(period.synchronising && last) {
             self.broken = Some(Supposition::OnlySynchronising);
         }
-        let as_data_or_end = !matches!(event, Event::None | Event::Sync | Event::Bad);
+        let as_data_or_end = !matches!(event, Event::None | Event::Sync | Event::Bad(_));
         if period.synchronising && as_data_or_end && !self.alarmed {
             self.broken = Some(Supposition::NeverData);
         }

@@ -97,7 +97,7 @@ pub fn on_a_busy_machine<T: SendingEnd + ReceivingEnd>(
             bits: block_bits(k),
         };
         let ready = course.len() <= taken;
-        let mut counts = Counts { used: 0, length: 0 };
+        let mut counts = Counts::default();
         let number = tested.receive(&mut receiver, line, ready, &mut store, &mut counts);
         course.push((sent, decode_received(number, counts)));
     }

@@ -69,7 +69,7 @@ fn parameter(text: &str) -> Vec<String> {
         "*const u8" => vec![format!("const uint8_t *{name}")],
         "*mut u8" => vec![format!("uint8_t *{name}")],
         "*const u16" => vec![format!("const uint16_t *{name}")],
-        "*mut u16" => vec![format!("uint16_t *{name}")],
+        "&mut u16" | "*mut u16" => vec![format!("uint16_t *{name}")],
         "&mut usize" | "*mut usize" => vec![format!("size_t *{name}")],
         "&[u8]" => vec![format!("const uint8_t *{name}"), bytes],
         "&mut [u8]" => vec![format!("uint8_t *{name}"), bytes],

@@ -14,8 +14,8 @@ pub const MARKS_BYTES: usize = 2;
 pub const SENDER_BYTES: usize = HEAD_BYTES + MARKS_BYTES;
 pub const RECEIVER_BYTES: usize = HEAD_BYTES + HELD_BYTES + MARKS_BYTES;
 
-/// 4.0.0.
-pub const VERSION: u32 = 0x04_00_00;
+/// 5.0.0.
+pub const VERSION: u32 = 0x05_00_00;
 
 /// What `sender_rest` answers besides 7.
 pub const GOING_ON: u8 = 80;
@@ -165,13 +165,26 @@ pub fn store_receiver(receiver: &Receiver, bytes: &mut [u8]) {
     store_marks(receiver.marks, marks);
 }
 
-/// What an answer of `read_block` says.
+/// The answer of `read_block`; the remainder of a block that fails is written beside it.
 #[inline]
-pub fn decode_read(number: u16) -> Read {
+pub fn encode_read(read: Read, remainder: &mut u16) -> u16 {
+    match read {
+        Read::Refused(number) => u16::from(number),
+        Read::Passed(service) => PASSED + u16::from(service),
+        Read::Failed(found) => {
+            *remainder = found;
+            FAILED
+        }
+    }
+}
+
+/// What an answer of `read_block` says, with the number that then stands in the remainder's place.
+#[inline]
+pub fn decode_read(number: u16, remainder: u16) -> Read {
     match number {
         ..PASSED => Read::Refused(number as Refusal),
         PASSED..FAILED => Read::Passed((number - PASSED) as u8),
-        FAILED => Read::Failed,
+        FAILED => Read::Failed(remainder),
         _ => panic!("{number:x} is no answer of read_block"),
     }
 }
@@ -211,12 +224,12 @@ pub fn decode_sent(word: u32) -> Sent {
     }
 }
 
-/// An event's number; the L of *ended* is written beside it.
+/// An event's number; the L of *ended* and the remainder of *bad* are written beside it.
 fn event_number(event: Event) -> u8 {
     match event {
         Event::None => EVENT_NONE,
         Event::Sync => EVENT_SYNC,
-        Event::Bad => EVENT_BAD,
+        Event::Bad(_) => EVENT_BAD,
         Event::Accepted => EVENT_ACCEPTED,
         Event::Previous => EVENT_PREVIOUS,
         Event::SequenceAlarm => EVENT_SEQUENCE_ALARM,
@@ -233,11 +246,12 @@ pub fn is_event(number: u8) -> bool {
 }
 
 /// Where a receiving call writes, beside its answer: the number of bits used, unless it is
-/// refused, and the L of an order that ended.
-#[derive(Clone, Copy, Debug, PartialEq, Eq)]
+/// refused, the L of an order that ended, and the remainder of a *bad* block.
+#[derive(Clone, Copy, Debug, Default, PartialEq, Eq)]
 pub struct Counts {
     pub used: usize,
     pub length: usize,
+    pub remainder: u16,
 }
 
 /// What a receiving call's answer and counts say.
@@ -245,7 +259,7 @@ pub fn decode_received(number: u8, counts: Counts) -> Received {
     let event = match number {
         EVENT_NONE => Event::None,
         EVENT_SYNC => Event::Sync,
-        EVENT_BAD => Event::Bad,
+        EVENT_BAD => Event::Bad(counts.remainder),
         EVENT_ACCEPTED => Event::Accepted,
         EVENT_PREVIOUS => Event::Previous,
         EVENT_SEQUENCE_ALARM => Event::SequenceAlarm,
@@ -286,8 +300,10 @@ pub fn receive(
     };
     store_receiver(&receiver, state);
     counts.used = used;
-    if let Event::Ended(length) = event {
-        counts.length = length;
+    match event {
+        Event::Ended(length) => counts.length = length,
+        Event::Bad(remainder) => counts.remainder = remainder,
+        _ => {}
     }
     event_number(event)
 }
@@ -337,7 +353,11 @@ mod tests {
             assert_eq!(decode_sent(encode_sent(answer)), answer);
         }
         for number in EVENT_NONE..=EVENT_WAIT {
-            let counts = Counts { used: 5, length: 9 };
+            let counts = Counts {
+                used: 5,
+                length: 9,
+                remainder: 7,
+            };
             let Received::Reported { event, used: 5 } = decode_received(number, counts) else {
                 panic!("{number}");
             };

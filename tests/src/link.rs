@@ -7,8 +7,7 @@
 mod c;
 
 use crate::calls::{Blocks, Line, LoopTimes, Opening, ReceivingEnd, SendingEnd, Tints};
-use crate::interface::{self, Counts};
-use crate::reference::block::Read;
+use crate::interface::Counts;
 
 /// The linked library. What the benchmark measures is inlined there, so that it is the call alone.
 pub struct Library;
@@ -42,17 +41,17 @@ impl Blocks for Library {
     }
 
     #[inline]
-    fn read_block(&self, k: usize, block: &[u8], payload: &mut [u8]) -> Read {
-        let number = unsafe {
+    fn read_block(&self, k: usize, block: &[u8], payload: &mut [u8], remainder: &mut u16) -> u16 {
+        unsafe {
             c::order_line_read_block(
                 k,
                 block.as_ptr(),
                 block.len(),
                 payload.as_mut_ptr(),
                 payload.len(),
+                remainder,
             )
-        };
-        interface::decode_read(number)
+        }
     }
 }
 
@@ -146,6 +145,7 @@ impl ReceivingEnd for Library {
                 store.len(),
                 &mut counts.used,
                 &mut counts.length,
+                &mut counts.remainder,
             )
         }
     }

@@ -33,6 +33,11 @@ impl Rng {
         low + self.below(high - low + 1)
     }
 
+    /// Any number of 16 bits.
+    pub fn number(&mut self) -> u16 {
+        self.below(1 << 16) as u16
+    }
+
     pub fn bit(&mut self) -> bool {
         self.next() >> 63 == 1
     }

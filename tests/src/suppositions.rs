@@ -2,7 +2,6 @@
 //! chance p, one independently of the other.
 
 use crate::damage::ADMITTED_SPAN;
-use crate::reference::bits::number;
 use crate::reference::block::{remainder, CHECK_BITS};
 
 /// A cancelled block arrives whole: exactly its last bit is inverted.
@@ -71,7 +70,7 @@ pub fn passing_fours(n: usize) -> Option<(usize, usize)> {
 fn remainder_of_power(power: usize) -> usize {
     let mut row = vec![false; power + 1];
     row[0] = true;
-    number(&remainder(&row))
+    usize::from(remainder(&row))
 }
 
 /// The places, on average, at which a search over so many random bits finds the sequence; no

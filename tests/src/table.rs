@@ -94,11 +94,19 @@ pub fn read_block(k: usize, block: &[u8], payload: &mut [u8]) -> Read {
         return Read::Refused(SHORT);
     }
     let block = &block[..bytes + 3];
-    if register(block) != check_bits(block) {
-        return Read::Failed;
+    let remainder = remainder(block);
+    if remainder != 0 {
+        return Read::Failed(remainder);
     }
     copy_payload(block, &mut payload[..bytes]);
     Read::Passed(block[0] >> 4)
+}
+
+/// The remainder of a packed block: what is received as check bits is added to the check bits that
+/// belong to the bits before them.
+#[inline]
+fn remainder(block: &[u8]) -> u16 {
+    register(block) ^ check_bits(block)
 }
 
 /// The register over the service bits and data of a packed block.

@@ -13,8 +13,8 @@
 
 use order_line_tests::calls::{Blocks, Line, Reference, TableDriven};
 use order_line_tests::calls::{ReceivingEnd, SendingEnd, Tints};
-use order_line_tests::interface::{decode_sent, is_event, store_receiver, store_sender, Counts};
-use order_line_tests::interface::{RECEIVER_BYTES, SENDER_BYTES};
+use order_line_tests::interface::{decode_read, decode_sent, is_event, Counts};
+use order_line_tests::interface::{store_receiver, store_sender, RECEIVER_BYTES, SENDER_BYTES};
 use order_line_tests::link::Library;
 use order_line_tests::reference::bits::{pack, unpack};
 use order_line_tests::reference::block::{block_bits, block_bytes, payload_bytes, Read, LENGTHS};
@@ -82,8 +82,11 @@ impl Buffers {
 
     fn read(&mut self, tested: &impl Blocks) {
         for (item, block) in self.blocks.iter().enumerate() {
-            let read = tested.read_block(black_box(self.k), block, &mut self.place);
-            assert_eq!(black_box(read), Read::Passed(letter(item)));
+            let mut remainder = 0;
+            let k = black_box(self.k);
+            let number = tested.read_block(k, block, &mut self.place, &mut remainder);
+            let read = decode_read(black_box(number), remainder);
+            assert_eq!(read, Read::Passed(letter(item)));
         }
     }
 
@@ -231,7 +234,7 @@ impl BenchReceiver for Library {
     }
 
     fn receive(&self, state: &mut Self::State, line: Line, store: &mut [u8]) -> usize {
-        let mut counts = Counts { used: 0, length: 0 };
+        let mut counts = Counts::default();
         let number = ReceivingEnd::receive(self, state, line, READY, store, &mut counts);
         assert!(is_event(number), "refused {number}");
         counts.used

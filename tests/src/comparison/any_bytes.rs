@@ -4,16 +4,16 @@
 
 mod tint;
 
-use super::lockstep::{BufferPair, Lockstep};
+use super::lockstep::{BufferPair, Lockstep, ReceivingCall};
 use super::receiver::received_name;
 use super::sender::refusal_name;
 use super::{block, loop_time, Difference, GuardedBuffer, Tally};
-use crate::calls::{Blocks, LoopTimes, Opening, ReceivingEnd, SendingEnd, Tints};
+use crate::calls::{Blocks, Line, LoopTimes, Opening, ReceivingEnd, SendingEnd, Tints};
 use crate::damage::invert;
 use crate::interface::{store_receiver, store_sender};
 use crate::interface::{HEAD_BYTES, MARKS_BYTES, RECEIVER_BYTES, SENDER_BYTES};
 use crate::reference::bits::{bits_of, pack, unpack, Bits};
-use crate::reference::block::{assemble, block_bits, block_bytes, synchronising_block};
+use crate::reference::block::{assemble, block_bits, block_bytes, cancel, synchronising_block};
 use crate::reference::block::{payload_bytes, CHECK_BITS, END, LENGTHS, SEQUENCE};
 use crate::reference::loop_time::{longest_loop, SPEEDS};
 use crate::reference::marks::{Marks, CODE_SIZES, MARKS};
@@ -65,7 +65,8 @@ fn read(tested: &impl Blocks, input: &mut Input, tally: &mut Tally) -> Result<()
     bytes.resize(input.near(block_bytes(bounded_length(k))), 0x55);
     let payload = input.lent(payload_bytes(bounded_length(k)));
     let place = GuardedBuffer::around(&mut Rng::new(1), &payload);
-    block::compare_read(tested, k, &bytes, place, tally)
+    block::compare_read(tested, k, &bytes, place, input.number(), tally)?;
+    Ok(())
 }
 
 /// A sender, opened or out of the bytes, and calls on it.
@@ -142,9 +143,9 @@ fn receive<S, R: ReceivingEnd>(
         let bits = input.bits(pending.len());
         let mut line = pack(&pending);
         line.resize(input.near(line.len()), 0xA5);
-        let (ready, lent) = input.readiness(whole);
-        let mut store = BufferPair::new(GuardedBuffer::filled(input.byte(), lent.max(whole)));
-        let received = ends.receive(&mut state, &line, bits, ready, &mut store, lent)?;
+        let call = input.receiving_call(Line { bytes: &line, bits }, whole);
+        let mut store = BufferPair::new(GuardedBuffer::filled(input.byte(), call.lent.max(whole)));
+        let received = ends.receive(&mut state, &mut store, call)?;
         if let Received::Reported { used, .. } = received {
             pending.drain(..used.min(pending.len()));
         }
@@ -153,7 +154,7 @@ fn receive<S, R: ReceivingEnd>(
             break;
         }
     }
-    ends.add_waits(tally);
+    ends.add_tried(tally);
     Ok(())
 }
 
@@ -203,6 +204,10 @@ impl Input<'_> {
         self.byte() % 2 == 1
     }
 
+    fn number(&mut self) -> u16 {
+        u16::from_le_bytes([0; 2].map(|_: u8| self.byte()))
+    }
+
     fn word(&mut self) -> u32 {
         u32::from_le_bytes([0; 4].map(|_: u8| self.byte()))
     }
@@ -246,12 +251,18 @@ impl Input<'_> {
         self.pattern(count)
     }
 
-    /// Whether the machine is ready, and the bytes of store to lend where this many are wanted.
-    fn readiness(&mut self, wanted: usize) -> (bool, usize) {
-        match self.byte() % 4 {
+    /// A call on this line, the machine ready or not, with a store of which this many bytes are wanted.
+    fn receiving_call<'a>(&mut self, line: Line<'a>, wanted: usize) -> ReceivingCall<'a> {
+        let (ready, lent) = match self.byte() % 4 {
             0 | 1 => (true, self.near(wanted)),
             2 => (false, self.near(wanted)),
             _ => (false, wanted / 2),
+        };
+        ReceivingCall {
+            line,
+            ready,
+            lent,
+            remainder: self.number(),
         }
     }
 
@@ -406,7 +417,8 @@ impl Input<'_> {
         bytes
     }
 
-    /// Bits of the line: a block that some rule is about, the sequence, or any bits; damaged or not.
+    /// Bits of the line: a block that some rule is about, the sequence, or any bits; cancelled or not,
+    /// damaged or not.
     fn line_bits(&mut self, k: usize, taken: usize) -> Bits {
         let k = if LENGTHS.contains(&k) { k } else { LENGTHS[0] };
         let mut bits = match self.byte() {
@@ -430,16 +442,21 @@ impl Input<'_> {
             }
             _ => self.payload(block_bits(k)),
         };
-        if self.byte() > 191 && !bits.is_empty() {
-            let mut damage = vec![false; bits.len()];
+        self.harm(&mut bits);
+        bits
+    }
+
+    /// Cancels the bits or not, and damages them or not.
+    fn harm(&mut self, bits: &mut [bool]) {
+        let harm = self.byte();
+        if harm % 8 == 7 {
+            cancel(bits);
+        }
+        if harm > 191 && !bits.is_empty() {
             let first = self.below(bits.len());
             let pattern = bits_of(self.word() as usize, CHECK_BITS + 1);
-            for (place, inverted) in damage[first..].iter_mut().zip(pattern) {
-                *place = inverted;
-            }
-            invert(&mut bits, &damage);
+            invert(&mut bits[first..], &pattern);
         }
-        bits
     }
 
     fn payload(&mut self, count: usize) -> Bits {
@@ -449,7 +466,8 @@ impl Input<'_> {
 
 #[cfg(test)]
 mod tests {
-    use super::super::lockstep::WAIT_WITHOUT_ROOM;
+    use super::super::block::{READ_FAILED_OTHERWISE, READ_FAILED_WITH_1};
+    use super::super::lockstep::TRIED;
     use super::super::tint::ANSWERS;
     use super::super::EVENTS;
     use super::*;
@@ -467,12 +485,14 @@ mod tests {
             }
         }
         tally.assert_above(20, &EVENTS);
+        tally.assert_above(20, &TRIED);
         let kinds = [
             "allowed",
             "built",
             "build refused",
             "read passed",
-            "read failed",
+            READ_FAILED_WITH_1,
+            READ_FAILED_OTHERWISE,
             "read refused",
             "sender opened",
             "sender opened with marks",
@@ -486,7 +506,6 @@ mod tests {
             "refused 6",
             "refused 7",
             "refused 8",
-            WAIT_WITHOUT_ROOM,
         ];
         tally.assert_above(20, &kinds);
         tally.assert_above(20, &ANSWERS);

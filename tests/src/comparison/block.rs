@@ -3,10 +3,12 @@
 
 use super::{hex, same, Difference, GuardedBuffer, Tally};
 use crate::calls::{Blocks, Reference};
-use crate::damage::{burst, invert, Damage, ADMITTED_KINDS, OTHER_KINDS};
+use crate::damage::{at_powers, burst, invert, times_x};
+use crate::damage::{Damage, ADMITTED_KINDS, OTHER_KINDS};
+use crate::interface::decode_read;
 use crate::reference::bits::{bits_of, pack, unpack, Bits};
-use crate::reference::block::{block_bits, block_bytes, cancel, is_length, payload_bytes};
-use crate::reference::block::{synchronising_block, Read, LENGTHS};
+use crate::reference::block::{assemble, block_bits, block_bytes, cancel, is_length};
+use crate::reference::block::{payload_bytes, synchronising_block, Read, LENGTHS};
 use crate::rng::Rng;
 
 /// Numbers of data bits that are refused, the odd ones chosen near the four or their multiples.
@@ -31,6 +33,10 @@ pub const REFUSED_LENGTHS: [usize; 18] = [
     usize::MAX,
 ];
 
+/// The names under which blocks that fail are counted.
+pub const READ_FAILED_WITH_1: &str = "read failed with 1";
+pub const READ_FAILED_OTHERWISE: &str = "read failed with another remainder";
+
 /// Runs the whole group.
 pub fn compare(tested: &impl Blocks, seed: u64, cases: usize) -> Result<Tally, Difference> {
     let mut group = Group {
@@ -40,6 +46,7 @@ pub fn compare(tested: &impl Blocks, seed: u64, cases: usize) -> Result<Tally, D
     };
     group.arguments()?;
     group.single_bits()?;
+    group.cancelled()?;
     group.bursts()?;
     for _ in 0..cases {
         group.random_case()?;
@@ -114,17 +121,63 @@ impl<B: Blocks> Group<'_, B> {
         if let Some(byte) = bytes.first_mut() {
             *byte ^= 0x80;
         }
-        self.read(k, &bytes, payload)
+        self.read(k, &bytes, payload)?;
+        Ok(())
     }
 
-    /// Every single bit inverted, the spare ones too.
+    /// Every single bit inverted, the spare ones too, of a block that passes and of a synchronising
+    /// block. In the one that passes each of the n bits leaves its power of x.
     fn single_bits(&mut self) -> Result<(), Difference> {
         for k in LENGTHS {
-            let bytes = pack(&self.passing(k));
-            for place in 0..8 * bytes.len() {
-                let mut damaged = bytes.clone();
-                damaged[place / 8] ^= 0x80 >> (place % 8);
-                self.read(k, &damaged, payload_bytes(k))?;
+            let passing = pack(&self.passing(k));
+            let synchronising = pack(&synchronising_block(k));
+            let mut power = 1;
+            for place in (0..8 * passing.len()).rev() {
+                let read = self.read_inverted(k, &passing, place)?;
+                self.read_inverted(k, &synchronising, place)?;
+                if place < block_bits(k) {
+                    let case = || format!("k {k}, bit {place} inverted");
+                    same(&case, &Read::Failed(power), &read)?;
+                    power = times_x(power);
+                }
+            }
+        }
+        Ok(())
+    }
+
+    fn read_inverted(&mut self, k: usize, block: &[u8], place: usize) -> Result<Read, Difference> {
+        let mut damaged = block.to_vec();
+        damaged[place / 8] ^= 0x80 >> (place % 8);
+        self.read(k, &damaged, payload_bytes(k))
+    }
+
+    /// With every service value a cancelled block leaves 1. So does damage at powers 16, 12 and 5 in a
+    /// block that is not cancelled, and with both it passes.
+    fn cancelled(&mut self) -> Result<(), Difference> {
+        for (k, service) in LENGTHS
+            .into_iter()
+            .flat_map(|k| (0..16).map(move |s| (k, s)))
+        {
+            let data = payload(&mut self.rng, k);
+            let block = assemble(service, &unpack(&data, 0, k));
+            let mut cancelled = block.clone();
+            cancel(&mut cancelled);
+            let damage = at_powers(block.len(), &[16, 12, 5]);
+            let (mut damaged, mut both) = (block, cancelled.clone());
+            invert(&mut damaged, &damage);
+            invert(&mut both, &damage);
+            let expected = [
+                (cancelled, Read::Failed(1)),
+                (damaged, Read::Failed(1)),
+                (both, Read::Passed(service)),
+            ];
+            for (bits, expected) in expected {
+                let read = self.read(k, &pack(&bits), payload_bytes(k))?;
+                same(
+                    &|| format!("k {k}, service bits {service}"),
+                    &expected,
+                    &read,
+                )?;
             }
         }
         Ok(())
@@ -155,7 +208,8 @@ impl<B: Blocks> Group<'_, B> {
         self.build(k, service, &data, block)?;
         let bytes = self.arriving(k);
         let spare = self.rng.below(4);
-        self.read(k, &bytes, payload_bytes(k) + spare)
+        self.read(k, &bytes, payload_bytes(k) + spare)?;
+        Ok(())
     }
 
     /// A packed block as it may arrive: damaged, cancelled or both, with any spare bits.
@@ -195,9 +249,10 @@ impl<B: Blocks> Group<'_, B> {
         compare_build(self.tested, k, service, payload, block, &mut self.tally)
     }
 
-    fn read(&mut self, k: usize, block: &[u8], length: usize) -> Result<(), Difference> {
+    fn read(&mut self, k: usize, block: &[u8], length: usize) -> Result<Read, Difference> {
         let payload = GuardedBuffer::random(&mut self.rng, length);
-        compare_read(self.tested, k, block, payload, &mut self.tally)
+        let remainder = self.rng.number();
+        compare_read(self.tested, k, block, payload, remainder, &mut self.tally)
     }
 }
 
@@ -227,27 +282,44 @@ pub fn compare_build(
     Ok(())
 }
 
-/// Reads one block, its data into a place.
+/// Reads one block, its data into a place; `remainder` stands in the remainder's place before.
 pub fn compare_read(
     tested: &impl Blocks,
     k: usize,
     block: &[u8],
     payload: GuardedBuffer,
+    remainder: u16,
     tally: &mut Tally,
-) -> Result<(), Difference> {
+) -> Result<Read, Difference> {
     let length = payload.slice().len();
-    let case = || format!("read_block: k {k}, {length} bytes, block {}", hex(block));
-    let (mut expected, mut got) = (payload.clone(), payload);
-    let answer = Reference.read_block(k, block, expected.slice_mut());
-    let read = tested.read_block(k, block, got.slice_mut());
-    same(&case, &answer, &read)?;
-    same(&case, &expected, &got)?;
-    tally.count(match answer {
+    let case = || {
+        let block = hex(block);
+        format!("read_block: k {k}, {length} bytes, {remainder:x} before, block {block}")
+    };
+    let lent = (payload, GuardedBuffer::filled(remainder, 1));
+    let (mut expected, mut got) = (lent.clone(), lent);
+    let answer = read_into(&Reference, k, block, &mut expected);
+    let number = read_into(tested, k, block, &mut got);
+    same(&case, &(answer, expected), &(number, got.clone()))?;
+    let read = decode_read(number, got.1.slice()[0]);
+    tally.count(match read {
         Read::Passed(_) => "read passed",
-        Read::Failed => "read failed",
+        Read::Failed(1) => READ_FAILED_WITH_1,
+        Read::Failed(_) => READ_FAILED_OTHERWISE,
         Read::Refused(_) => "read refused",
     });
-    Ok(())
+    Ok(read)
+}
+
+/// The number returned, with the data and the remainder in these places.
+fn read_into(
+    tested: &impl Blocks,
+    k: usize,
+    block: &[u8],
+    (payload, remainder): &mut (GuardedBuffer, GuardedBuffer<u16>),
+) -> u16 {
+    let remainder = &mut remainder.slice_mut()[0];
+    tested.read_block(k, block, payload.slice_mut(), remainder)
 }
 
 #[cfg(test)]
@@ -255,6 +327,7 @@ mod tests {
     use super::super::agreed;
     use super::*;
     use crate::calls::TableDriven;
+    use crate::interface::encode_read;
 
     #[test]
     fn the_table_driven_sibling_agrees() {
@@ -263,7 +336,8 @@ mod tests {
             "built",
             "build refused",
             "read passed",
-            "read failed",
+            READ_FAILED_WITH_1,
+            READ_FAILED_OTHERWISE,
             "read refused",
         ];
         tally.assert_above(500, &kinds);
@@ -277,10 +351,16 @@ mod tests {
             fn build_block(&self, k: usize, service: u8, payload: &[u8], block: &mut [u8]) -> u8 {
                 TableDriven.build_block(k, service, payload, block)
             }
-            fn read_block(&self, k: usize, block: &[u8], payload: &mut [u8]) -> Read {
+            fn read_block(
+                &self,
+                k: usize,
+                block: &[u8],
+                payload: &mut [u8],
+                remainder: &mut u16,
+            ) -> u16 {
                 match block.get(k.min(4000) / 8 + 2) {
-                    Some(last) if last & 1 == 1 => Read::Failed,
-                    _ => TableDriven.read_block(k, block, payload),
+                    Some(last) if last & 1 == 1 => encode_read(Read::Failed(1), remainder),
+                    _ => TableDriven.read_block(k, block, payload, remainder),
                 }
             }
         }

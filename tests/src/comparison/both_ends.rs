@@ -2,13 +2,13 @@
 //! busy. Along those that meet the suppositions of demand 3, its claims are checked too.
 
 use super::channel::{ChannelModel, ErrorRates};
-use super::lockstep::{BufferPair, Lockstep};
+use super::lockstep::{BufferPair, Lockstep, ReceivingCall};
 use super::marks::CodeSizes;
 use super::orders::Order;
 use super::readiness::Readiness;
 use super::sender::refusal_name;
 use super::{same, spoil, Difference, GuardedBuffer, Tally};
-use crate::calls::{Opening, ReceivingEnd, SendingEnd};
+use crate::calls::{Line, Opening, ReceivingEnd, SendingEnd};
 use crate::damage::{invert, Damage, ADMITTED_KINDS, OTHER_KINDS};
 use crate::delivery::{Delivery, Receiving, Sending};
 use crate::interface::{load_receiver, load_sender, RECEIVER_BYTES, SENDER_BYTES};
@@ -38,7 +38,7 @@ pub fn compare<S: SendingEnd, R: ReceivingEnd>(
         let run = session.and_then(|mut session| session.run());
         run.map_err(|difference| format!("session {number}: {difference}"))?;
     }
-    ends.with_waits(tally)
+    ends.with_tried(tally)
 }
 
 pub struct Session<'a, S, R> {
@@ -282,26 +282,22 @@ impl<'a, S: SendingEnd, R: ReceivingEnd> Session<'a, S, R> {
 
     /// One receiving call on all of these bits; the number used.
     fn receive(&mut self, bits: &[bool]) -> Result<usize, Difference> {
-        let line = self.line(bits);
-        let lent = self.store.slice().len();
+        let bytes = self.line(bits);
         let alarm_stood = self.receiver().alarm.is_some();
-        let ready = self.readiness.next(&mut self.rng);
-        let received = self.ends.receive(
-            &mut self.receiver,
-            &line,
-            bits.len(),
-            ready,
-            &mut self.store,
-            lent,
-        )?;
-        if let Some(delivery) = &mut self.delivery {
-            delivery.after_receiving(&Receiving {
-                received,
+        let call = ReceivingCall {
+            line: Line {
+                bytes: &bytes,
                 bits: bits.len(),
-                line_bytes: line.len(),
-                ready,
-                store: self.store.slice(),
-            })?;
+            },
+            ready: self.readiness.next(&mut self.rng),
+            lent: self.store.slice().len(),
+            remainder: self.rng.number(),
+        };
+        let received = self
+            .ends
+            .receive(&mut self.receiver, &mut self.store, call)?;
+        if let Some(delivery) = &mut self.delivery {
+            delivery.after_receiving(&receiving(received, call, self.store.slice()))?;
         }
         match received {
             Received::Reported { event, used } => {
@@ -367,29 +363,28 @@ impl<'a, S: SendingEnd, R: ReceivingEnd> Session<'a, S, R> {
         let Receiver {
             k, taken, marks, ..
         } = self.receiver();
-        let mut line = pack(&assemble(data_service(marks, taken), &vec![false; k]));
+        let mut bytes = pack(&assemble(data_service(marks, taken), &vec![false; k]));
         if self.rng.bit() {
-            line.pop();
+            bytes.pop();
         }
         let (mut state, mut store) = (self.receiver.clone(), self.store.clone());
-        let lent = ((taken + 1) * k / 8 - 1).min(store.slice().len());
-        let ready = self.rng.bit();
-        let received =
-            self.ends
-                .receive(&mut state, &line, block_bits(k), ready, &mut store, lent)?;
+        let call = ReceivingCall {
+            line: Line {
+                bytes: &bytes,
+                bits: block_bits(k),
+            },
+            ready: self.rng.bit(),
+            lent: ((taken + 1) * k / 8 - 1).min(store.slice().len()),
+            remainder: self.rng.number(),
+        };
+        let received = self.ends.receive(&mut state, &mut store, call)?;
         let Received::Refused(number) = received else {
             return Ok(());
         };
         self.tally.count(refusal_name(number));
         match &mut self.delivery {
             None => Ok(()),
-            Some(delivery) => delivery.after_receiving(&Receiving {
-                received,
-                bits: block_bits(k),
-                line_bytes: line.len(),
-                ready,
-                store: &store.slice()[..lent],
-            }),
+            Some(delivery) => delivery.after_receiving(&receiving(received, call, store.slice())),
         }
     }
 
@@ -410,13 +405,17 @@ impl<'a, S: SendingEnd, R: ReceivingEnd> Session<'a, S, R> {
         let bytes = spoil::receiver(&mut self.rng, self.receiver.slice());
         let mut state = BufferPair::new(GuardedBuffer::around(&mut self.rng, &bytes));
         let line = self.rng.bytes(90);
-        let bits = self.rng.below(721);
         let mut store = self.store.clone();
-        let lent = store.slice().len();
-        let ready = self.rng.bit();
-        let received = self
-            .ends
-            .receive(&mut state, &line, bits, ready, &mut store, lent)?;
+        let call = ReceivingCall {
+            line: Line {
+                bytes: &line,
+                bits: self.rng.below(721),
+            },
+            ready: self.rng.bit(),
+            lent: store.slice().len(),
+            remainder: self.rng.number(),
+        };
+        let received = self.ends.receive(&mut state, &mut store, call)?;
         if let Received::Refused(number) = received {
             self.tally.count(refusal_name(number));
         }
@@ -435,6 +434,17 @@ impl<'a, S: SendingEnd, R: ReceivingEnd> Session<'a, S, R> {
         } else if sender.gave_up() {
             self.tally.count("gave up");
         }
+    }
+}
+
+/// A call as demand 3 sees it, and the store as it left it.
+fn receiving<'a>(received: Received, call: ReceivingCall, store: &'a [u8]) -> Receiving<'a> {
+    Receiving {
+        received,
+        bits: call.line.bits,
+        line_bytes: call.line.bytes.len(),
+        ready: call.ready,
+        store: &store[..call.lent],
     }
 }
 
@@ -482,7 +492,7 @@ fn count_delivery(delivery: &Delivery, names: &Names, tally: &mut Tally) {
 
 #[cfg(test)]
 mod tests {
-    use super::super::lockstep::WAIT_WITHOUT_ROOM;
+    use super::super::lockstep::TRIED;
     use super::super::{agreed, EVENTS};
     use super::*;
     use crate::calls::{Reference, TableDriven};
@@ -491,6 +501,7 @@ mod tests {
     fn demand_3_holds_along_random_sessions_of_the_reference() {
         let tally = agreed(compare(&Reference, &Reference, 6, 3_000));
         tally.assert_above(20, &EVENTS);
+        tally.assert_above(20, &TRIED);
         let kinds = [
             "finished",
             "gave up",
@@ -498,7 +509,6 @@ mod tests {
             "refused 6",
             "refused 7",
             "never ready, gave up",
-            WAIT_WITHOUT_ROOM,
         ];
         tally.assert_above(20, &kinds);
         tally.assert_above(20, &WITHOUT_MARKS);

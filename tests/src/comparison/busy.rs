@@ -2,7 +2,7 @@
 //! what becomes of the order.
 
 use super::ends::{cases, run_cases, Ends, Office, Outcome, Period};
-use super::lockstep::Lockstep;
+use super::lockstep::{Lockstep, BAD_WITH_0, BAD_WITH_1, BAD_WITH_ANOTHER};
 use super::marks::KINDS;
 use super::{same, Difference, Tally};
 use crate::calls::{ReceivingEnd, SendingEnd};
@@ -31,6 +31,7 @@ pub fn compare<S: SendingEnd, R: ReceivingEnd>(
         never_ready_at_the_end_the_office_gives_up_and_all_items_are_stored,
         busy_at_the_item_before_and_at_the_end_again_nothing_waits,
         busy_between_bad_blocks_the_search_is_put_off,
+        busy_and_zeros_between_two_blocks_the_order_arrives,
         busy_and_the_request_lost_the_next_item_is_an_alarm,
         busy_at_the_end_and_the_request_lost_the_office_is_finished_without_it,
     ];
@@ -39,15 +40,15 @@ pub fn compare<S: SendingEnd, R: ReceivingEnd>(
             run_cases(&calls, k, sizes, &cases, &mut tally)?;
         }
     }
-    calls.with_waits(tally)
+    calls.with_tried(tally)
 }
 
-/// What the pair brings so many times while its older item waits: without synchronising first for
+/// What the pair brings so many times while its older item waits and its newer one is cancelled: without synchronising first for
 /// the second to fourth time, unless opening lasts.
 fn rounds(opening: bool, times: usize) -> Vec<&'static str> {
     let without = if opening { 1 } else { times.min(RESYNCHRONISE) };
-    let with = ["sync", "wait", "bad"].repeat(times - without);
-    [["wait", "bad"].repeat(without), with].concat()
+    let with = ["sync", "wait", BAD_WITH_1].repeat(times - without);
+    [["wait", BAD_WITH_1].repeat(without), with].concat()
 }
 
 impl<S: SendingEnd, R: ReceivingEnd> Ends<'_, S, R> {
@@ -91,7 +92,7 @@ impl<S: SendingEnd, R: ReceivingEnd> Ends<'_, S, R> {
     fn busy_in_mid_order_the_pair_is_repeated_and_the_order_arrives(&mut self) -> Outcome {
         self.busy_after(2)?;
         self.periods(2)?;
-        let waits = vec!["sync", "accepted", "wait", "bad"];
+        let waits = vec!["sync", "accepted", "wait", BAD_WITH_1];
         let taken = vec!["accepted", "accepted", "ended", "previous"];
         self.arrives([waits, taken].concat())
     }
@@ -137,8 +138,8 @@ impl<S: SendingEnd, R: ReceivingEnd> Ends<'_, S, R> {
         self.busy = true;
         self.period(Reads1)?;
         self.until_rest()?;
-        let again = ["sync", "accepted", "accepted", "bad", "previous"];
-        let end = ["accepted", "ended", "bad", "previous", "previous"];
+        let again = ["sync", "accepted", "accepted", BAD_WITH_1, "previous"];
+        let end = ["accepted", "ended", BAD_WITH_1, "previous", "previous"];
         self.expect(&[again, end].concat(), Finished, &ITEMS)
     }
 
@@ -152,10 +153,21 @@ impl<S: SendingEnd, R: ReceivingEnd> Ends<'_, S, R> {
         same(&|| String::from("search"), &false, &self.receiver().search)?;
         self.receive_all(vec![true; block_bits(self.k)])?;
         same(&|| String::from("search"), &true, &self.receiver().search)?;
-        let row = |times| vec!["bad"; times];
+        let row = |times| vec![BAD_WITH_ANOTHER; times];
         let first = [vec!["sync", "accepted"], row(BAD_ROW_LIMIT - 1)].concat();
         let events = [first, vec!["wait"], row(BAD_ROW_LIMIT)].concat();
         self.expect(&events, GoingOn, &ITEMS[..1])
+    }
+
+    /// Zeros pass the check and fit nowhere. The office reads the return bit 1 and cancels item 1.
+    fn busy_and_zeros_between_two_blocks_the_order_arrives(&mut self) -> Outcome {
+        self.busy_after(2)?;
+        self.receive_all(vec![false; block_bits(self.k)])?;
+        let again = vec![
+            "sync", "accepted", BAD_WITH_0, BAD_WITH_1, "sync", "previous",
+        ];
+        let taken = vec!["accepted", "accepted", "ended", "previous"];
+        self.arrives([again, taken].concat())
     }
 
     /// Item 1 waits, its request is read as 0, and item 2 is the one behind the one that is awaited.

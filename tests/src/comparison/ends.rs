@@ -4,13 +4,13 @@
 //! Every item of an order is filled with one byte, so that an order and a store are written as a
 //! byte for each item.
 
-use super::lockstep::{BufferPair, Lockstep};
+use super::lockstep::{bad_name, BufferPair, Lockstep, ReceivingCall};
 use super::marks::CodeSizes;
 use super::{same, Difference, GuardedBuffer, Tally};
-use crate::calls::{Opening, ReceivingEnd, SendingEnd};
+use crate::calls::{Line, Opening, ReceivingEnd, SendingEnd};
 use crate::interface::{load_receiver, load_sender, RECEIVER_BYTES, SENDER_BYTES};
 use crate::reference::bits::{pack, unpack, Bits};
-use crate::reference::block::{block_bits, block_bytes};
+use crate::reference::block::{block_bits, block_bytes, CHECK_BITS};
 use crate::reference::receiver::{Event, Received, Receiver};
 use crate::reference::sender::{Sender, Sent};
 use crate::rng::Rng;
@@ -64,7 +64,7 @@ pub enum Office {
 #[derive(Clone, Copy, PartialEq, Eq)]
 pub enum Period {
     Undisturbed,
-    /// The block's last bit is inverted.
+    /// The first of the block's last sixteen bits is inverted.
     Damaged,
     /// The reading is 0 whatever the return bit is.
     Reads0,
@@ -84,7 +84,7 @@ pub struct Ends<'a, S, R> {
     store: BufferPair,
     /// The machine is not ready. If it is, calls are tried as busy ones first, at random.
     pub busy: bool,
-    /// All but *none*; an alarm that stands once.
+    /// All but *none*, *bad* by its remainder; an alarm that stands once.
     events: Vec<&'static str>,
 }
 
@@ -163,9 +163,8 @@ impl<'a, S: SendingEnd, R: ReceivingEnd> Ends<'a, S, R> {
             .send(&mut self.sender, &self.order, reading, &mut place)?;
         assert!(!matches!(sent, Sent::Refused(_)), "{sent:?}");
         let mut bits = unpack(place.slice(), 0, block_bits(self.k));
-        if let Some(last) = bits.last_mut() {
-            *last ^= period == Period::Damaged;
-        }
+        let first_check_bit = bits.len() - CHECK_BITS;
+        bits[first_check_bit] ^= period == Period::Damaged;
         self.receive_all(bits)
     }
 
@@ -190,7 +189,10 @@ impl<'a, S: SendingEnd, R: ReceivingEnd> Ends<'a, S, R> {
             (event, used) = self.call(bits, true)?;
         }
         if !stood && event != Event::None {
-            self.events.push(event.name());
+            self.events.push(match event {
+                Event::Bad(remainder) => bad_name(remainder),
+                _ => event.name(),
+            });
         }
         Ok(used)
     }
@@ -203,14 +205,18 @@ impl<'a, S: SendingEnd, R: ReceivingEnd> Ends<'a, S, R> {
             true => whole,
             false => self.rng.pick(&[whole, short.min(whole), 0]),
         };
-        let received = self.calls.receive(
-            &mut self.receiver,
-            &pack(bits),
-            bits.len(),
+        let call = ReceivingCall {
+            line: Line {
+                bytes: &pack(bits),
+                bits: bits.len(),
+            },
             ready,
-            &mut self.store,
             lent,
-        )?;
+            remainder: self.rng.number(),
+        };
+        let received = self
+            .calls
+            .receive(&mut self.receiver, &mut self.store, call)?;
         match received {
             Received::Reported { event, used } => Ok((event, used)),
             Received::Refused(_) => panic!("{received:?}"),

@@ -8,7 +8,6 @@ use super::{any_bytes, both_ends, receiver, sender, Tally};
 use crate::calls::{Blocks, Line, LoopTimes, Opening, ReceivingEnd, Reference, SendingEnd, Tints};
 use crate::interface::{decode_sent, is_event, Counts, EVENT_ACCEPTED, EVENT_NONE};
 use crate::interface::{FINISHED, GAVE_UP, MARKS_BYTES, RECEIVER_BYTES, SENDER_BYTES};
-use crate::reference::block::Read;
 use crate::reference::refusal::SHORT;
 use crate::reference::sender::Sent;
 use crate::rng::Rng;
@@ -132,8 +131,8 @@ impl Blocks for Faulty {
         Reference.build_block(k, service, payload, block)
     }
 
-    fn read_block(&self, k: usize, block: &[u8], payload: &mut [u8]) -> Read {
-        Reference.read_block(k, block, payload)
+    fn read_block(&self, k: usize, block: &[u8], payload: &mut [u8], remainder: &mut u16) -> u16 {
+        Reference.read_block(k, block, payload, remainder)
     }
 }
 

@@ -2,7 +2,7 @@
 //! that hold the sequence that a search looks for.
 
 use super::ends::{run_cases, Case, Ends, Office, Outcome, Period};
-use super::lockstep::Lockstep;
+use super::lockstep::{Lockstep, BAD_WITH_0, BAD_WITH_ANOTHER};
 use super::marks::KINDS;
 use super::{same, Difference, Tally};
 use crate::calls::{ReceivingEnd, SendingEnd};
@@ -35,6 +35,14 @@ const IDLE_KINDS: [Idle; 4] = [
 ];
 
 impl Idle {
+    /// What n idle bits bring in step where they fit nowhere. Zeros pass the check, the others fail it.
+    fn bad(self) -> &'static str {
+        match self {
+            Idle::Zeros => BAD_WITH_0,
+            _ => BAD_WITH_ANOTHER,
+        }
+    }
+
     /// So many idle bits, from bit `from` on.
     fn bits(self, from: usize, count: usize) -> Bits {
         let bit = |i| match self {
@@ -84,7 +92,7 @@ pub fn compare<S: SendingEnd, R: ReceivingEnd>(
         }
         run_cases(&calls, k, sizes, &cases, &mut tally)?;
     }
-    calls.with_waits(tally)
+    calls.with_tried(tally)
 }
 
 impl<S: SendingEnd, R: ReceivingEnd> Ends<'_, S, R> {
@@ -110,7 +118,7 @@ impl<S: SendingEnd, R: ReceivingEnd> Ends<'_, S, R> {
     }
 
     /// However many idle bits come first, the synchronising block leaves the machine as it does
-    /// without them, whether it arrives whole or its last bit is damaged.
+    /// without them, whether it arrives whole or damaged.
     fn idle_in_search(&mut self, idle: Idle) -> Outcome {
         for (period, events) in [(Damaged, &[][..]), (Undisturbed, &["sync"])] {
             let mut without = None;
@@ -136,7 +144,7 @@ impl<S: SendingEnd, R: ReceivingEnd> Ends<'_, S, R> {
         self.expect(&DELIVERED, Finished, &ITEMS)?;
         let told = self.n() + 3;
         self.receive_all(idle.bits(0, told))?;
-        self.expect(&["bad"], Finished, &ITEMS)?;
+        self.expect(&[idle.bad()], Finished, &ITEMS)?;
         self.open_machine()?;
         self.receive_all(idle.bits(told, 2 * self.n() - told))?;
         self.open_office(&SECOND)?;
@@ -165,7 +173,7 @@ impl<S: SendingEnd, R: ReceivingEnd> Ends<'_, S, R> {
         Ok(())
     }
 
-    /// Zeros pass the check: rule 7, and at r 0 a search. The others fail it.
+    /// Zeros: rule 7, and at r 0 a search.
     fn idle_before_item_0(&mut self, idle: Idle) -> Outcome {
         self.begin(1)?;
         let rows = if idle == Idle::Zeros {
@@ -175,7 +183,7 @@ impl<S: SendingEnd, R: ReceivingEnd> Ends<'_, S, R> {
         };
         let bits = self.idle_until_search(idle)?;
         same(&|| String::from("idle bits"), &(rows * self.n()), &bits)?;
-        let events = [vec!["sync"], vec!["bad"; rows]].concat();
+        let events = [vec!["sync"], vec![idle.bad(); rows]].concat();
         self.expect(&events, GoingOn, &[])
     }
 
@@ -185,7 +193,7 @@ impl<S: SendingEnd, R: ReceivingEnd> Ends<'_, S, R> {
         let bits = self.idle_until_search(idle)?;
         let expected = BAD_ROW_LIMIT * self.n();
         same(&|| String::from("idle bits"), &expected, &bits)?;
-        let events = [vec!["sync", "accepted"], vec!["bad"; BAD_ROW_LIMIT]].concat();
+        let events = [vec!["sync", "accepted"], vec![idle.bad(); BAD_ROW_LIMIT]].concat();
         self.expect(&events, GoingOn, &ITEMS[..1])?;
         same(&|| String::from("items taken"), &1, &self.receiver().taken)
     }
@@ -236,10 +244,10 @@ impl<S: SendingEnd, R: ReceivingEnd> Ends<'_, S, R> {
         let bits = self.idle_until_search(idle)?;
         let expected = BAD_ROW_LIMIT * self.n();
         same(&|| String::from("idle bits"), &expected, &bits)?;
-        self.expect(&["bad"; BAD_ROW_LIMIT], Finished, &ITEMS)?;
+        self.expect(&[idle.bad(); BAD_ROW_LIMIT], Finished, &ITEMS)?;
         self.begin(2)?;
         let answer = match self.sender().marks.in_use {
-            true => "bad",
+            true => BAD_WITH_0,
             false => "sequence alarm",
         };
         self.expect(&["sync", answer], GoingOn, &ITEMS)
@@ -261,7 +269,7 @@ impl<S: SendingEnd, R: ReceivingEnd> Ends<'_, S, R> {
     fn sequence_in_older(&mut self) -> Outcome {
         self.damaged_synchronising(0)?;
         self.until_rest()?;
-        let bad = vec!["bad"; BAD_ROW_LIMIT];
+        let bad = vec![BAD_WITH_ANOTHER; BAD_ROW_LIMIT];
         let events = [vec!["sync"], bad, vec!["sync", "sequence alarm"]].concat();
         self.expect(&events, GaveUp, &[])
     }
@@ -271,7 +279,7 @@ impl<S: SendingEnd, R: ReceivingEnd> Ends<'_, S, R> {
     fn sequence_in_newer(&mut self) -> Outcome {
         self.damaged_synchronising(1)?;
         self.until_rest()?;
-        let round = [vec!["sync"], vec!["bad"; BAD_ROW_LIMIT]].concat();
+        let round = [vec!["sync"], vec![BAD_WITH_ANOTHER; BAD_ROW_LIMIT]].concat();
         let events = [round.repeat(21), vec!["sync"]].concat();
         self.expect(&events, GaveUp, &[])
     }

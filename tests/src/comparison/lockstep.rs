@@ -12,7 +12,48 @@ use std::cell::RefCell;
 
 /// The names under which waiting blocks are counted.
 const WAIT_WITH_ROOM: &str = "wait with room in the store";
-pub const WAIT_WITHOUT_ROOM: &str = "wait with too short a store";
+const WAIT_WITHOUT_ROOM: &str = "wait with too short a store";
+
+/// The names under which *bad* blocks are counted, by their remainder: by rule 7; cancelled and
+/// otherwise unharmed, for instance; otherwise.
+pub const BAD_WITH_0: &str = "bad with 0";
+pub const BAD_WITH_1: &str = "bad with 1";
+pub const BAD_WITH_ANOTHER: &str = "bad with another remainder";
+
+/// What every group with receiving calls must have tried. Were no block to wait with too short a
+/// store, that the store is not judged would be untried.
+pub const TRIED: [&str; 4] = [WAIT_WITHOUT_ROOM, BAD_WITH_0, BAD_WITH_1, BAD_WITH_ANOTHER];
+
+pub fn bad_name(remainder: u16) -> &'static str {
+    match remainder {
+        0 => BAD_WITH_0,
+        1 => BAD_WITH_1,
+        _ => BAD_WITH_ANOTHER,
+    }
+}
+
+/// What a receiving call is given besides the state and the store.
+#[derive(Clone, Copy)]
+pub struct ReceivingCall<'a> {
+    pub line: Line<'a>,
+    pub ready: bool,
+    /// The bytes lent of the store, its first.
+    pub lent: usize,
+    /// What stands in the remainder's place before the call.
+    pub remainder: u16,
+}
+
+impl ReceivingCall<'_> {
+    /// On this state.
+    fn describe(self, state: &[u8]) -> String {
+        let (state, line, bits) = (hex(state), hex(self.line.bytes), self.line.bits);
+        let (ready, lent, remainder) = (self.ready, self.lent, self.remainder);
+        format!(
+            "receive: {state}, {bits} bits, ready {ready}, line {line}, {lent} bytes of store, \
+             {remainder:x} in the remainder's place"
+        )
+    }
+}
 
 /// The same bytes, lent to both.
 #[derive(Clone)]
@@ -74,7 +115,7 @@ fn same_opening(
 pub struct Lockstep<'a, S, R> {
     sending: &'a S,
     receiving: &'a R,
-    waits: RefCell<Tally>,
+    tried: RefCell<Tally>,
 }
 
 impl<'a, S, R> Lockstep<'a, S, R> {
@@ -82,22 +123,22 @@ impl<'a, S, R> Lockstep<'a, S, R> {
         Lockstep {
             sending,
             receiving,
-            waits: RefCell::default(),
+            tried: RefCell::default(),
         }
     }
 
-    /// Adds the waiting blocks to what was counted.
-    pub fn add_waits(&self, tally: &mut Tally) {
-        tally.add(&self.waits.borrow());
+    /// Adds the waiting and the bad blocks to what was counted.
+    pub fn add_tried(&self, tally: &mut Tally) {
+        tally.add(&self.tried.borrow());
     }
 
-    /// What a group counted, with the waiting blocks. A group in which none waited with too short a
-    /// store has not tried that the store is not judged.
-    pub fn with_waits(&self, mut tally: Tally) -> Result<Tally, Difference> {
-        self.add_waits(&mut tally);
-        match tally.number_of(WAIT_WITHOUT_ROOM) {
-            0 => Err(format!("untried: {WAIT_WITHOUT_ROOM}")),
-            _ => Ok(tally),
+    /// What a group counted, with the waiting and the bad blocks; an error if it has not tried all that
+    /// it must.
+    pub fn with_tried(&self, mut tally: Tally) -> Result<Tally, Difference> {
+        self.add_tried(&mut tally);
+        match TRIED.iter().find(|kind| tally.number_of(kind) == 0) {
+            Some(kind) => Err(format!("untried: {kind}")),
+            None => Ok(tally),
         }
     }
 }
@@ -179,22 +220,18 @@ impl<S, R: ReceivingEnd> Lockstep<'_, S, R> {
         same_opening(&case, (expected, got), &before, state)
     }
 
-    /// A receiving call that is lent the first `lent` bytes of the store, and the return bit
-    /// after it.
+    /// A receiving call, and the return bit after it.
     pub fn receive(
         &self,
         state: &mut BufferPair,
-        line: &[u8],
-        bits: usize,
-        ready: bool,
         store: &mut BufferPair,
-        lent: usize,
+        call: ReceivingCall,
     ) -> Result<Received, Difference> {
         let before = state.clone();
-        let line = Line { bytes: line, bits };
-        let received = self.receive_alike(&before, state, line, ready, store, lent)?;
-        if matches!(received, Received::Reported { event, .. } if event == Event::Wait) {
-            self.count_wait(&before, line, &store.slice()[..lent]);
+        let received = self.receive_alike(&before, state, store, call)?;
+        match received {
+            Received::Reported { event, .. } => self.count_event(event, &before, store, call),
+            Received::Refused(_) => {}
         }
         self.return_bit(state)?;
         Ok(received)
@@ -205,21 +242,17 @@ impl<S, R: ReceivingEnd> Lockstep<'_, S, R> {
         &self,
         before: &BufferPair,
         state: &mut BufferPair,
-        line: Line,
-        ready: bool,
         store: &mut BufferPair,
-        lent: usize,
+        call: ReceivingCall,
     ) -> Result<Received, Difference> {
-        let bits = line.bits;
-        let case = || {
-            let (state, line) = (hex(before.slice()), hex(line.bytes));
-            format!(
-                "receive: {state}, {bits} bits, ready {ready}, line {line}, {lent} bytes of store"
-            )
-        };
+        let case = || call.describe(before.slice());
+        let ReceivingCall {
+            line, ready, lent, ..
+        } = call;
         let unwritten = Counts {
-            used: !bits,
+            used: !line.bits,
             length: !lent,
+            remainder: call.remainder,
         };
         let (mut expected_counts, mut counts) = (unwritten, unwritten);
         let (bytes, place) = (state.expected.slice_mut(), store.expected.slice_mut());
@@ -241,15 +274,29 @@ impl<S, R: ReceivingEnd> Lockstep<'_, S, R> {
         Ok(received)
     }
 
-    /// By whether the call would be refused for its store if the machine were ready.
-    fn count_wait(&self, before: &BufferPair, line: Line, store: &[u8]) {
-        let (mut state, mut store) = (before.slice().to_vec(), store.to_vec());
-        let mut counts = Counts { used: 0, length: 0 };
-        let answer = Reference.receive(&mut state, line, true, &mut store, &mut counts);
-        self.waits.borrow_mut().count(match answer {
-            SHORT => WAIT_WITHOUT_ROOM,
-            _ => WAIT_WITH_ROOM,
-        });
+    /// A wait by whether the call would be refused for its store if the machine were ready, a bad block
+    /// by its remainder.
+    fn count_event(
+        &self,
+        event: Event,
+        before: &BufferPair,
+        store: &BufferPair,
+        call: ReceivingCall,
+    ) {
+        let kind = match event {
+            Event::Bad(remainder) => bad_name(remainder),
+            Event::Wait => {
+                let mut state = before.slice().to_vec();
+                let mut store = store.slice()[..call.lent].to_vec();
+                let counts = &mut Counts::default();
+                match Reference.receive(&mut state, call.line, true, &mut store, counts) {
+                    SHORT => WAIT_WITHOUT_ROOM,
+                    _ => WAIT_WITH_ROOM,
+                }
+            }
+            _ => return,
+        };
+        self.tried.borrow_mut().count(kind);
     }
 
     /// The return bit.
@@ -265,11 +312,18 @@ mod tests {
     use super::*;
 
     #[test]
-    fn a_group_in_which_no_block_waited_without_room_fails() {
+    fn a_group_that_has_not_tried_all_that_it_must_fails() {
         let ends = Lockstep::new(&(), &Reference);
-        assert!(ends.with_waits(Tally::default()).is_err());
+        for untried in TRIED {
+            let mut tally = Tally::default();
+            for kind in TRIED.into_iter().filter(|&kind| kind != untried) {
+                tally.count(kind);
+            }
+            let failure = ends.with_tried(tally).err();
+            assert_eq!(failure, Some(format!("untried: {untried}")));
+        }
         let mut tally = Tally::default();
-        tally.count(WAIT_WITHOUT_ROOM);
-        assert!(ends.with_waits(tally).is_ok());
+        TRIED.into_iter().for_each(|kind| tally.count(kind));
+        assert!(ends.with_tried(tally).is_ok());
     }
 }

@@ -2,7 +2,7 @@
 //! named by what becomes of the order.
 
 use super::ends::{cases, run_cases, Ends, Office, Outcome, Period};
-use super::lockstep::Lockstep;
+use super::lockstep::{Lockstep, BAD_WITH_0, BAD_WITH_1, BAD_WITH_ANOTHER};
 use super::{Difference, Tally};
 use crate::calls::{ReceivingEnd, SendingEnd};
 use crate::interface::MARKS_BYTES;
@@ -10,7 +10,7 @@ use crate::reference::block::LENGTHS;
 use crate::reference::marks::CODE_SIZES;
 use crate::rng::Rng;
 use Office::{Finished, GaveUp};
-use Period::{Reads0, Reads1, Undisturbed};
+use Period::{Damaged, Reads0, Reads1, Undisturbed};
 
 /// Sizes beside 5 to 8, and some whose lowest byte or word is one of these.
 pub const REFUSED_SIZES: [usize; 7] = [0, 4, 9, 255, 256 + 5, (1 << 32) + 8, usize::MAX];
@@ -76,6 +76,7 @@ pub fn compare<S: SendingEnd, R: ReceivingEnd>(
     let alike = cases![
         at_both_ends_the_order_arrives,
         at_both_ends_item_0_again_is_previous,
+        at_both_ends_item_0_damaged_comes_again_and_the_order_arrives,
     ];
     let office = cases![
         at_the_office_alone_nothing_is_stored,
@@ -94,7 +95,7 @@ pub fn compare<S: SendingEnd, R: ReceivingEnd>(
             run(k, None, size, &machine)?;
         }
     }
-    calls.with_waits(tally)
+    calls.with_tried(tally)
 }
 
 impl<S: SendingEnd, R: ReceivingEnd> Ends<'_, S, R> {
@@ -116,16 +117,27 @@ impl<S: SendingEnd, R: ReceivingEnd> Ends<'_, S, R> {
         self.period(Undisturbed)?;
         self.period(Reads1)?;
         self.until_rest()?;
-        let again = ["sync", "accepted", "bad", "sync", "previous"];
+        let again = ["sync", "accepted", BAD_WITH_1, "sync", "previous"];
         let rest = ["accepted", "accepted", "ended", "previous"];
         self.expect(&[&again[..], &rest].concat(), Finished, &ITEMS)
+    }
+
+    /// Item 1 is cancelled behind it.
+    fn at_both_ends_item_0_damaged_comes_again_and_the_order_arrives(&mut self) -> Outcome {
+        self.open_office(&ITEMS)?;
+        self.period(Undisturbed)?;
+        self.period(Damaged)?;
+        self.until_rest()?;
+        let damaged = ["sync", BAD_WITH_ANOTHER, BAD_WITH_1, "sync"];
+        let rest = ["accepted", "accepted", "accepted", "ended", "previous"];
+        self.expect(&[&damaged[..], &rest].concat(), Finished, &ITEMS)
     }
 
     /// A machine that uses no marks answers item 0 by rule 7, each time.
     fn at_the_office_alone_nothing_is_stored(&mut self) -> Outcome {
         self.open_office(&ITEMS)?;
         self.until_rest()?;
-        self.expect(&["sync", "bad"].repeat(64), GaveUp, &[])
+        self.expect(&["sync", BAD_WITH_0].repeat(64), GaveUp, &[])
     }
 
     /// The request for item 0 is lost: item 1 carries A, and the machine takes it as item 0. The
@@ -138,7 +150,7 @@ impl<S: SendingEnd, R: ReceivingEnd> Ends<'_, S, R> {
         self.until_rest()?;
         let events = [
             "sync",
-            "bad",
+            BAD_WITH_0,
             "sync",
             "accepted",
             "accepted",

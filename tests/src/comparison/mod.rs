@@ -111,8 +111,7 @@ impl GuardedBuffer {
 
 impl GuardedBuffer<u16> {
     pub fn random_numbers(rng: &mut Rng, length: usize) -> GuardedBuffer<u16> {
-        let number = |_| rng.below(1 << 16) as u16;
-        let values = (0..length + 2 * GUARD).map(number).collect();
+        let values = (0..length + 2 * GUARD).map(|_| rng.number()).collect();
         GuardedBuffer { values }
     }
 }

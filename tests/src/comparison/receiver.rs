@@ -2,13 +2,13 @@
 //! of the sequence, and states out of range.
 
 use super::block::REFUSED_LENGTHS;
-use super::lockstep::{BufferPair, Lockstep};
+use super::lockstep::{BufferPair, Lockstep, ReceivingCall};
 use super::marks::REFUSED_SIZES;
 use super::openings::opening_name;
 use super::sender::refusal_name;
 use super::services::{receive_every_service, receive_with_every_marks};
 use super::{spoil, Difference, GuardedBuffer, Tally};
-use crate::calls::ReceivingEnd;
+use crate::calls::{Line, ReceivingEnd};
 use crate::damage::{invert, Damage};
 use crate::interface::{load_receiver, store_receiver, RECEIVER_BYTES};
 use crate::reference::bits::{bits_of, pack, set_bit, unpack, Bits};
@@ -34,7 +34,7 @@ pub fn compare(tested: &impl ReceivingEnd, seed: u64, cases: usize) -> Result<Ta
         let received = received.map_err(|difference| format!("case {number}: {difference}"))?;
         tally.count(received_name(received));
     }
-    ends.with_waits(tally)
+    ends.with_tried(tally)
 }
 
 /// The name under which a receiving call is counted.
@@ -124,8 +124,8 @@ impl Case {
         }
     }
 
-    /// One call with some number of bits, a line of some length and some part of the store, the
-    /// machine ready or not.
+    /// One call with some number of bits, a line of some length, some part of the store and some
+    /// number in the remainder's place, the machine ready or not.
     fn call<R: ReceivingEnd>(&mut self, ends: &Lockstep<(), R>) -> Result<Received, Difference> {
         let rng = &mut self.rng;
         let whole = self.line.len() - BITS_BEHIND;
@@ -138,21 +138,26 @@ impl Case {
             5 => rng.pick(&[self.line.len() + 8, usize::MAX]),
             _ => whole,
         };
-        let mut line = pack(&self.line);
+        let mut bytes = pack(&self.line);
         match rng.below(10) {
-            0 => line.truncate(bits.div_ceil(8).saturating_sub(1)),
-            1 => line.truncate(bits.div_ceil(8)),
+            0 => bytes.truncate(bits.div_ceil(8).saturating_sub(1)),
+            1 => bytes.truncate(bits.div_ceil(8)),
             _ => {}
         }
+        let bytes = &bytes[..];
         let needed = (self.state.taken + 1) * self.state.k / 8;
         let byte = rng.below(256) as u8;
         let mut store = BufferPair::new(GuardedBuffer::filled(byte, needed + 3));
         let short = needed.saturating_sub(1);
         let lengths = [needed, needed, needed, needed, needed, needed + 3, short, 0];
-        let lent = rng.pick(&lengths);
         let mut state = BufferPair::new(GuardedBuffer::around(rng, &self.bytes));
-        let ready = rng.bit();
-        ends.receive(&mut state, &line, bits, ready, &mut store, lent)
+        let call = ReceivingCall {
+            line: Line { bytes, bits },
+            ready: rng.bit(),
+            lent: rng.pick(&lengths),
+            remainder: rng.number(),
+        };
+        ends.receive(&mut state, &mut store, call)
     }
 }
 
@@ -263,7 +268,7 @@ fn end_data(rng: &mut Rng, k: usize, taken: usize) -> Bits {
 
 #[cfg(test)]
 mod tests {
-    use super::super::lockstep::WAIT_WITHOUT_ROOM;
+    use super::super::lockstep::TRIED;
     use super::super::{agreed, EVENTS};
     use super::*;
     use crate::calls::TableDriven;
@@ -280,12 +285,12 @@ mod tests {
         let kinds = [
             "refused 6",
             "refused 7",
-            WAIT_WITHOUT_ROOM,
             "states too short",
             "flags and enums out of range",
             "fields out of range",
         ];
         tally.assert_above(100, &EVENTS);
+        tally.assert_above(100, &TRIED);
         tally.assert_above(100, &kinds);
         tally.assert_above(20, &openings);
         // Four k, five kinds of marks, r 0 to 3, before the end and after it, three kinds of calls.

@@ -1,10 +1,10 @@
 //! Receiving calls on one whole block in step: every service value at the first items and after the
 //! end, and the service values of item 0 to every state of marks.
 
-use super::lockstep::{BufferPair, Lockstep};
+use super::lockstep::{BufferPair, Lockstep, ReceivingCall};
 use super::marks::state_bytes;
 use super::{Difference, GuardedBuffer, Tally};
-use crate::calls::ReceivingEnd;
+use crate::calls::{Line, ReceivingEnd};
 use crate::interface::{store_receiver, MARKS_BYTES, RECEIVER_BYTES};
 use crate::reference::bits::pack;
 use crate::reference::block::{assemble, block_bits, payload_bytes, A, LENGTHS};
@@ -95,9 +95,19 @@ fn receive_block<R: ReceivingEnd>(
     (ready, room): (bool, bool),
 ) -> Result<Received, Difference> {
     let (k, taken) = (receiver.k, receiver.taken);
-    let line = pack(&assemble(service, &end_payload(k, taken * k)));
+    let block = pack(&assemble(service, &end_payload(k, taken * k)));
     let lent = (taken + 1) * payload_bytes(k) - usize::from(!room);
     let mut store = BufferPair::random(rng, lent);
     let mut state = BufferPair::new(GuardedBuffer::around(rng, &bytes));
-    ends.receive(&mut state, &line, block_bits(k), ready, &mut store, lent)
+    let line = Line {
+        bytes: &block,
+        bits: block_bits(k),
+    };
+    let call = ReceivingCall {
+        line,
+        ready,
+        lent,
+        remainder: rng.number(),
+    };
+    ends.receive(&mut state, &mut store, call)
 }

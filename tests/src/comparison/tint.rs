@@ -66,7 +66,7 @@ pub fn compare<T: Tints + SendingEnd + ReceivingEnd>(
     }
     match sessions {
         0 => Ok(group.tally),
-        _ => group.ends.with_waits(group.tally),
+        _ => group.ends.with_tried(group.tally),
     }
 }
 

@@ -3,7 +3,7 @@
 //! what then becomes of the orders.
 
 use super::ends::{cases, run_cases, Ends, Office, Outcome, Period};
-use super::lockstep::Lockstep;
+use super::lockstep::{Lockstep, BAD_WITH_0, BAD_WITH_1, BAD_WITH_ANOTHER};
 use super::marks::KINDS;
 use super::{Difference, Tally};
 use crate::calls::{ReceivingEnd, SendingEnd};
@@ -58,7 +58,7 @@ pub fn compare<S: SendingEnd, R: ReceivingEnd>(
         run(with, &in_both_kinds)?;
         run(with, &with_marks)?;
     }
-    calls.with_waits(tally)
+    calls.with_tried(tally)
 }
 
 impl<S: SendingEnd, R: ReceivingEnd> Ends<'_, S, R> {
@@ -89,7 +89,7 @@ impl<S: SendingEnd, R: ReceivingEnd> Ends<'_, S, R> {
         self.deliver_old()?;
         self.open_office(&NEW)?;
         self.until_rest()?;
-        self.expect(&["sync", "bad", "bad"].repeat(64), GaveUp, &OLD)
+        self.expect(&["sync", BAD_WITH_0, BAD_WITH_1].repeat(64), GaveUp, &OLD)
     }
 
     /// The second end block is not confirmed any more: the machine is in search, and takes the end
@@ -117,10 +117,10 @@ impl<S: SendingEnd, R: ReceivingEnd> Ends<'_, S, R> {
     fn with_marks_opened_at_bad_after_ended_both_orders_arrive(&mut self) -> Outcome {
         self.deliver_old()?;
         self.open_office(&NEW)?;
-        self.until("bad")?;
+        self.until(BAD_WITH_0)?;
         self.open_machine()?;
         self.until_rest()?;
-        let events = [&["sync", "bad"], &DELIVERED[..]].concat();
+        let events = [&["sync", BAD_WITH_0], &DELIVERED[..]].concat();
         self.expect(&events, Finished, &NEW)
     }
 
@@ -136,7 +136,7 @@ impl<S: SendingEnd, R: ReceivingEnd> Ends<'_, S, R> {
             self.period(Reads0)?;
         }
         let events: &[&str] = match self.sender().marks.in_use {
-            true => &["sync", "bad", SEQUENCE],
+            true => &["sync", BAD_WITH_0, SEQUENCE],
             false => &["sync", SEQUENCE],
         };
         self.expect(events, GoingOn, &OLD)?;
@@ -154,7 +154,7 @@ impl<S: SendingEnd, R: ReceivingEnd> Ends<'_, S, R> {
     /// synchronising blocks.
     fn opened_after_two_lost_requests_each_item_is_bad(&mut self) -> Outcome {
         self.open_after_lost_requests(2)?;
-        self.expect(&["sync", "bad"].repeat(60), GaveUp, &OLD)
+        self.expect(&["sync", BAD_WITH_0].repeat(60), GaveUp, &OLD)
     }
 
     /// Item 3 carries A, as item 0 does. The length alarm at the end tells that items are missing.
@@ -167,7 +167,7 @@ impl<S: SendingEnd, R: ReceivingEnd> Ends<'_, S, R> {
     /// Only a mark is taken as item 0.
     fn with_marks_opened_after_three_lost_requests_each_item_is_bad(&mut self) -> Outcome {
         self.open_after_lost_requests(3)?;
-        self.expect(&["sync", "bad"].repeat(60), GaveUp, &OLD)
+        self.expect(&["sync", BAD_WITH_0].repeat(60), GaveUp, &OLD)
     }
 
     /// Item 5 is damaged and its request lost, item 6 brings the alarm, and the machine is opened
@@ -179,7 +179,12 @@ impl<S: SendingEnd, R: ReceivingEnd> Ends<'_, S, R> {
         }
         self.period(Damaged)?;
         self.period(Reads0)?;
-        let events = [vec!["sync"], vec!["accepted"; 5], vec!["bad", SEQUENCE]].concat();
+        let events = [
+            vec!["sync"],
+            vec!["accepted"; 5],
+            vec![BAD_WITH_ANOTHER, SEQUENCE],
+        ]
+        .concat();
         self.expect(&events, GoingOn, &LONG[..5])?;
         self.open_machine()?;
         self.until_rest()
@@ -195,7 +200,7 @@ impl<S: SendingEnd, R: ReceivingEnd> Ends<'_, S, R> {
 
     fn with_marks_opened_at_an_alarm_in_mid_order_nothing_more_is_taken(&mut self) -> Outcome {
         self.open_at_an_alarm_in_mid_order()?;
-        self.expect(&["sync", "bad"].repeat(60), GaveUp, &LONG[..5])
+        self.expect(&["sync", BAD_WITH_0].repeat(60), GaveUp, &LONG[..5])
     }
 
     /// The first order breaks off behind so many of its items.
@@ -241,7 +246,11 @@ impl<S: SendingEnd, R: ReceivingEnd> Ends<'_, S, R> {
         self.break_off(&LONG, 3)?;
         self.open_office(&OLD)?;
         self.until_rest()?;
-        self.expect(&["sync", "bad", "bad"].repeat(64), GaveUp, &LONG[..3])
+        self.expect(
+            &["sync", BAD_WITH_0, BAD_WITH_1].repeat(64),
+            GaveUp,
+            &LONG[..3],
+        )
     }
 }
 

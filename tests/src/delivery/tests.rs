@@ -231,8 +231,8 @@ fn a_finished_sender_without_the_end_fails() {
         let mut ends = Ends::open(kind, 1);
         ends.period(1, &[]).unwrap();
         ends.period(0, &[]).unwrap();
-        ends.false_report(0, Event::Bad).unwrap();
-        let failure = ends.false_report(0, Event::Bad).unwrap_err();
+        ends.false_report(0, Event::Bad(1)).unwrap();
+        let failure = ends.false_report(0, Event::Bad(1)).unwrap_err();
         assert!(failure.contains("reported the end"), "{failure}");
     }
 }

@@ -81,7 +81,7 @@ impl<T: SendingEnd + ReceivingEnd> Ends<'_, T> {
             bytes: &self.block,
             bits,
         };
-        let mut counts = Counts { used: 0, length: 0 };
+        let mut counts = Counts::default();
         let (receiver, store) = (&mut self.receiver, &mut self.store);
         let number = self
             .tested

@@ -27,7 +27,8 @@ const GENERATOR: usize = 0b1_0001_0000_0010_0001;
 pub enum Read {
     /// The check passes; the service bits.
     Passed(u8),
-    Failed,
+    /// The check fails; the remainder.
+    Failed(u16),
     Refused(Refusal),
 }
 
@@ -50,7 +51,7 @@ pub fn payload_bytes(k: usize) -> usize {
 }
 
 /// The remainder of a polynomial, highest power first, divided by the generator: long division.
-pub fn remainder(polynomial: &[bool]) -> Bits {
+pub fn remainder(polynomial: &[bool]) -> u16 {
     let generator = bits_of(GENERATOR, CHECK_BITS + 1);
     let mut dividend = polynomial.to_vec();
     let quotient_bits = dividend.len().saturating_sub(CHECK_BITS);
@@ -61,19 +62,19 @@ pub fn remainder(polynomial: &[bool]) -> Bits {
             }
         }
     }
-    dividend.split_off(quotient_bits)
+    number(&dividend[quotient_bits..]) as u16
 }
 
 /// The remainder of the polynomial times x to the 16th.
 pub fn check_bits(message: &[bool]) -> Bits {
     let mut shifted = message.to_vec();
     shifted.extend([false; CHECK_BITS]);
-    remainder(&shifted)
+    bits_of(usize::from(remainder(&shifted)), CHECK_BITS)
 }
 
 /// A received block passes if the polynomial of all its bits divides evenly.
 pub fn passes(block: &[bool]) -> bool {
-    !remainder(block).contains(&true)
+    remainder(block) == 0
 }
 
 /// All n bits of the block with these service bits and data.
@@ -130,8 +131,9 @@ pub fn read_block(k: usize, block: &[u8], payload: &mut [u8]) -> Read {
         return Read::Refused(SHORT);
     }
     let bits = unpack(block, 0, block_bits(k));
-    if !passes(&bits) {
-        return Read::Failed;
+    let remainder = remainder(&bits);
+    if remainder != 0 {
+        return Read::Failed(remainder);
     }
     let (service, rest) = bits.split_at(SERVICE_BITS);
     payload[..payload_bytes(k)].copy_from_slice(&pack(&rest[..k]));

@@ -25,6 +25,16 @@ pub fn block(service: u8) -> Vec<u8> {
     pack(&assemble(service, &[false; K]))
 }
 
+/// The remainder of `damaged`.
+pub const DAMAGED: u16 = 1 << 11;
+
+/// A block of item 2 with the bit at power 11 inverted.
+pub fn damaged() -> Vec<u8> {
+    let mut damaged = block(C);
+    damaged[31] ^= 0x80;
+    damaged
+}
+
 pub fn end_block(version: u8, length: usize) -> Vec<u8> {
     let mut payload = end_payload(K, length);
     payload[7] = version & 1 == 1;
@@ -121,7 +131,8 @@ fn the_sequence_must_arrive_whole_since_the_search_began() {
     let mut line = [0xFF; 33];
     (line[31], line[32]) = (0xF5, 0x00);
     let (state, event) = receive_block(state, &line);
-    assert_eq!((event, state.search, state.bad_row), (Event::Bad, true, 0));
+    let outcome = (event.name(), state.search, state.bad_row);
+    assert_eq!(outcome, ("bad", true, 0));
     let (state, received) = state.receive(&[0xA5, 0x00], 10, true, &mut []);
     let event = Event::None;
     assert_eq!(received, Received::Reported { event, used: 10 });
@@ -134,33 +145,37 @@ fn the_eighth_bad_starts_a_search_and_a_synchronising_block_is_none() {
         bad_row,
         ..in_step(2)
     };
-    let mut damaged = block(C);
-    damaged[5] ^= 1;
-    let (state, event) = receive_block(after_bad(6), &damaged);
-    assert_eq!((event, state.bad_row, state.search), (Event::Bad, 7, false));
+    let (state, event) = receive_block(after_bad(6), &damaged());
+    assert_eq!(
+        (event, state.bad_row, state.search),
+        (Event::Bad(DAMAGED), 7, false)
+    );
     let synchronising = pack(&synchronising_block(K));
     let (state, event) = receive_block(state, &synchronising);
     assert_eq!(
         (event, state.bad_row, state.search),
         (Event::Sync, 0, false)
     );
-    let (state, event) = receive_block(after_bad(7), &damaged);
-    assert_eq!((event, state.bad_row, state.search), (Event::Bad, 0, true));
+    let (state, event) = receive_block(after_bad(7), &damaged());
+    assert_eq!(
+        (event, state.bad_row, state.search),
+        (Event::Bad(DAMAGED), 0, true)
+    );
 }
 
 #[test]
 fn rule_seven_at_no_item_goes_back_to_search_and_rule_two_does_not() {
     for service in [C, 0, 0b0101, 0b1111] {
         let (state, event) = receive_block(in_step(0), &block(service));
-        assert_eq!((event, state.search, state.bad_row), (Event::Bad, true, 0));
+        let outcome = (event, state.search, state.bad_row);
+        assert_eq!(outcome, (Event::Bad(0), true, 0));
         assert!(state.return_bit);
     }
-    let (state, event) = receive_block(in_step(1), &block(0));
-    assert_eq!((event, state.search, state.bad_row), (Event::Bad, false, 1));
-    let mut damaged = block(C);
-    damaged[5] ^= 1;
-    let (state, event) = receive_block(in_step(0), &damaged);
-    assert_eq!((event, state.search, state.bad_row), (Event::Bad, false, 1));
+    for (taken, line, remainder) in [(1, block(0), 0), (0, damaged(), DAMAGED)] {
+        let (state, event) = receive_block(in_step(taken), &line);
+        let outcome = (event, state.search, state.bad_row);
+        assert_eq!(outcome, (Event::Bad(remainder), false, 1));
+    }
 }
 
 #[test]
@@ -178,7 +193,7 @@ fn no_item_is_taken_behind_the_most() {
     let (_, event) = receive_block(in_step(1092), &block(A));
     assert_eq!(event, Event::Accepted);
     let (state, event) = receive_block(in_step(1093), &block(B));
-    assert_eq!((event, state.taken), (Event::Bad, 1093));
+    assert_eq!((event, state.taken), (Event::Bad(0), 1093));
     let (_, event) = receive_block(in_step(1093), &block(A));
     assert_eq!(event, Event::Previous);
     let (_, event) = receive_block(in_step(1093), &block(C));

@@ -7,8 +7,10 @@ use super::loop_time::{longest_loop, test_loop, SPEEDS};
 use super::marks::Marks;
 use super::order::{end_payload, item_block, items};
 use super::receiver::{self, Event, Received};
+use super::remainders::FIRST_OF_260;
 use super::sender::{self, Sent};
 use super::session::run;
+use crate::damage::{at_powers, invert};
 
 #[test]
 fn check_bits_of_four_service_bits_alone() {
@@ -117,7 +119,8 @@ fn two_losses_with_no_good_block_between() {
         }
     }
     use Event::{Accepted, Bad, Previous, Sync};
-    let expected = [Sync, Accepted, Bad, Bad, Previous, Accepted];
+    let bad = Bad(FIRST_OF_260);
+    let expected = [Sync, Accepted, bad, bad, Previous, Accepted];
     assert_eq!(events, expected);
     assert_eq!(store[..30], order[..30], "item 0 in its place");
     assert_eq!(store[30..60], order[120..150], "item 4 stored as item 1");
@@ -134,7 +137,7 @@ fn blocks_read_back_and_cancelled_ones_fail() {
         assert_eq!(read_block(k, &block, &mut data), Read::Passed(C));
         assert_eq!(data, payload);
         block[k / 8 + 2] ^= 0x10;
-        assert_eq!(read_block(k, &block, &mut data), Read::Failed);
+        assert_eq!(read_block(k, &block, &mut data), Read::Failed(1));
     }
 }
 
@@ -144,10 +147,8 @@ fn sixteen_damaged_places_on_a_cancelled_block_can_pass() {
     let mut block = item_block(Marks::NOT_IN_USE, 240, 8, &[0xA5], 0);
     cancel(&mut block);
     assert!(!passes(&block));
-    for power in [16, 12, 5] {
-        let place = block.len() - 1 - power;
-        block[place] = !block[place];
-    }
+    let damage = at_powers(block.len(), &[16, 12, 5]);
+    invert(&mut block, &damage);
     assert!(passes(&block));
 }
 

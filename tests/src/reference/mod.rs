@@ -20,4 +20,6 @@ mod corner_cases;
 #[cfg(test)]
 mod examples;
 #[cfg(test)]
+mod remainders;
+#[cfg(test)]
 mod waiting;

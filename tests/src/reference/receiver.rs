@@ -1,7 +1,7 @@
 //! docs/PROTOCOL.md, "Receiving": opening a receiver and one receiving call, bit by bit.
 
 use super::bits::{bit_at, bits_of, number, pack, set_bit, unpack};
-use super::block::{block_bits, is_length, is_synchronising, passes};
+use super::block::{block_bits, is_length, is_synchronising, remainder};
 use super::block::{CHECK_BITS, END, SEQUENCE, SERVICE_BITS};
 use super::marks::Marks;
 use super::order::{end_fields, fits_end, is_letter, is_service_of, MOST_ITEMS};
@@ -50,7 +50,8 @@ pub struct Receiver {
 pub enum Event {
     None,
     Sync,
-    Bad,
+    /// The remainder of the n bits: 0 by rule 7.
+    Bad(u16),
     Accepted,
     Previous,
     /// The end, with the L reported.
@@ -67,7 +68,7 @@ impl Event {
         match self {
             Event::None => "none",
             Event::Sync => "sync",
-            Event::Bad => "bad",
+            Event::Bad(_) => "bad",
             Event::Accepted => "accepted",
             Event::Previous => "previous",
             Event::Ended(_) => "ended",
@@ -195,10 +196,11 @@ impl Receiver {
         let is_item = |item| is_service_of(marks, item, service);
         let may_accept = self.taken < MOST_ITEMS && !self.end_taken;
         let may_repeat = self.taken >= 1 && !self.end_taken;
+        let remainder = remainder(&block);
         Ok(if is_synchronising(&block) {
             self.synchronise()
-        } else if !passes(&block) {
-            self.bad()
+        } else if remainder != 0 {
+            self.bad(remainder)
         } else if may_accept && is_item(self.taken) {
             return self.accept(payload, ready, store);
         } else if may_repeat && is_item(self.taken - 1) {
@@ -219,14 +221,14 @@ impl Receiver {
     }
 
     /// Rule 2, and the first half of rule 7.
-    fn bad(&mut self) -> Event {
+    fn bad(&mut self, remainder: u16) -> Event {
         self.clear_held();
         self.return_bit = true;
         self.bad_row += 1;
         if self.bad_row == BAD_ROW_LIMIT {
             self.start_search();
         }
-        Event::Bad
+        Event::Bad(remainder)
     }
 
     /// Rule 3. The store is judged here alone, and only if the machine is ready.
@@ -268,7 +270,7 @@ impl Receiver {
 
     /// Rule 7.
     fn anything_else(&mut self) -> Event {
-        let event = self.bad();
+        let event = self.bad(0);
         if self.taken == 0 {
             self.start_search();
         }

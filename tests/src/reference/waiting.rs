@@ -2,17 +2,10 @@
 
 use super::bits::{pack, unpack};
 use super::block::{synchronising_block, A, B, C};
-use super::corner_cases::{block, end_block, in_step, receive_block, K, N};
+use super::corner_cases::{block, damaged, end_block, in_step, receive_block, DAMAGED, K, N};
 use super::marks::{Marks, MARKS};
 use super::receiver::{self, Alarm, Event, Received, Receiver, HELD_BYTES};
 use super::sender::{self, Sent};
-
-/// A block of item 2 that fails the check.
-fn damaged() -> Vec<u8> {
-    let mut damaged = block(C);
-    damaged[5] ^= 1;
-    damaged
-}
 
 /// One whole block while the machine is busy. The store, of so many bytes, stays as it is.
 fn receive_busy(state: Receiver, block: &[u8], store_bytes: usize) -> (Receiver, Event) {
@@ -143,7 +136,7 @@ fn a_wait_clears_the_bad_row() {
             let (after, event) = receive_block(state, &damaged());
             assert_eq!(
                 (event, after.bad_row, after.search),
-                (Event::Bad, row, false)
+                (Event::Bad(DAMAGED), row, false)
             );
             state = after;
         }
@@ -164,7 +157,7 @@ fn no_other_block_waits() {
     };
     let cases = [
         (in_step(2), pack(&synchronising_block(K)), Event::Sync),
-        (in_step(2), damaged(), Event::Bad),
+        (in_step(2), damaged(), Event::Bad(DAMAGED)),
         (in_step(2), block(B), Event::Previous),
         (in_step(2), block(A), Event::SequenceAlarm),
         (in_step(0), block(B), Event::SequenceAlarm),
@@ -173,9 +166,9 @@ fn no_other_block_waits() {
         (in_step(2), end_block(0, 241), Event::LengthAlarm),
         (in_step(0), end_block(1, 8), Event::LengthAlarm),
         (ended, end_block(1, 241), Event::Previous),
-        (in_step(2), block(0), Event::Bad),
-        (in_step(0), block(0), Event::Bad),
-        (in_step(1093), block(B), Event::Bad),
+        (in_step(2), block(0), Event::Bad(0)),
+        (in_step(0), block(0), Event::Bad(0)),
+        (in_step(1093), block(B), Event::Bad(0)),
     ];
     for (state, line, expected) in cases {
         for bad_row in [0, 7] {

@@ -1,6 +1,6 @@
 //! The table-driven sibling of the receiving call: bytes are moved, not bits, while it is in step.
 
-use super::{are_spoiled, check_bits, copy_payload, is_length, register};
+use super::{are_spoiled, check_bits, copy_payload, is_length, remainder};
 use super::{END, LETTERS, LONGEST, MARKS, SHORT, SPOILED, VERSION};
 use crate::reference::marks::Marks;
 use crate::reference::receiver::{self, Alarm, Event, Received};
@@ -179,12 +179,12 @@ impl Receiver {
     /// Rules 1 to 7 on a whole packed block. A refusal leaves the state as it was.
     fn judge(&mut self, block: &[u8], ready: bool, store: &mut [u8]) -> Result<Event, u8> {
         let service = block[0] >> 4;
-        let check = check_bits(block);
-        if service == SYNCHRONISING && check == SEQUENCE {
+        if service == SYNCHRONISING && check_bits(block) == SEQUENCE {
             return Ok(self.return_zero(Event::Sync));
         }
-        if register(block) != check {
-            return Ok(self.bad());
+        let remainder = remainder(block);
+        if remainder != 0 {
+            return Ok(self.bad(remainder));
         }
         if service == END {
             return Ok(self.end(block, ready));
@@ -225,7 +225,7 @@ impl Receiver {
     }
 
     fn fits_nowhere(&mut self) -> Event {
-        let event = self.bad();
+        let event = self.bad(0);
         if self.taken == 0 {
             self.start_search();
         }
@@ -262,14 +262,14 @@ impl Receiver {
         self.return_zero(Event::Ended(length))
     }
 
-    fn bad(&mut self) -> Event {
+    fn bad(&mut self, remainder: u16) -> Event {
         self.clear_held();
         self.return_bit = true;
         self.bad_row += 1;
         if self.bad_row == BAD_ROW_LIMIT {
             self.start_search();
         }
-        Event::Bad
+        Event::Bad(remainder)
     }
 
     fn start_search(&mut self) {

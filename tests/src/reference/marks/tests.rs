@@ -5,6 +5,7 @@ use crate::reference::bits::{number, pack, unpack};
 use crate::reference::block::{assemble, A, B, C, END, SYNCHRONISING};
 use crate::reference::order::{end_payload, item_block, LONGEST};
 use crate::reference::receiver::{self, Event, Received, Receiver};
+use crate::reference::remainders::FIRST_OF_260;
 use crate::reference::sender::{self, Sender, Sent};
 
 const K: usize = 240;
@@ -115,7 +116,7 @@ fn item_0_again_while_one_item_is_taken_is_the_previous_item() {
     let expected = [
         ("S", SYNCHRONISING, Sync),
         ("0", 0b0010, Accepted),
-        ("!1", A, Bad),
+        ("!1", A, Bad(1)),
         ("S", SYNCHRONISING, Sync),
         ("0", 0b0010, Previous),
         ("1", A, Accepted),
@@ -135,7 +136,8 @@ fn two_losses_with_no_good_block_between() {
     let script = [(1, 0), (0, 0), (0, 0), (0, 1), (0, 1), (0, 0), (0, 0)];
     let events = script.map(|(reading, damaged)| ends.period(reading == 1, damaged == 1).2);
     use Event::{Accepted, Bad, Previous, Sync};
-    let expected = [Sync, Accepted, Accepted, Bad, Bad, Previous, Accepted];
+    let bad = Bad(FIRST_OF_260);
+    let expected = [Sync, Accepted, Accepted, bad, bad, Previous, Accepted];
     assert_eq!(events, expected);
     assert_eq!(ends.store[..60], ends.order[..60], "items 0 and 1");
     assert_eq!(ends.store[60..90], ends.order[150..], "item 5 as item 2");
@@ -145,7 +147,7 @@ fn two_losses_with_no_good_block_between() {
 /// *ended*, *bad*, or *z*: *bad* and back to search.
 fn outcome(receiver: &Receiver, event: Event) -> char {
     match event {
-        Event::Bad if receiver.search => 'z',
+        Event::Bad(0) if receiver.search => 'z',
         event => event.name().chars().next().unwrap(),
     }
 }
@@ -261,7 +263,7 @@ fn a_mark_after_the_end_is_bad_and_a_letter_the_alarm() {
         let block = pack(&assemble(service, &unpack(&[0; 30], 0, K)));
         let (state, received) = ends.receiver.clone().receive(&block, N, true, &mut []);
         let (event, bad_row) = match is_mark(service) {
-            true => (Event::Bad, 1),
+            true => (Event::Bad(0), 1),
             false => (Event::SequenceAlarm, 0),
         };
         assert_eq!(received, Received::Reported { event, used: N });
