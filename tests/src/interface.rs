@@ -28,7 +28,7 @@ pub const RETURN_1: u8 = 97;
 
 /// The events' numbers; those of the refusals stay below them.
 pub const EVENT_NONE: u8 = 64;
-const EVENT_SYNC: u8 = 65;
+pub const EVENT_SYNC: u8 = 65;
 pub const EVENT_BAD: u8 = 66;
 pub const EVENT_ACCEPTED: u8 = 67;
 pub const EVENT_PREVIOUS: u8 = 68;

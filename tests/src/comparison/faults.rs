@@ -2,17 +2,23 @@
 
 mod busy;
 mod marks;
+mod remainder;
 mod tint;
 
-use super::{any_bytes, both_ends, receiver, sender, Tally};
+use super::{any_bytes, block, both_ends, idle, receiver, sender, two_orders};
+use super::{Difference, Tally};
 use crate::calls::{Blocks, Line, LoopTimes, Opening, ReceivingEnd, Reference, SendingEnd, Tints};
 use crate::interface::{decode_sent, is_event, Counts, EVENT_ACCEPTED, EVENT_NONE};
 use crate::interface::{FINISHED, GAVE_UP, MARKS_BYTES, RECEIVER_BYTES, SENDER_BYTES};
+use crate::reference::bits::{unpack, Bits};
+use crate::reference::receiver::Receiver;
 use crate::reference::refusal::SHORT;
 use crate::reference::sender::Sent;
 use crate::rng::Rng;
 use busy::{BusyFault, OfBusy, BUSY_FAULTS};
 use marks::OfMarks;
+use remainder::{OfRemainder, RemainderFault};
+use remainder::{FURTHER_RECEIVING_FAULTS, READING_FAULTS, RECEIVING_FAULTS};
 use std::cell::Cell;
 use tint::{OfTints, TintFault, TINT_FAULTS};
 
@@ -53,6 +59,10 @@ enum Fault {
     MarkAfterEnd,
     /// Only the mark of the receiver's own code size is taken.
     OwnMarkAlone,
+    /// One of the remainder that reading a block writes.
+    Reading(RemainderFault),
+    /// One of the remainder that a receiving call writes.
+    Receiving(RemainderFault),
     /// One of a machine that is not ready.
     Busy(BusyFault),
     /// One of a tint call.
@@ -132,7 +142,10 @@ impl Blocks for Faulty {
     }
 
     fn read_block(&self, k: usize, block: &[u8], payload: &mut [u8], remainder: &mut u16) -> u16 {
-        Reference.read_block(k, block, payload, remainder)
+        match self.0 {
+            Fault::Reading(fault) => OfRemainder(fault).read_block(k, block, payload, remainder),
+            _ => Reference.read_block(k, block, payload, remainder),
+        }
     }
 }
 
@@ -182,6 +195,9 @@ impl ReceivingEnd for Faulty {
         let return_bit = state.get(13).copied();
         let number = match self.0 {
             Fault::Busy(fault) => OfBusy(fault, &self.1).receive(state, line, ready, store, counts),
+            Fault::Receiving(fault) => {
+                OfRemainder(fault).receive(state, line, ready, store, counts)
+            }
             fault => OfMarks(fault).receive(state, line, ready, store, counts),
         };
         let refused = !is_event(number);
@@ -211,6 +227,13 @@ impl Tints for Faulty {
     fn read_tint(&self, order: &[u8], doses: &mut [u16], count: &mut usize) -> u8 {
         self.tints().read_tint(order, doses, count)
     }
+}
+
+/// The bits that a receiver in step holds, and those of the line behind them.
+fn bits_so_far(receiver: &Receiver, line: Line) -> Bits {
+    let mut bits = unpack(&receiver.array, 0, receiver.held);
+    bits.extend(unpack(line.bytes, 0, line.bits.min(8 * line.bytes.len())));
+    bits
 }
 
 #[test]
@@ -243,6 +266,48 @@ fn faults_of_a_busy_machine_are_found() {
 }
 
 #[test]
+fn faults_of_the_remainder_in_reading_are_found() {
+    for fault in READING_FAULTS.map(Fault::Reading) {
+        let compared = block::compare(&Faulty::with(fault), 11, 0);
+        assert!(compared.is_err(), "{fault:?}");
+    }
+    assert!(block::compare(&Faulty::with(Fault::None), 11, 0).is_ok());
+}
+
+#[test]
+fn faults_of_the_remainder_in_receiving_are_found() {
+    let faults = RECEIVING_FAULTS.into_iter().chain(FURTHER_RECEIVING_FAULTS);
+    for fault in faults.map(Fault::Receiving) {
+        let compared = receiver::compare(&Faulty::with(fault), 8, 5_000);
+        assert!(is_different(compared), "{fault:?}");
+        let compared = both_ends::compare(&Reference, &Faulty::with(fault), 6, 500);
+        assert!(is_different(compared), "{fault:?} in sessions");
+    }
+}
+
+#[test]
+fn faults_of_the_remainder_are_found_where_a_case_says_what_comes() {
+    for fault in RECEIVING_FAULTS.map(Fault::Receiving) {
+        let faulty = Faulty::with(fault);
+        let groups = [
+            ("busy", super::busy::compare(&Reference, &faulty)),
+            ("two_orders", two_orders::compare(&Reference, &faulty)),
+            ("idle", idle::compare(&Reference, &faulty)),
+            ("marks", super::marks::compare(&Reference, &faulty)),
+            ("tint", super::tint::compare(&faulty, 17, 0, 200)),
+        ];
+        for (name, compared) in groups {
+            assert!(is_different(compared), "{fault:?} in {name}");
+        }
+    }
+}
+
+/// A difference, and not a group that has not tried all that it must.
+fn is_different(compared: Result<Tally, Difference>) -> bool {
+    compared.is_err_and(|difference| !difference.starts_with("untried"))
+}
+
+#[test]
 fn faults_of_tint_calls_are_found() {
     for fault in TINT_FAULTS {
         let compared = super::tint::compare(&Faulty::with(Fault::Tint(fault)), 17, 20, 0);
@@ -263,7 +328,11 @@ fn faults_are_found_by_random_bytes() {
     let of_one_end = FAULTS_OF_A_SENDER.into_iter().chain(FAULTS_OF_A_RECEIVER);
     let of_the_ends = FAULTS_OF_EITHER_END.into_iter().chain(of_one_end);
     let of_the_ends = of_the_ends.chain(BUSY_FAULTS.map(Fault::Busy));
-    for fault in of_the_ends.chain(TINT_FAULTS.map(Fault::Tint)) {
+    let receiving = RECEIVING_FAULTS.into_iter().chain(FURTHER_RECEIVING_FAULTS);
+    let reading = READING_FAULTS.map(Fault::Reading);
+    let of_remainders = receiving.map(Fault::Receiving).chain(reading);
+    let of_tints = TINT_FAULTS.map(Fault::Tint);
+    for fault in of_the_ends.chain(of_remainders).chain(of_tints) {
         assert!(found(fault, 20_000), "{fault:?}");
     }
     assert!(!found(Fault::None, 500));

@@ -2,13 +2,12 @@
 //! that hold the sequence that a search looks for.
 
 use super::ends::{run_cases, Case, Ends, Office, Outcome, Period};
-use super::lockstep::{Lockstep, BAD_WITH_0, BAD_WITH_ANOTHER};
+use super::lockstep::{Lockstep, BAD_WITH_0, BAD_WITH_1, BAD_WITH_ANOTHER};
 use super::marks::KINDS;
 use super::{same, Difference, Tally};
 use crate::calls::{ReceivingEnd, SendingEnd};
 use crate::reference::bits::{bits_of, Bits};
-use crate::reference::block::{block_bits, LENGTHS};
-use crate::reference::block::{CHECK_BITS, SEQUENCE};
+use crate::reference::block::{block_bits, cancel, CHECK_BITS, LENGTHS, SEQUENCE};
 use crate::reference::order::item_block;
 use crate::reference::receiver::BAD_ROW_LIMIT;
 use Office::{Finished, GaveUp, GoingOn};
@@ -198,39 +197,35 @@ impl<S: SendingEnd, R: ReceivingEnd> Ends<'_, S, R> {
         same(&|| String::from("items taken"), &1, &self.receiver().taken)
     }
 
-    /// The session stops in mid-block. If the idle bits are the block's own, it is accepted.
+    /// The session stops in mid-block. If the idle bits are the block's own, it is accepted; if they are
+    /// those of the block when it is cancelled, it is bad with 1. Zeros alone pass the check.
     fn idle_in_mid_block(&mut self, idle: Idle) -> Outcome {
         let n = self.n();
         let order = ITEMS.map(|byte| vec![byte; self.k / 8]).concat();
-        for held in [
-            1,
-            3,
-            4,
-            5,
-            n / 2,
-            n - 20,
-            n - 16,
-            n - 5,
-            n - 4,
-            n - 3,
-            n - 2,
-            n - 1,
-        ] {
+        let mut stored = 1;
+        let last = [20, 16, 5, 4, 3, 2, 1].map(|missing| n - missing);
+        for held in [1, 3, 4, 5, n / 2].into_iter().chain(last) {
             self.open_machine()?;
             self.begin(2)?;
             let marks = self.sender().marks;
             let block = item_block(marks, self.k, 8 * order.len(), &order, 1);
+            let mut cancelled = block.clone();
+            cancel(&mut cancelled);
             self.receive_all(block[..held].to_vec())?;
             let bits = self.idle_until_search(idle)?;
-            let completed = block[held..] == idle.bits(0, n - held);
-            let rows = BAD_ROW_LIMIT + usize::from(completed);
-            same(&|| format!("{held} held"), &(rows * n - held), &bits)?;
-            let accepted = 1 + usize::from(completed);
-            same(
-                &|| format!("{held} held"),
-                &accepted,
-                &self.receiver().taken,
-            )?;
+            let (event, taken) = match [&block[..held], &idle.bits(0, n - held)].concat() {
+                bits if bits == block => ("accepted", 2),
+                bits if bits == cancelled => (BAD_WITH_1, 1),
+                bits if !bits.contains(&true) => (BAD_WITH_0, 1),
+                _ => (BAD_WITH_ANOTHER, 1),
+            };
+            let rows = BAD_ROW_LIMIT - 2 + taken;
+            let case = || format!("{held} held");
+            same(&case, &((1 + rows) * n - held), &bits)?;
+            same(&case, &taken, &self.receiver().taken)?;
+            stored = taken.max(stored);
+            let events = [vec!["sync", "accepted", event], vec![idle.bad(); rows]].concat();
+            self.expect(&events, GoingOn, &ITEMS[..stored])?;
         }
         Ok(())
     }
@@ -290,7 +285,7 @@ mod tests {
     use super::super::agreed;
     use super::*;
     use crate::calls::{Reference, TableDriven};
-    use crate::reference::block::{cancel, synchronising_block};
+    use crate::reference::block::synchronising_block;
     use crate::reference::marks::{Marks, CODE_SIZES};
 
     #[test]

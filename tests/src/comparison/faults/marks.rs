@@ -1,10 +1,10 @@
 //! The faults of marks and code sizes.
 
-use super::Fault;
+use super::{bits_so_far, Fault};
 use crate::calls::{Line, Opening, ReceivingEnd, Reference, SendingEnd};
 use crate::interface::{load_receiver, Counts, EVENT_BAD, EVENT_PREVIOUS, EVENT_SEQUENCE_ALARM};
 use crate::interface::{MARKS_BYTES, RECEIVER_BYTES, SENDER_BYTES};
-use crate::reference::bits::{number, unpack};
+use crate::reference::bits::number;
 use crate::reference::block::SERVICE_BITS;
 use crate::reference::marks::{is_mark, mark};
 use crate::reference::receiver::Receiver;
@@ -157,9 +157,7 @@ impl ReceivingEnd for OfMarks {
 
 /// The mark that a block in step begins with, if it does and marks are in use.
 fn mark_of_block(receiver: &Receiver, line: Line) -> Option<u8> {
-    let mut bits = unpack(&receiver.array, 0, receiver.held);
-    bits.extend(unpack(line.bytes, 0, line.bits.min(8 * line.bytes.len())));
-    let service = number(bits.get(..SERVICE_BITS)?) as u8;
+    let service = number(bits_so_far(receiver, line).get(..SERVICE_BITS)?) as u8;
     let in_step = !receiver.search && receiver.alarm.is_none();
     (in_step && receiver.marks.in_use && is_mark(service)).then_some(service)
 }
