@@ -196,10 +196,11 @@ impl Receiver {
         let is_item = |item| is_service_of(marks, item, service);
         let may_accept = self.taken < MOST_ITEMS && !self.end_taken;
         let may_repeat = self.taken >= 1 && !self.end_taken;
+        if is_synchronising(&block) {
+            return Ok(self.synchronise());
+        }
         let remainder = remainder(&block);
-        Ok(if is_synchronising(&block) {
-            self.synchronise()
-        } else if remainder != 0 {
+        Ok(if remainder != 0 {
             self.bad(remainder)
         } else if may_accept && is_item(self.taken) {
             return self.accept(payload, ready, store);
