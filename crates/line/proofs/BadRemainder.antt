@@ -3,16 +3,14 @@ use mathlib.Core.Path.{_≡_, refl, sym, ap, _∙_, subst}
 use mathlib.Core.Bool.{Bool, true, false, true≢false, false≢true}
 use mathlib.Core.List.{List, []}
 use mathlib.Core.Logic.{_↔_}
-use Prim.Native.Nat.{ℕ, _*_}
+use Prim.Native.Nat.{ℕ}
 use native.Mathlib.Omega.{arith}
-use borrow.Author.Tests.{ne-eqb, ltb-false}
-use lib.ListN.{length, take}
-use lib.Seq.{length-take-le}
+use borrow.Author.Tests.{ne-eqb}
+use lib.ListN.{take}
 use Rattle.crc.specs.Bits.{Bits, number, bitsOf}
 use Rattle.crc.specs.Polynomial.{polynomial, Remainder}
 use Rattle.crc.specs.Check.{remainder, passes}
 use Rattle.crc.proofs.Division.{remainder-is, passes-remainder}
-use Rattle.crc.proofs.Bytes.{length-bitsOf}
 use Rattle.block.specs.Answer.{done}
 use Rattle.block.specs.Block.{serviceOf, payloadOf, Verdict, passed, failed, verdict, cancelled}
 use Rattle.block.proofs.Block.{cancelled-front, cancelled-remainder}
@@ -32,7 +30,7 @@ use Rattle.line.proofs.Items.{passes-itemBits, itemBits-long, service-i
 use Rattle.line.proofs.OrWait.{same-data-or-end}
 use Rattle.line.proofs.BlockFinished.{rule-failed}
 use Rattle.line.proofs.InStepBits.{step-done}
-use Rattle.line.proofs.ReceivingCall.{in-range, held-step, reception-some}
+use Rattle.line.proofs.ReceivingCall.{in-range, held-step, reception-some, length-lent, heard}
 use Rattle.line.proofs.ReceptionCases.{received-case}
 use Rattle.line.proofs.Delivery.BlockRules.{service-case}
 
@@ -118,10 +116,24 @@ idle-not-bad P.LengthAlarm = refl
 shows : (s : Receiver) (line : List ℕ) (count : ℕ) (ready : Bool) (store : List ℕ) (x : Reception)
     → receive s line count ready store ≡ done x → Shows (x .row) (x .rule)
 shows s line count ready store x =
-    received-case s ready (λ (x : Reception). Shows (x .row) (x .rule)) (other-event [] (idleRule (s .phase)) (idle-not-bad (s .phase)))
-    (λ window used. other-event [] unfinished refl) (λ used. other-event [] sequence-found refl) (λ new. other-event [] unfinished refl)
-    (λ row. block-shows row (s .setup .marks .«in_use») (s .setup .k) (s .taken) (s .ended) ready)
-    (λ used. other-event [] (standing E.SequenceAlarm) refl) (λ used. other-event [] (standing E.LengthAlarm) refl) line count store x
+    received-case s line count ready (λ (x : Reception). Shows (x .row) (x .rule))
+    (other-event [] (idleRule (s .phase)) (idle-not-bad (s .phase))) (λ window used. other-event [] unfinished refl)
+    (λ used. other-event [] sequence-found refl) (other-event [] unfinished refl)
+    (λ p h. block-shows _ (s .setup .marks .«in_use») (s .setup .k) (s .taken) (s .ended) ready)
+    (λ used. other-event [] (standing E.SequenceAlarm) refl) (λ used. other-event [] (standing E.LengthAlarm) refl) store x
+
+-- ---- the row
+
+module _ (s : Receiver) (line : List ℕ) (count : ℕ) (ready : Bool) (store : List ℕ) (x : Reception)
+    (r : receive s line count ready store ≡ done x) where
+  reads-block : isBad (meaning (x .rule) .event) ≡ true → ReadsInStep s line count (x .row)
+  reads-block =
+      let h = heard s line count ready store x r in
+      received-case s line count ready (λ (y : Reception). isBad (meaning (y .rule) .event) ≡ true → ReadsInStep s line count (y .row))
+      (λ b. absurd (true≢false (sym b ∙ idle-not-bad (s .phase)))) (λ window used b. absurd (false≢true b)) (λ used b. absurd (false≢true b))
+      (λ b. absurd (false≢true b))
+      (λ p m b. record { range = h .0; in-step = p; lent = h .1; complete = omega (arith, m, length-lent line count (h .1)); bits = refl })
+      (λ used b. absurd (false≢true b)) (λ used b. absurd (false≢true b)) store x r
 
 -- ---- a block that was cancelled
 
@@ -154,7 +166,7 @@ module _ (s : Receiver) (line : List ℕ) (count : ℕ) (ready : Bool) (store : 
   read-in-step c e n =
       let new : Bits = take count (bitsOf line) in
       let held = held-step s (in-range s (c .range)) (c .in-step) in
-      let l : length new ≡ count = length-take-le count (bitsOf line) (omega (arith, length-bitsOf line, ltb-false (8 * length line) count (c .lent))) in
+      let l = length-lent line count (c .lent) in
       let some : count ≡ 0 → ⊥ = λ z. omega arith in
       let reads : reception s new count ready ≡ stops s rule row (missing s) =
       sym (reception-some s store new count ready some P.InStep (c .in-step)) ∙ step-done s new ready (omega arith)
@@ -174,6 +186,7 @@ cancelled-shows s line count ready store m L content i end used c =
 pub bad-remainder : BadRemainder
 bad-remainder =
     record {
+      read-in-step = λ s line count ready store x n r e. reads-block s line count ready store x r (ap isBad e);
       of-row = λ s line count ready store x n r e.
           subst (Remainder (polynomial (x .row))) (sym (shows s line count ready store x r n e .0)) (remainder-is (x .row));
       zero = λ s line count ready store x n r e. shows s line count ready store x r n e .1;

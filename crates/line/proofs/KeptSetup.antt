@@ -4,9 +4,11 @@ use mathlib.Core.Bool.{Bool, _||_}
 use mathlib.Core.List.{List}
 use Prim.Native.Nat.{ℕ, _+_}
 use lib.Dec.{eqb, leb}
+use lib.ListN.{take}
+use Rattle.crc.specs.Bits.{bitsOf}
 use Rattle.block.specs.Answer.{done}
 use Rattle.block.proofs.Truth.{cond-case}
-use Rattle.line.specs.Receiving.{Rule, unfinished, standing, sequence-found, sync-block, check-fails, accepts, previous, out-of-sequence, ends, wrong-length, ends-again, anything-else, waits, lastBad, afterBad, after, blockRule, Reception, receive}
+use Rattle.line.specs.Receiving.{Rule, unfinished, standing, sequence-found, sync-block, check-fails, accepts, previous, out-of-sequence, ends, wrong-length, ends-again, anything-else, waits, lastBad, afterBad, after, blockRule, finishedRow, Reception, receive}
 use Rattle.line.specs.declared.receiver.Receiver.{Receiver}
 use Rattle.line.proofs.ReceptionCases.{received-case}
 
@@ -32,5 +34,5 @@ module _ (s : Receiver) where
   pub received-setup : (line : List ℕ) (count : ℕ) (ready : Bool) (store : List ℕ) (x : Reception) → receive s line count ready store ≡ done x
       → x .state .setup ≡ s .setup
   received-setup line count ready store x =
-      received-case s ready (λ (y : Reception). y .state .setup ≡ s .setup) refl (λ window used. refl) (λ used. refl) (λ new. refl)
-      (λ row. after-setup (blockRule s row ready)) (λ used. refl) (λ used. refl) line count store x
+      received-case s line count ready (λ (y : Reception). y .state .setup ≡ s .setup) refl (λ window used. refl) (λ used. refl) refl
+      (λ p h. after-setup (blockRule s (finishedRow s (take count (bitsOf line))) ready)) (λ used. refl) (λ used. refl) store x

@@ -36,9 +36,9 @@ idle-never-waits P.LengthAlarm = refl
 module _ (s : Receiver) where
   no-wait : (line : List ℕ) (count : ℕ) (store : List ℕ) (x : Reception) → receive s line count true store ≡ done x
       → isWaiting (x .rule) ≡ false
-  no-wait =
-      received-case s true (λ (x : Reception). isWaiting (x .rule) ≡ false) (idle-never-waits (s .phase)) (λ window used. refl) (λ used. refl)
-      (λ new. refl) block (λ used. refl) (λ used. refl)
+  no-wait line count =
+      received-case s line count true (λ (x : Reception). isWaiting (x .rule) ≡ false) (idle-never-waits (s .phase)) (λ window used. refl)
+      (λ used. refl) refl (λ p h. block _) (λ used. refl) (λ used. refl)
     where
       block : (row : Bits) → isWaiting (blockRule s row true) ≡ false
       block row =
@@ -46,11 +46,12 @@ module _ (s : Receiver) where
           ∙ judge-never-waits (s .setup .marks .«in_use») (s .setup .k) (s .taken) (s .ended) row
 
   -- not ready, whatever the call reads stores nothing
-  reads-nothing : (new : Bits) (count : ℕ) → meaning (reception s new count false .rule) .stores ≡ false
-  reads-nothing =
-      reception-case s false (λ (x : Reception). meaning (x .rule) .stores ≡ false) (idle-stores (s .phase)) (λ window used. refl)
-      (λ used. refl) (λ new. refl)
-      (λ row. stores-nothing (judge (s .setup .marks .«in_use») (s .setup .k) (s .taken) (s .ended) row)) (λ used. refl) (λ used. refl)
+  reads-nothing : (line : List ℕ) (count : ℕ) → meaning (reception s (take count (bitsOf line)) count false .rule) .stores ≡ false
+  reads-nothing line count =
+      reception-case s line count false (λ (x : Reception). meaning (x .rule) .stores ≡ false) (idle-stores (s .phase)) (λ window used. refl)
+      (λ used. refl) refl
+      (λ p h. stores-nothing (judge (s .setup .marks .«in_use») (s .setup .k) (s .taken) (s .ended) (finishedRow s (take count (bitsOf line)))))
+      (λ used. refl) (λ used. refl)
 
   any-store : (line : List ℕ) (count : ℕ) (store store′ : List ℕ) → receive s line count false store ≡ receive s line count false store′
   unfolding receive
@@ -62,20 +63,21 @@ module _ (s : Receiver) where
       new = take count (bitsOf line)
 
       plain : (store : List ℕ) → judgeStore s store (reception s new count false) ≡ done (reception s new count false)
-      plain store = rw (reads-nothing new count)
+      plain store = rw (reads-nothing line count)
 
   nothing : (store : List ℕ) (line : List ℕ) (count : ℕ) (x : Reception) → receive s line count false store ≡ done x → TakesNothing s store x
   nothing store line count x =
-      received-case s false (TakesNothing s store)
+      received-case s line count false (TakesNothing s store)
       (record { stored = kept (idleRule (s .phase)) [] (idle-stores (s .phase)); taken = refl; ended = refl })
       (λ window used. record { stored = refl; taken = refl; ended = refl })
       (λ used. record { stored = refl; taken = refl; ended = refl })
-      (λ new. record { stored = refl; taken = refl; ended = refl })
-      (λ row.
+      (record { stored = refl; taken = refl; ended = refl })
+      (λ p h.
+      let row : Bits = finishedRow s (take count (bitsOf line)) in
       let x : Rule = judge (s .setup .marks .«in_use») (s .setup .k) (s .taken) (s .ended) row in
       record { stored = kept (orWait false x) row (stores-nothing x); taken = takes-nothing s x .0; ended = takes-nothing s x .1 })
       (λ used. record { stored = refl; taken = refl; ended = refl }) (λ used. record { stored = refl; taken = refl; ended = refl })
-      line count store x
+      store x
     where
       kept : (x : Rule) (row : Bits) → meaning x .stores ≡ false
           → cond (meaning x .stores) (storeAt (s .taken * s .setup .k) (payloadOf (s .setup .k) row) store) store ≡ store

@@ -3,10 +3,13 @@ use mathlib.Core.Path.{_≡_, refl, sym, ap, _∙_, subst}
 use mathlib.Core.Bool.{Bool, true, false, not, _&&_}
 use mathlib.Core.List.{List, []}
 use Prim.Native.Nat.{ℕ, _+_, _*_, _≤_, _<_}
-use borrow.Author.Tests.{not-false, ltb-true, leb-true, lt-ltb, le-leb, eq-eqb, ne-eqb}
+use native.Mathlib.Omega.{arith}
+use borrow.Author.Tests.{not-false, ltb-true, ltb-false, leb-true, lt-ltb, le-leb, eq-eqb, ne-eqb}
 use lib.Dec.{ltb, leb}
-use lib.ListN.{take}
+use lib.ListN.{length, take}
+use lib.Seq.{length-take-le}
 use Rattle.crc.specs.Bits.{Bits, bitsOf}
+use Rattle.crc.proofs.Bytes.{length-bitsOf}
 use Rattle.block.specs.Answer as A
 use Rattle.block.specs.Answer.{refused, done}
 use Rattle.block.specs.Lengths.{isLength, blockLength}
@@ -106,6 +109,11 @@ handed-under-alarm s store alarm count n e r h =
     (handed-plain s store (record { rule = standing alarm; row = []; used = n; state = underAlarm s }) refl)
 
 -- ---- the call
+
+-- a line that is not too short lends as many bits as it is said to
+pub length-lent : (line : List ℕ) (count : ℕ) → tooShort line count ≡ false → length (take count (bitsOf line)) ≡ count
+length-lent line count t =
+    length-take-le count (bitsOf line) (omega (arith, length-bitsOf line, ltb-false (8 * length line) count t))
 
 module _ (s : Receiver) (line : List ℕ) (count : ℕ) (ready : Bool) (store : List ℕ) where
   refuses : (n : ℕ) → receive s line count ready store ≡ refused n → Receive s line count ready store (record { state = s; answer = R.Refused n }) store

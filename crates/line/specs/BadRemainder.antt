@@ -1,5 +1,6 @@
--- The number that a bad event carries: the remainder of what was read, 0 exactly where rule 7 spoke. A block that was cancelled,
--- is otherwise unharmed and is read in step shows 1; nothing is said of the converse. Assumes nothing.
+-- A bad event comes of a block that was read in step. The number that it carries is the remainder of that block, 0 exactly where
+-- rule 7 spoke. A block that was cancelled, is otherwise unharmed and is read in step shows 1; nothing is said of the converse.
+-- Assumes nothing.
 use mathlib.Core.Path.{_≡_}
 use mathlib.Core.Bool.{Bool, true, false}
 use mathlib.Core.List.{List}
@@ -26,7 +27,10 @@ pub record ReadsInStep (s : Receiver) (line : List ℕ) (count : ℕ) (row : Bit
   pub bits : finishedRow s (take count (bitsOf line)) ≡ row
 
 pub record BadRemainder : Type 0 where
-  -- the number is the remainder of the polynomial of the n bits that were read
+  -- the row of a call that reports a bad block is the n bits of a block that it read in step to its last bit
+  pub read-in-step : (s : Receiver) (line : List ℕ) (count : ℕ) (ready : Bool) (store : List ℕ) (x : Reception) (n : ℕ)
+      → receive s line count ready store ≡ done x → meaning (x .rule) .event ≡ E.Bad n → ReadsInStep s line count (x .row)
+  -- the number is the remainder of that row's polynomial
   pub of-row : (s : Receiver) (line : List ℕ) (count : ℕ) (ready : Bool) (store : List ℕ) (x : Reception) (n : ℕ)
       → receive s line count ready store ≡ done x → meaning (x .rule) .event ≡ E.Bad n → Remainder (polynomial (x .row)) n
   -- it is 0 exactly where rule 7 spoke

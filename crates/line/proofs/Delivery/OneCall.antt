@@ -6,11 +6,9 @@ use mathlib.Core.List.{List, [], _∷_, _++_}
 use Prim.Native.Nat.{ℕ, _+_, _*_}
 use native.Mathlib.Omega.{arith}
 use lib.ListN.{length, take}
-use lib.Seq.{length-take-le}
-use borrow.Author.Tests.{ltb-false, le-leb, eq-eqb}
+use borrow.Author.Tests.{le-leb, eq-eqb}
 use Rattle.crc.specs.Bits.{Bits, bit, bitsOf, xorBits}
 use Rattle.crc.specs.Damage.{Damage}
-use Rattle.crc.proofs.Bytes.{length-bitsOf}
 use Rattle.block.specs.Answer as A
 use Rattle.line.specs.Refusals as Refusals
 use Rattle.block.specs.Answer.{Answer, refused, done}
@@ -25,7 +23,7 @@ use Rattle.line.specs.Delivery.{OnlyRefused, isItem, readGood, isNew}
 use Rattle.line.specs.declared.sender.Sender.{Sender}
 use Rattle.line.specs.declared.receiver.Receiver.{Receiver}
 use Rattle.line.proofs.SenderRange.{range-in}
-use Rattle.line.proofs.ReceivingCall.{range-in as receiver-range-in}
+use Rattle.line.proofs.ReceivingCall.{length-lent, range-in as receiver-range-in}
 use Rattle.line.proofs.Delivery.Ends.{LineBlock, Basic, Idle, Busy}
 use Rattle.line.proofs.Delivery.Invariant.{send-keeps, read-keeps}
 use Rattle.line.proofs.Delivery.SendStep.{sends-block, setup-kept, run-kept}
@@ -67,10 +65,7 @@ receive-answered r line count ready store h =
     (λ g. cond-case (ReceiveAnswered r (take count (bitsOf line)) count)
     (meaning (reception r (take count (bitsOf line)) count ready .rule) .stores && tooShort store
     (r .taken * r .setup .k + r .setup .k))
-    (λ e. ReceiveAnswered.refuses) (λ e. hears ready (size g))))
-  where
-    size : tooShort line count ≡ false → length (take count (bitsOf line)) ≡ count
-    size g = length-take-le count (bitsOf line) (omega (arith, ltb-false (8 * length line) count g, length-bitsOf line))
+    (λ e. ReceiveAnswered.refuses) (λ e. hears ready (length-lent line count g))))
 
 -- ---- a call that hears nothing: refused, or a sending call
 
