@@ -5,7 +5,8 @@
  * Every call is proved to answer and write what crates/line_c/specs says, on every input, and to end without a fault.
  * What the proofs suppose of a caller in C:
  *   - a pointer is not null and points to at least the given number of bytes, also where that number is 0; doses points
- *     to the given number of 16-bit numbers, aligned as uint16_t is;
+ *     to the given number of 16-bit numbers, and used, length, remainder, bytes and count to one number each, aligned as
+ *     their types are;
  *   - what a call may write overlaps nothing else that is lent to the same call;
  *   - no other thread touches what is lent while the call runs.
  * Nothing else is asked: any bytes, any numbers. The library keeps nothing between calls and allocates nothing.
@@ -240,7 +241,7 @@ uint8_t order_line_open_receiver_with_marks(size_t k, size_t size, uint8_t *stat
  * polynomial; it stays as it is otherwise. It is for service staff, who may count bad blocks by it:
  *   - 1: a block that the office cancelled, and that is otherwise unharmed and read in step, shows 1, at every k. But 1
  *     is no proof of a cancel: damage on the line can leave 1 as well.
- *   - 0: the check passes and the block fits nowhere. Every other bad block shows another number.
+ *   - 0: the check passes, but the block fits nowhere; never otherwise.
  *   - any other number: the block was damaged on the line, cancelled or not, or the machine is out of step.
  * DECIDE NOTHING ABOUT THE ORDER BY IT: the events alone say what is in the store. docs/INTEGRATION.md, "Counting
  * cancelled blocks", says what such a count does not tell.
