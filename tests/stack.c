@@ -26,6 +26,12 @@ static void read(void)
 {
     answer = order_line_read_block(k, block, sizeof block, payload, sizeof payload, &remainder);
 }
+static void read_failing(void)
+{
+    block[0] ^= 0x80;
+    read();
+    block[0] ^= 0x80;
+}
 static void open_sender(void)
 {
     answer = order_line_open_sender(k, 200, 0, ITEMS * k, order, sizeof order, sender, sizeof sender);
@@ -100,13 +106,27 @@ static void deepen(size_t *deepest, void (*call)(void))
         *deepest = now;
 }
 
-/* A whole order from end to end in calls of at most so many bits; the deepest of sending and receiving. */
+/* A receiving call on a copy of the state, with the last of its bits inverted. */
+static void receive_inverted(size_t *receiving)
+{
+    uint8_t before[sizeof receiver];
+    memcpy(before, receiver, sizeof receiver);
+    line[(bits - 1) / 8] ^= (uint8_t)(0x80 >> (bits - 1) % 8);
+    deepen(receiving, receive);
+    line[(bits - 1) / 8] ^= (uint8_t)(0x80 >> (bits - 1) % 8);
+    memcpy(receiver, before, sizeof receiver);
+}
+
+/*
+ * A whole order from end to end in calls of at most so many bits, each block's last call also with its last bit inverted,
+ * which is bad in step; the deepest of sending and receiving.
+ */
 static bool session(bool marks, size_t most, size_t *sending, size_t *receiving)
 {
     (marks ? open_marked_sender : open_sender)();
     (marks ? open_marked_receiver : open_receiver)();
     length = 0;
-    for (int period = 0; period < ITEMS + 4; period++) {
+    for (int period = 0; period < ITEMS + 4; period++) { /* the first finds the machine in search */
         if (order_line_sender_rest(sender, sizeof sender) != ORDER_LINE_GOING_ON)
             break;
         deepen(sending, send);
@@ -116,6 +136,11 @@ static bool session(bool marks, size_t most, size_t *sending, size_t *receiving)
             memset(line, 0, sizeof line);
             for (size_t i = 0; i < bits; i++)
                 line[i / 8] |= (uint8_t)((block[(at + i) / 8] >> (7 - (at + i) % 8) & 1) << (7 - i % 8));
+            if (at + bits == n) {
+                receive_inverted(receiving);
+                if (period > 0 && (answer != ORDER_LINE_EVENT_BAD || remainder != 1))
+                    return false;
+            }
             deepen(receiving, receive);
             if (!ORDER_LINE_IS_EVENT(answer) || used != bits)
                 return false;
@@ -157,6 +182,7 @@ static struct {
     {"version", version, 0},
 };
 
+#define READ_BLOCK 2
 #define OTHERS (sizeof others / sizeof others[0])
 
 int main(void)
@@ -174,6 +200,11 @@ int main(void)
             }
         for (size_t j = 0; j < OTHERS; j++)
             deepen(&others[j].deepest, others[j].call);
+        deepen(&others[READ_BLOCK].deepest, read_failing);
+        if (answer != ORDER_LINE_FAILED) {
+            puts("a block with an inverted bit was not read as failed");
+            return 1;
+        }
     }
     if (!tint_order(&writing, &reading)) {
         puts("the tint order was not read as it was written");
