@@ -43,8 +43,8 @@ pub fn compare<S: SendingEnd, R: ReceivingEnd>(
     calls.with_tried(tally)
 }
 
-/// What the pair brings so many times while its older item waits and its newer one is cancelled: without synchronising first for
-/// the second to fourth time, unless opening lasts.
+/// What the pair brings so many times while its older item waits and its newer one is cancelled:
+/// without synchronising first for the second to fourth time, unless opening lasts.
 fn rounds(opening: bool, times: usize) -> Vec<&'static str> {
     let without = if opening { 1 } else { times.min(RESYNCHRONISE) };
     let with = ["sync", "wait", BAD_WITH_1].repeat(times - without);
