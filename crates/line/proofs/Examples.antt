@@ -1,4 +1,4 @@
--- Document 01's examples that are proved: one fact over all rows of their table. Assumes nothing.
+-- The examples of docs/PROTOCOL.md that are proved: one fact over all rows of their table. Assumes nothing.
 use mathlib.Core.Path.{_≡_, refl}
 use mathlib.Core.Bool.{true}
 use Rattle.crc.specs.Bits.{binary}
