@@ -16,7 +16,7 @@ use Rattle.crc.proofs.Linear.{divide-zeros, remainder-append, remainder-xor}
 use Rattle.crc.proofs.Division.{passes-remainder}
 use Rattle.crc.proofs.Codeword.{passes-checked}
 use Rattle.block.specs.Lengths.{isLength, blockLength}
-use Rattle.block.specs.Block.{blockBits, serviceOf, payloadOf, tens, serviceSync, syncSequence, syncBlock, cancelled}
+use Rattle.block.specs.Block.{blockBits, serviceOf, payloadOf, failed, verdict, tens, serviceSync, syncSequence, syncBlock, cancelled}
 use Rattle.block.proofs.Lengths.{of-length, length-facts}
 
 -- ---- a block built
@@ -114,6 +114,10 @@ cancelled-remainder b h p =
     sym (xor-zero-r (remainder (cancelled b))) ∙ ap (bitXor (remainder (cancelled b))) (sym (passes-remainder b .0 p))
     ∙ sym (remainder-xor (cancelled b) b (length-cancelled b)) ∙ ap remainder (cancelled-last b h)
     ∙ remainder-append (zeros (length b - 1)) (true ∷ []) ∙ ap (λ (c : ℕ). divide c (true ∷ [])) (divide-zeros (length b - 1))
+
+pub cancelled-verdict : (b : Bits) → 0 < length b → passes b ≡ true → verdict (cancelled b) ≡ failed 1
+unfolding verdict passes
+cancelled-verdict b h p = rw (cancelled-remainder b h p) refl
 
 pub cancelled-cancelled : (b : Bits) → cancelled (cancelled b) ≡ b
 unfolding cancelled

@@ -1,5 +1,5 @@
 -- A block that passes, once it is cancelled, fails with the remainder 1: on the promises of the calls. Assumes nothing.
-use mathlib.Core.Path.{_≡_, refl, sym, ap, _∙_}
+use mathlib.Core.Path.{_≡_, sym, ap, _∙_}
 use mathlib.Core.Bool.{true, not}
 use mathlib.Core.List.{List, _++_}
 use Prim.Native.Nat.{ℕ, _+_, _*_, _≤_}
@@ -19,7 +19,7 @@ use Rattle.block.specs.declared.Built.the-variants as B
 use Rattle.block.specs.declared.Read.{Read}
 use Rattle.block.specs.declared.Read.the-variants as R
 use Rattle.block.proofs.Lengths.{length-facts}
-use Rattle.block.proofs.Block.{length-cancelled, cancelled-remainder}
+use Rattle.block.proofs.Block.{length-cancelled, cancelled-verdict}
 use Rattle.block.proofs.Refusals.{passed-test, read-done}
 use Rattle.block.proofs.Passing.{verdict-passed, verdict-row}
 
@@ -55,11 +55,7 @@ module _ (k : ℕ) (slice slice′ : List ℕ) (c : CancelBlock k slice B.Done s
       ∙ take-at (cancelled row) (drop (blockLength k) (bitsOf slice)) (blockLength k) (length-cancelled row ∙ length-row)
 
   verdict-cancelled : passes row ≡ true → verdict (take (blockLength k) (bitsOf slice′)) ≡ failed 1
-  unfolding verdict passes
-  verdict-cancelled p =
-      let one : remainder (take (blockLength k) (bitsOf slice′)) ≡ 1 =
-      ap remainder row-cancelled ∙ cancelled-remainder row (omega (arith, length-row)) p in
-      rw one refl
+  verdict-cancelled p = ap verdict row-cancelled ∙ cancelled-verdict row (omega (arith, length-row)) p
 
   -- whatever its service bits and data, and whatever room there is for the data
   pub cancelled-read : (service : ℕ) (room room′ again again′ : List ℕ) (answer : Read) → ReadBlock k slice room (R.Passed service) room′

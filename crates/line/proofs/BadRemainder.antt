@@ -13,7 +13,7 @@ use Rattle.crc.specs.Check.{remainder, passes}
 use Rattle.crc.proofs.Division.{remainder-is, passes-remainder}
 use Rattle.block.specs.Answer.{done}
 use Rattle.block.specs.Block.{serviceOf, payloadOf, Verdict, passed, failed, verdict, cancelled}
-use Rattle.block.proofs.Block.{cancelled-front, cancelled-remainder}
+use Rattle.block.proofs.Block.{cancelled-front, cancelled-verdict}
 use Rattle.block.proofs.Passing.{verdict-passed, verdict-failed}
 use Rattle.block.proofs.Truth.{cond-case}
 use Rattle.line.specs.Order.{itemService, itemBits}
@@ -141,12 +141,10 @@ module _ (m : Marks) (k L : ℕ) (content : Bits) (i : ℕ) where
   abbrev row : Bits
   row = cancelled (itemBits m k L content i)
 
-  one : remainder row ≡ 1
-  one = let l = itemBits-long m k L content i in cancelled-remainder (itemBits m k L content i) (omega arith) (passes-itemBits m k L content i)
-
   fails-by-one : verdict row ≡ failed 1
-  unfolding verdict passes
-  fails-by-one = rw one refl
+  fails-by-one =
+      let l = itemBits-long m k L content i in
+      cancelled-verdict (itemBits m k L content i) (omega arith) (passes-itemBits m k L content i)
 
   not-sync : looksSync k row ≡ false
   unfolding looksSync number

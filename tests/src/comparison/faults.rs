@@ -17,8 +17,8 @@ use crate::reference::sender::Sent;
 use crate::rng::Rng;
 use busy::{BusyFault, OfBusy, BUSY_FAULTS};
 use marks::OfMarks;
-use remainder::{OfRemainder, RemainderFault};
-use remainder::{FURTHER_RECEIVING_FAULTS, READING_FAULTS, RECEIVING_FAULTS};
+use remainder::{reading_faults, receiving_faults};
+use remainder::{OfRemainder, RemainderFault, FURTHER_RECEIVING_FAULTS};
 use std::cell::Cell;
 use tint::{OfTints, TintFault, TINT_FAULTS};
 
@@ -267,7 +267,7 @@ fn faults_of_a_busy_machine_are_found() {
 
 #[test]
 fn faults_of_the_remainder_in_reading_are_found() {
-    for fault in READING_FAULTS.map(Fault::Reading) {
+    for fault in reading_faults().map(Fault::Reading) {
         let compared = block::compare(&Faulty::with(fault), 11, 0);
         assert!(compared.is_err(), "{fault:?}");
     }
@@ -276,7 +276,7 @@ fn faults_of_the_remainder_in_reading_are_found() {
 
 #[test]
 fn faults_of_the_remainder_in_receiving_are_found() {
-    let faults = RECEIVING_FAULTS.into_iter().chain(FURTHER_RECEIVING_FAULTS);
+    let faults = receiving_faults().chain(FURTHER_RECEIVING_FAULTS);
     for fault in faults.map(Fault::Receiving) {
         let compared = receiver::compare(&Faulty::with(fault), 8, 5_000);
         assert!(is_different(compared), "{fault:?}");
@@ -287,7 +287,7 @@ fn faults_of_the_remainder_in_receiving_are_found() {
 
 #[test]
 fn faults_of_the_remainder_are_found_where_a_case_says_what_comes() {
-    for fault in RECEIVING_FAULTS.map(Fault::Receiving) {
+    for fault in receiving_faults().map(Fault::Receiving) {
         let faulty = Faulty::with(fault);
         let groups = [
             ("busy", super::busy::compare(&Reference, &faulty)),
@@ -328,8 +328,8 @@ fn faults_are_found_by_random_bytes() {
     let of_one_end = FAULTS_OF_A_SENDER.into_iter().chain(FAULTS_OF_A_RECEIVER);
     let of_the_ends = FAULTS_OF_EITHER_END.into_iter().chain(of_one_end);
     let of_the_ends = of_the_ends.chain(BUSY_FAULTS.map(Fault::Busy));
-    let receiving = RECEIVING_FAULTS.into_iter().chain(FURTHER_RECEIVING_FAULTS);
-    let reading = READING_FAULTS.map(Fault::Reading);
+    let receiving = receiving_faults().chain(FURTHER_RECEIVING_FAULTS);
+    let reading = reading_faults().map(Fault::Reading);
     let of_remainders = receiving.map(Fault::Receiving).chain(reading);
     let of_tints = TINT_FAULTS.map(Fault::Tint);
     for fault in of_the_ends.chain(of_remainders).chain(of_tints) {

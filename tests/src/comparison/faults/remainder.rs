@@ -37,30 +37,25 @@ pub enum RemainderFault {
 
 use RemainderFault::*;
 
-pub const READING_FAULTS: [RemainderFault; 8] = [
+/// Those of a block whose check fails, in reading and in receiving.
+const FAULTS_IF_FAILED: [RemainderFault; 6] = [
     Register,
     FirstBits,
     LowerByte,
     BytesExchanged,
     ZeroIfFailed,
     NotIfFailed,
-    IfRefused,
-    IfPassed,
 ];
 
+pub fn reading_faults() -> impl Iterator<Item = RemainderFault> {
+    FAULTS_IF_FAILED.into_iter().chain([IfRefused, IfPassed])
+}
+
 /// Those that every group with receiving calls finds.
-pub const RECEIVING_FAULTS: [RemainderFault; 10] = [
-    Register,
-    FirstBits,
-    LowerByte,
-    BytesExchanged,
-    ZeroIfFailed,
-    NotIfFailed,
-    OneByRule7,
-    NotByRule7,
-    NotWhileBusy,
-    With(EVENT_SYNC),
-];
+pub fn receiving_faults() -> impl Iterator<Item = RemainderFault> {
+    let others = [OneByRule7, NotByRule7, NotWhileBusy, With(EVENT_SYNC)];
+    FAULTS_IF_FAILED.into_iter().chain(others)
+}
 
 /// Those that take a refused call or an event that not every group has.
 pub const FURTHER_RECEIVING_FAULTS: [RemainderFault; 8] = [
