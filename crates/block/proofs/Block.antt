@@ -1,12 +1,13 @@
 -- The block as a row: its length and parts, that it passes, that the synchronising block fails, what cancelling inverts, and the
 -- remainder that it leaves. Assumes nothing.
 use mathlib.Core.Path.{_≡_, refl, sym, ap, ap₂, _∙_}
-use mathlib.Core.Bool.{Bool, true, false, not, Bool·not-not}
+use mathlib.Core.Bool.{Bool, true, false, not, _&&_, Bool·not-not}
 use mathlib.Core.List.{[], _∷_, _++_, append-assoc}
-use Prim.Native.Nat.{ℕ, zero, suc, _+_, _-_, _*_, _/_, _<_}
+use Prim.Native.Nat.{ℕ, zero, suc, _+_, _-_, _*_, _/_, _%_, _≤_, _<_}
 use native.Mathlib.Omega.{arith}
 use borrow.Author.Tests.{not-true}
 use lib.Bits.{bitXor, xor-zero-r}
+use lib.Dec.{eqb}
 use lib.ListN.{length, take, drop, length-append}
 use lib.Seq.{take-at, drop-at}
 use Rattle.crc.specs.Bits.{Bits, zeros, binary, xor, xorBits}
@@ -15,9 +16,9 @@ use Rattle.crc.proofs.Rows.{length-binary, xor-bits-self}
 use Rattle.crc.proofs.Linear.{divide-zeros, remainder-append, remainder-xor}
 use Rattle.crc.proofs.Division.{passes-remainder}
 use Rattle.crc.proofs.Codeword.{passes-checked}
-use Rattle.block.specs.Lengths.{isLength, blockLength}
+use Rattle.block.specs.Lengths.{blockLength}
 use Rattle.block.specs.Block.{blockBits, serviceOf, payloadOf, failed, verdict, tens, serviceSync, syncSequence, syncBlock, cancelled}
-use Rattle.block.proofs.Lengths.{of-length, length-facts}
+use Rattle.block.proofs.Truth.{and-left, and-right}
 
 -- ---- a block built
 
@@ -51,10 +52,9 @@ length-tens : (n : ℕ) → length (tens n) ≡ n * 2
 length-tens zero = refl
 length-tens (suc n) = ap (λ (x : ℕ). suc (suc x)) (length-tens n) ∙ omega arith
 
-pub length-syncBlock : (k : ℕ) → isLength k ≡ true → length (syncBlock k) ≡ blockLength k
+pub length-syncBlock : (k : ℕ) → k % 8 ≡ 0 → length (syncBlock k) ≡ blockLength k
 unfolding syncBlock
 length-syncBlock k h =
-    let f = length-facts k h in
     omega (
       arith,
       length-append (serviceSync ++ tens (k / 2)) syncSequence,
@@ -62,10 +62,38 @@ length-syncBlock k h =
       length-tens (k / 2),
     )
 
--- computed at each length of the table
-pub sync-fails : (k : ℕ) → isLength k ≡ true → passes (syncBlock k) ≡ false
+-- It fails the check. Each length has eight bits more than the one before, so one division goes through them all: the sequence,
+-- after each of n lengths more, does not bring the register to zero.
+none-passes : ℕ → ℕ → Bool
+none-passes zero c = true
+none-passes (suc n) c = not (eqb (divide (divide c (tens 4)) syncSequence) 0) && none-passes n (divide c (tens 4))
+
+eight-more : (c j : ℕ) → divide c (tens (4 * suc j)) ≡ divide (divide c (tens 4)) (tens (4 * j))
+eight-more c j =
+    let e : 4 * suc j ≡ suc (suc (suc (suc (4 * j)))) = omega arith in
+    ap (λ (n : ℕ). divide c (tens n)) e
+
+one-fails : (n c i : ℕ) → none-passes n c ≡ true → i < n → eqb (divide (divide c (tens (4 * suc i))) syncSequence) 0 ≡ false
+unfolding none-passes
+one-fails zero c i t h = absurd (omega arith)
+one-fails (suc n) c zero t h = not-true (eqb (divide (divide c (tens 4)) syncSequence) 0) (and-left _ (none-passes n (divide c (tens 4))) t)
+one-fails (suc n) c (suc i) t h =
+    ap (λ (x : ℕ). eqb (divide x syncSequence) 0) (eight-more c (suc i))
+    ∙ one-fails n (divide c (tens 4)) i (and-right (not (eqb (divide (divide c (tens 4)) syncSequence) 0)) _ t) (omega arith)
+
+all-fail : none-passes 480 (divide 0 serviceSync) ≡ true
+unfolding none-passes
+all-fail = refl
+
+pub sync-fails : (k : ℕ) → k % 8 ≡ 0 → 8 ≤ k → k ≤ 3840 → passes (syncBlock k) ≡ false
 unfolding syncBlock passes remainder
-sync-fails k h = not-true (passes (syncBlock k)) (of-length (λ l. not (passes (syncBlock l))) refl k h)
+sync-fails k whole low high =
+    let i : ℕ = k / 8 - 1 in
+    let e : k / 2 ≡ 4 * suc i = omega arith in
+    ap (λ (x : ℕ). eqb x 0)
+    (remainder-append (serviceSync ++ tens (k / 2)) syncSequence
+    ∙ ap (λ (x : ℕ). divide x syncSequence) (remainder-append serviceSync (tens (k / 2)) ∙ ap (λ (n : ℕ). divide (divide 0 serviceSync) (tens n)) e))
+    ∙ one-fails 480 (divide 0 serviceSync) i all-fail (omega arith)
 
 -- ---- a block cancelled
 

@@ -13,10 +13,12 @@ use Rattle.block.specs.Answer.{done}
 use Rattle.block.specs.Lengths.{isLength}
 use Rattle.block.specs.Block.{passed, failed, verdict, syncBlock, cancelled}
 use Rattle.block.specs.Calls.{buildBlock, builtBytes, BuildBlock, readBlock, ReadBlock, cancelBlock, CancelBlock}
+use Rattle.block.specs.Packed.{readPacked}
 use Rattle.block.specs.declared.Built.the-variants as B
 use Rattle.block.specs.declared.Read.the-variants as R
 use Rattle.block.proofs.Lengths.{length-facts}
 use Rattle.block.proofs.Block.{length-syncBlock, sync-fails, cancelled-last}
+use Rattle.block.proofs.LookUp.{read-known}
 use Rattle.block.proofs.RoundTrip.{read-built, bytes-built, built-read}
 use Rattle.block.proofs.Passing.{failing, passing}
 use Rattle.block.proofs.Cancelled.{cancelled-read}
@@ -29,10 +31,10 @@ facts : (240 % 8 ≡ 0) × (240 ≤ 240) × (240 ≤ 3840)
 facts = length-facts 240 known
 
 length-sync : length (syncBlock 240) ≡ 260
-length-sync = length-syncBlock 240 known
+length-sync = length-syncBlock 240 refl
 
 fails-sync : passes (syncBlock 240) ≡ false
-fails-sync = sync-fails 240 known
+fails-sync = sync-fails 240 refl (lit≤ tt) (lit≤ tt)
 
 last-of-sync : xorBits (cancelled (syncBlock 240)) (syncBlock 240) ≡ zeros (length (syncBlock 240) - 1) ++ true ∷ []
 last-of-sync = cancelled-last (syncBlock 240) (omega (arith, length-sync))
@@ -49,9 +51,9 @@ sample-lt (suc n) (suc i) = sample-lt n i
 empty : ℕ → List ℕ
 empty n = replicate n 0
 
-read-back : readBlock 240 (builtBytes 240 5 sample (empty 33) (done tt)) (empty 30) ≡ done (passed 5)
+read-back : readPacked 240 (builtBytes 240 5 sample (empty 33) (done tt)) (empty 30) ≡ done (passed 5)
 unfolding sample empty
-read-back = read-built 240 5 sample (empty 33) (empty 30) known (lit≤ tt) (lit≤ tt) (lit≤ tt) (lit≤ tt)
+read-back = read-built 240 5 sample (empty 33) (empty 30) refl (lit≤ tt) (lit≤ tt) (lit≤ tt) (lit≤ tt)
 
 built : BuildBlock 240 5 sample (empty 33) B.Done (builtBytes 240 5 sample (empty 33) (done tt))
 unfolding sample empty buildBlock isLength
@@ -59,10 +61,12 @@ built = record { answers = refl; writes = refl }
 
 read : ReadBlock 240 (builtBytes 240 5 sample (empty 33) (done tt)) (empty 30) (R.Passed 5) sample
 unfolding sample empty
-read = record {
-  answers = sym read-back;
-  writes = sym (bytes-built 240 5 sample (empty 33) (empty 30) known (lit≤ tt) (lit≤ tt) (lit≤ tt) (lit≤ tt) (sample-lt 30));
-}
+read =
+    read-known 240 known 30 refl _ _ _ _
+    (record {
+      answers = sym read-back;
+      writes = sym (bytes-built 240 5 sample (empty 33) (empty 30) refl (lit≤ tt) (lit≤ tt) (lit≤ tt) (lit≤ tt) (sample-lt 30));
+    })
 
 built-and-read : (R.Passed 5 ≡ R.Passed 5) × (sample ≡ take 30 sample ++ drop 30 (empty 30))
 unfolding sample empty

@@ -2,3 +2,5 @@ pub mod Answer
 pub mod Lengths
 pub mod Block
 pub mod Calls
+pub mod Packed
+pub mod EveryLength

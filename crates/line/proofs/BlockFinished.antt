@@ -6,6 +6,7 @@ use mathlib.Core.List.{List, [], _∷_, _++_}
 use mathlib.Core.Logic.{⊎-elim}
 use Prim.Native.Nat.{ℕ, _+_, _-_, _*_, _/_, _≤_}
 use native.Mathlib.Omega.{arith}
+use borrow.Author.Tests.{le-ltb}
 use lib.Dec.{leb}
 use lib.ListN.{length, take, drop, length-drop}
 use lib.Seq.{take-at, take-take, length-take-le}
@@ -17,12 +18,13 @@ use Rattle.block.specs.Answer as A
 use Rattle.block.specs.Answer.{done}
 use Rattle.block.specs.Lengths.{isLength, blockLength}
 use Rattle.block.specs.Block.{payloadOf, passed, failed, verdict}
-use Rattle.block.specs.Calls.{tooShort, readAnswer, carriedRemainder, ReadService, movedBytes, MoveData}
+use Rattle.block.specs.Calls.{tooShort, readAnswer, carriedRemainder, movedBytes, MoveData}
+use Rattle.block.specs.Packed.{ServicePacked}
 use Rattle.block.specs.declared.Built.{Built}
 use Rattle.block.specs.declared.Read.{Read}
 use Rattle.block.specs.declared.Read.the-variants as B
 use Rattle.block.proofs.Read.{the-type}
-use Rattle.block.proofs.Lengths.{length-facts}
+use Rattle.block.proofs.Lengths.{length-facts, length-bytes}
 use Rattle.block.proofs.Refusals.{service-done, move-done}
 use Rattle.line.specs.Receiving.{lastBad, afterBad, Rule, sync-block, check-fails, accepts, meaning, endRule, serviceRule, looksSync, judge, orWait, blockRule, stops, Reception, storeAt}
 use Rattle.line.specs.Code.ReceiveSteps.{ruleOf, stepped, handedBack, judged, Handed}
@@ -108,12 +110,11 @@ module _ (k : ℕ) (known : isLength k ≡ true) (slice : List ℕ) (h : blockLe
   abbrev row : Bits
   row = take (blockLength k) (bitsOf slice)
 
-  held-bytes : k / 8 + 3 ≤ length slice
-  held-bytes = let f = length-facts k known in omega arith
-
-  module _ (answer : Read) (p : ReadService k slice answer) where
+  module _ (answer : Read) (below : ServicePacked (8 * (k / 8)) slice answer) where
     answered : readAnswer answer ≡ done (verdict row)
-    answered = p .answers ∙ service-done k slice known held-bytes
+    answered =
+        let p = subst (λ (x : ℕ). ServicePacked x slice answer) (length-bytes k known) below in
+        p .answers ∙ service-done k slice (le-ltb (8 * length slice) (blockLength k) h)
 
     pub check-passes : (service : ℕ) → answer ≡ B.Passed service → verdict row ≡ passed service
     check-passes service e =

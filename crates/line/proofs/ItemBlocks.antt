@@ -1,6 +1,6 @@
--- The block calls on lengths, services and slices that they do not turn away, and an item's data as rows of the order.
+-- The packed calls on services and slices that they do not turn away, and an item's data as rows of the order.
 -- Assumes nothing.
-use mathlib.Core.Path.{_≡_, ap, ap₂, sym, _∙_}
+use mathlib.Core.Path.{_≡_, ap, ap₂, sym, subst, _∙_}
 use mathlib.Core.Bool.{true}
 use mathlib.Core.List.{List, _++_, append-assoc}
 use Prim.Native.Nat.{ℕ, _+_, _-_, _*_, _/_, _≤_, _<_}
@@ -15,10 +15,12 @@ use Rattle.crc.proofs.Bytes.{length-bitsOf, bitsOf-append, take-bitsOf, drop-bi
 use Rattle.block.specs.Answer.{done}
 use Rattle.block.specs.Lengths.{isLength, blockLength, blockBytes}
 use Rattle.block.specs.Block.{blockBits, syncBlock, cancelled}
-use Rattle.block.specs.Calls.{overwritten, buildBlock, builtBytes, BuildBlock, buildSync, syncBytes, BuildSync, cancelBlock, cancelBytes, CancelBlock}
+use Rattle.block.specs.Calls.{overwritten, builtBytes, syncBytes, cancelBytes}
+use Rattle.block.specs.Packed.{buildPacked, BuildPacked, heldPacked, SyncPacked, CancelPacked}
 use Rattle.block.specs.declared.Built.{Built}
 use Rattle.block.proofs.Lengths.{length-facts, length-bytes}
 use Rattle.block.proofs.Block.{length-cancelled}
+use Rattle.block.proofs.Refusals.{held-done}
 use Rattle.line.specs.Order.{itemCount, dataService, filled, orderBits, version, endPayload, itemBits}
 use Rattle.line.specs.declared.marks.Marks.{Marks}
 use Rattle.line.proofs.Items.{itemCount-least, item-within, length-orderBits, itemService-data, itemPayload-data}
@@ -29,27 +31,28 @@ use Rattle.line.proofs.LastItem.{take-zeros, drop-take}
 module _ (k : ℕ) (slice : List ℕ) (answer : Built) (slice′ : List ℕ) (h : isLength k ≡ true)
     (room : blockLength k ≤ 8 * length slice) where
   pub built : (service : ℕ) (payload : List ℕ) → service < 16 → k ≤ 8 * length payload
-      → BuildBlock k service payload slice answer slice′
+      → BuildPacked (8 * (k / 8)) service payload slice answer slice′
       → slice′ ≡ overwritten (blockBytes k) (blockBits (binary 4 service) (take k (bitsOf payload))) slice
-  unfolding buildBlock
-  built service payload s l p =
-      let e : buildBlock k service payload slice ≡ done tt =
-      simp
-      (h, le-ltb 15 service (omega arith), le-ltb (8 * length payload) k l, le-ltb (8 * length slice) (blockLength k) room)
+  unfolding buildPacked
+  built service payload s l below =
+      let p = subst (λ (x : ℕ). BuildPacked x service payload slice answer slice′) (length-bytes k h) below in
+      let e : buildPacked k service payload slice ≡ done tt =
+      simp (le-ltb 15 service (omega arith), le-ltb (8 * length payload) k l, le-ltb (8 * length slice) (blockLength k) room)
       in
       p .writes ∙ ap (builtBytes k service payload slice) e
 
-  pub synchronised : BuildSync k slice answer slice′ → slice′ ≡ overwritten (blockBytes k) (syncBlock k) slice
-  unfolding buildSync
-  synchronised p =
-      let e : buildSync k slice ≡ done tt = simp (h, le-ltb (8 * length slice) (blockLength k) room) in
-      p .writes ∙ ap (syncBytes k slice) e
+  held : heldPacked k slice ≡ done tt
+  held = held-done k slice (le-ltb (8 * length slice) (blockLength k) room)
 
-  pub cancels : CancelBlock k slice answer slice′ → slice′ ≡ cancelBytes k slice (done tt)
-  unfolding cancelBlock
-  cancels p =
-      let e : cancelBlock k slice ≡ done tt = simp (h, le-ltb (8 * length slice) (blockLength k) room) in
-      p .writes ∙ ap (cancelBytes k slice) e
+  pub synchronised : SyncPacked (8 * (k / 8)) slice answer slice′ → slice′ ≡ overwritten (blockBytes k) (syncBlock k) slice
+  synchronised below =
+      let p = subst (λ (x : ℕ). SyncPacked x slice answer slice′) (length-bytes k h) below in
+      p .writes ∙ ap (syncBytes k slice) held
+
+  pub cancels : CancelPacked (8 * (k / 8)) slice answer slice′ → slice′ ≡ cancelBytes k slice (done tt)
+  cancels below =
+      let p = subst (λ (x : ℕ). CancelPacked x slice answer slice′) (length-bytes k h) below in
+      p .writes ∙ ap (cancelBytes k slice) held
 
 -- the bits of a slice over which a block was written
 module _ (k : ℕ) (row : Bits) (slice : List ℕ) (h : isLength k ≡ true) (n : length row ≡ blockLength k) where

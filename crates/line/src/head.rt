@@ -27,6 +27,7 @@ use crate::window::Window;
 use crate::window::bit_at;
 use block::OVERHEAD;
 use block::Read;
+use block::packed;
 use block::too_short;
 
 // The eighth bad block in a row starts a search.
@@ -247,7 +248,7 @@ impl Head {
         if looks_sync(k, row) {
             return self.after_good(array, taken, ended, Event::Sync, used);
         }
-        let answer = block::read_service(k, row);
+        let answer = packed::read_service(k / 8, row);
         let Read::Passed(service) = answer else {
             return self.after_bad(array, answer.remainder(), false, used);
         };

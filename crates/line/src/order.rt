@@ -11,6 +11,7 @@ ghost use Rattle.block.specs.Calls.{overwritten};
 ghost use Rattle.line.specs.Order.{longestOrder, validLength, itemCount, letter, endService, dataService, orderBits, endPayload, itemBits};
 use crate::marks::Marks;
 use crate::marks::mark;
+use block::packed;
 
 // The longest order in bits, and the most data items that an order makes.
 pub(crate) const LONGEST_ORDER: usize = 262144;
@@ -107,7 +108,7 @@ fn write_end(k: usize, bits: usize, block: &mut [u8])
     ensures { λ _. ⌜ now (block .exit) ≡ overwritten (blockBytes k) (blockBits (binary 4 endService) (endPayload k bits)) (now (block .entry)) ⌝ }
 {
     let payload = end_data(bits);
-    block::build_block(k, END, &payload, block);
+    packed::build(k / 8, END, &payload, block);
 }
 
 // Item i, whose data are all of the order, under these service bits over the first bytes of block.
@@ -117,7 +118,7 @@ fn write_whole(k: usize, i: usize, service: u8, order: &[u8], block: &mut [u8])
 {
     let start = i * (k / 8);
     let end = start + k / 8;
-    block::build_block(k, service, &order[start..end], block);
+    packed::build(k / 8, service, &order[start..end], block);
 }
 
 // Item i, the order's last bits and the filling behind them, under these service bits over the first bytes of block.
@@ -126,7 +127,7 @@ fn write_last(k: usize, bits: usize, i: usize, service: u8, order: &[u8], block:
     ensures { λ _. ⌜ now (block .exit) ≡ overwritten (blockBytes k) (blockBits (binary 4 service) (drop (i * k) (orderBits bits (now (order .entry))) ++ zeros (i * k + k - bits))) (now (block .entry)) ⌝ }
 {
     let payload = last_data(order, bits, i * (k / 8));
-    block::build_block(k, service, &payload, block);
+    packed::build(k / 8, service, &payload, block);
 }
 
 // Item i over the first bytes of block.

@@ -20,6 +20,7 @@ use crate::order::LONGEST_ORDER;
 use crate::order::item_count;
 use crate::order::write_item;
 use block::OVERHEAD;
+use block::packed;
 use block::too_short;
 
 // The run of cancels at which a synchronising block comes before the repeat, and at which the sender gives up.
@@ -221,7 +222,7 @@ impl Sender {
         ensures { λ r. ⌜ ((order : List ℕ) (reading : Bool) → Sends self Next.Sync reading order (now (block .entry)) r (now (block .exit))) ⌝ }
     {
         let setup = self.setup;
-        block::synchronising_block(setup.k, block);
+        packed::synchronising(setup.k / 8, block);
         Step {
             state: Sender {
                 next: Next::Older,
@@ -257,7 +258,7 @@ impl Sender {
         let newer = self.newer;
         write_item(setup.marks, setup.k, setup.length, newer, order, block);
         if reading {
-            block::cancel_block(setup.k, block);
+            packed::cancel(setup.k / 8, block);
             return Step {
                 state: self.repeated(),
                 answer: self.item(newer, true, true),

@@ -39,7 +39,7 @@ length-cond false x y n p q = q
 pub length-sentBits : (m : Marks) (k L : ℕ) (content : Bits) (b : Block) → isLength k ≡ true → length content ≡ L
     → length (sentBits m k L content b) ≡ blockLength k
 unfolding sentBits
-length-sentBits m k L content synchronising h e = length-syncBlock k h
+length-sentBits m k L content synchronising h e = length-syncBlock k (length-facts k h .0)
 length-sentBits m k L content (item i end used cancel) h e =
     let bits = itemBits m k L content i in
     let n = length-itemBits k L content h e m i in

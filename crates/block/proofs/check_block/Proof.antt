@@ -1,50 +1,39 @@
--- `check_block` keeps its promise: each refusal by its tests, then the check. Assumes nothing.
-use mathlib.Core.Path.{_≡_, sym, ap, _∙_}
-use mathlib.Core.Bool.{true}
-use Prim.Native.Nat.{ℕ, _+_}
-use native.Mathlib.Omega.{arith}
-use borrow.Author.Tests.{not-true, not-false}
-use lib.ListN.{take}
-use Rattle.crc.specs.Bits.{bitsOf}
-use Rattle.crc.specs.Check.{remainder}
-use Rattle.block.specs.Answer.{done}
-use Rattle.block.specs.Lengths.{isLength}
-use Rattle.block.proofs.Lengths.{length-bytes}
-use Rattle.block.proofs.Refusals.{check-length, check-slice, check-done}
+-- `check_block` is the look-up, then `packed::check`. Assumes nothing.
+use mathlib.Core.Path.{sym, ap, _∙_}
 use borrow.Author.Needs.{needs}
+use Rattle.block.specs.Packed.{lengthAnswer}
+use Rattle.block.proofs.LookUp.{found, not-found, check-known, check-unknown}
 use Rattle.block.proofs.check_block.Statement.{statement}
 use Rattle.block.proofs.check_block.Tie as tie
 
-known-length-requires : tie.Need-known-length-requires
-known-length-requires c κs = search needs
+look-up-requires : tie.Need-look-up-requires
+look-up-requires c κs = search needs
+
+enum-known-m : tie.Need-enum-known-m
+enum-known-m c = search needs
+
+check-requires : tie.Need-check-requires
+check-requires c κs = search needs
+
+enum-told : tie.Need-enum-told
+enum-told c = search needs
 
 returns : tie.Need-returns
 returns c =
-    let a = c .before .before .before .args in
-    check-length (a .k) (a .block .now) (sym (c .before .known-length .ensures) ∙ not-true _ (c .if1 .taken))
-
-add-if2 : tie.Need-add-if2
-add-if2 c = search needs
+    let b = c in
+    let m = b .before .before in
+    let l = m .before .before in
+    let a = l .before .before .args in
+    let f = found (a .k) _ (sym (l .look-up .ensures .answers) ∙ ap lengthAnswer (m .m .given .1)) in
+    check-known (a .k) (f .0) _ (f .1) (a .block .now) _ (b .check .ensures)
 
 returns-2 : tie.Need-returns-2
 returns-2 c =
-    let a = c .before .before .before .before .args in
-    check-slice (a .k) (a .block .now) (sym (c .before .before .known-length .ensures) ∙ not-false _ (c .before .if1 .left)) (c .if2 .taken)
-
-remainder-of-requires : tie.Need-remainder-of-requires
-remainder-of-requires c κs = search needs
-
-returns-3 : tie.Need-returns-3
-returns-3 c =
-    let e = c .before .before in
-    let a = e .before .before .before .args in
-    let known : isLength (a .k) ≡ true = sym (e .before .known-length .ensures) ∙ not-false _ (e .if1 .left) in
-    record {
-      answers = ap done (c .remainder-of .ensures)
-          ∙ ap (λ (x : ℕ). done (remainder (take (x + 20) (bitsOf (a .block .now))))) (length-bytes (a .k) known)
-          ∙ sym (check-done (a .k) (a .block .now) known (omega arith));
-    }
+    let l = c .before .before in
+    let a = l .before .before .args in
+    check-unknown (a .k) (not-found (a .k) _ (sym (l .look-up .ensures .answers) ∙ ap lengthAnswer (c .enum-told .given .1))) (a .block .now)
 
 pub check-block-spec : {M : Type 1} → statement M
 check-block-spec =
-    tie.close (tie.spec known-length-requires returns add-if2 returns-2 remainder-of-requires returns-3)
+    tie.close
+    (tie.spec look-up-requires enum-known-m check-requires enum-told returns returns-2)

@@ -1,32 +1,29 @@
--- `known_length` says whether k is in the table: the keys of its `match` are the table's numbers. Assumes nothing.
-use mathlib.Core.Bool.{true, false, or-true}
-use mathlib.Core.List.{List, [], _∷_}
-use mathlib.Core.Logic.{inl, inr}
-use mathlib.Core.Path.{_≡_, sym}
-use Prim.Native.Nat.{ℕ}
-use borrow.Author.Tests.{eq-eqb, ne-eqb}
-use lib.Dec.{eqb}
-use types.Run.{OneOf}
-use Rattle.block.specs.Lengths.{among, isLength}
+-- `known_length` says whether the look-up finds k. Assumes nothing.
+use mathlib.Core.Path.{sym, ap, _∙_}
+use borrow.Author.Needs.{needs}
+use Rattle.block.specs.Packed.{lengthAnswer}
+use Rattle.block.proofs.LookUp.{found, not-found}
 use Rattle.block.proofs.known_length.Statement.{statement}
 use Rattle.block.proofs.known_length.Tie as tie
 
-one-among : (l : ℕ) (ls : List ℕ) (k : ℕ) → OneOf (l ∷ ls) k → among k (l ∷ ls) ≡ true
-one-among l [] k e = rw (eq-eqb k l e)
-one-among l (m ∷ ls) k (inl e) = rw (eq-eqb k l e)
-one-among l (m ∷ ls) k (inr r) = rw (one-among m ls k r) (or-true (eqb k l))
+look-up-requires : tie.Need-look-up-requires
+look-up-requires c κs = search needs
 
-none-among : (l : ℕ) (ls : List ℕ) (k : ℕ) → (OneOf (l ∷ ls) k → ⊥) → among k (l ∷ ls) ≡ false
-none-among l [] k h = rw (ne-eqb k l h)
-none-among l (m ∷ ls) k h = rw (ne-eqb k l (λ e. h (inl e))) (none-among m ls k (λ r. h (inr r)))
+enum-told : tie.Need-enum-told
+enum-told c = search needs
+
+enum-told-2 : tie.Need-enum-told-2
+enum-told-2 c = search needs
 
 returns : tie.Need-returns
-unfolding isLength
-returns c = sym (one-among 240 (480 ∷ 960 ∷ 3840 ∷ []) (c .before .args .k) (c .match .keys1))
+returns c =
+    let l = c .before .before in
+    sym (found (l .before .args .k) _ (sym (l .look-up .ensures .answers) ∙ ap lengthAnswer (c .enum-told .given .1)) .0)
 
 returns-2 : tie.Need-returns-2
-unfolding isLength
-returns-2 c = sym (none-among 240 (480 ∷ 960 ∷ 3840 ∷ []) (c .before .args .k) (c .match .rest .1))
+returns-2 c =
+    let l = c .before .before in
+    sym (not-found (l .before .args .k) _ (sym (l .look-up .ensures .answers) ∙ ap lengthAnswer (c .enum-told2 .given .1)))
 
 pub known-length-spec : {M : Type 1} → statement M
-known-length-spec = tie.close (tie.spec returns returns-2)
+known-length-spec = tie.close (tie.spec look-up-requires enum-told enum-told-2 returns returns-2)

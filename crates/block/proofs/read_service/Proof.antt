@@ -1,73 +1,39 @@
--- `read_service` keeps its promise: it is refused as the check is, and judges the check's remainder by zero. Assumes nothing.
-use mathlib.Core.Path.{_≡_, sym, ap, _∙_}
-use Prim.Native.Nat.{_<_}
-use native.Mathlib.Omega.{arith}
-use lib.ListN.{length, take}
-use Rattle.crc.specs.Bits.{bitsOf}
-use Rattle.crc.specs.Check.{remainder}
-use Rattle.block.specs.Answer.{done}
-use Rattle.block.specs.Lengths.{blockLength}
-use Rattle.block.specs.Block.{verdict}
-use Rattle.block.specs.Calls.{checkedAnswer, readService}
-use Rattle.block.proofs.Refusals.{service-refused, service-checked}
-use Rattle.block.proofs.Packing.{row-judged}
+-- `read_service` is the look-up, then `packed::read_service`. Assumes nothing.
+use mathlib.Core.Path.{sym, ap, _∙_}
 use borrow.Author.Needs.{needs}
+use Rattle.block.specs.Packed.{lengthAnswer}
+use Rattle.block.proofs.LookUp.{found, not-found, service-known, service-unknown}
 use Rattle.block.proofs.read_service.Statement.{statement}
 use Rattle.block.proofs.read_service.Tie as tie
 
-abbrev start : tie.After-remainder → tie.Start
-start c = c .before .before .before .before
+look-up-requires : tie.Need-look-up-requires
+look-up-requires c κs = search needs
 
--- what a remainder handed over says
-checked : (c : tie.After-remainder)
-    → (c .remainder .given .0 .0 ≡ remainder (take (blockLength (start c .args .k)) (bitsOf (start c .args .block .now))))
-    × (0 < length (start c .args .block .now))
-    × (readService (start c .args .k) (start c .args .block .now) ≡ done (verdict (take (blockLength (start c .args .k)) (bitsOf (start c .args .block .now)))))
-checked c =
-    let b = c .before .before in
-    service-checked _ _ _ (sym (b .check-block .ensures .answers) ∙ ap checkedAnswer (c .remainder .given .1))
+enum-known-m : tie.Need-enum-known-m
+enum-known-m c = search needs
 
-check-block-requires : tie.Need-check-block-requires
-check-block-requires c κs = search needs
+read-service-requires : tie.Need-read-service-requires
+read-service-requires c κs = search needs
 
-enum-known-remainder : tie.Need-enum-known-remainder
-enum-known-remainder c = search needs
-
-shared-slice-read-judged : tie.Need-shared-slice-read-judged
-shared-slice-read-judged c = checked (c .before .before) .1
-
-judged-requires : tie.Need-judged-requires
-judged-requires c κs = search needs
-
-enum-known-number : tie.Need-enum-known-number
-enum-known-number c = search needs
+enum-told : tie.Need-enum-told
+enum-told c = search needs
 
 returns : tie.Need-returns
 returns c =
-    let m = c .before .before .before in
-    let a = start m .args in
-    let f = checked m in
-    record {
-      answers = c .judged .ensures
-          ∙ ap done (row-judged (blockLength (a .k)) (a .block .now) _ (omega arith) (f .1) (c .before .shared-slice-known2 .given 0 .fits) (f .0))
-          ∙ sym (f .2);
-    }
+    let b = c in
+    let m = b .before .before in
+    let l = m .before .before in
+    let a = l .before .before .args in
+    let f = found (a .k) _ (sym (l .look-up .ensures .answers) ∙ ap lengthAnswer (m .m .given .1)) in
+    service-known (a .k) (f .0) _ (f .1) (a .block .now) _ (b .read-service .ensures)
 
 returns-2 : tie.Need-returns-2
 returns-2 c =
-    let n = c .before in
-    let b = n .before .before in
-    let a = b .before .before .args in
-    record { answers = sym (service-refused (a .k) (a .block .now) _ (sym (b .check-block .ensures .answers) ∙ ap checkedAnswer (n .number .given .1))) }
+    let l = c .before .before in
+    let a = l .before .before .args in
+    service-unknown (a .k) (not-found (a .k) _ (sym (l .look-up .ensures .answers) ∙ ap lengthAnswer (c .enum-told .given .1))) (a .block .now)
 
 pub read-service-spec : {M : Type 1} → statement M
 read-service-spec =
     tie.close
-    (tie.spec
-    check-block-requires
-    enum-known-remainder
-    shared-slice-read-judged
-    judged-requires
-    enum-known-number
-    returns
-    returns-2)
+    (tie.spec look-up-requires enum-known-m read-service-requires enum-told returns returns-2)

@@ -1,60 +1,42 @@
--- `synchronising_block` keeps its promise. Assumes nothing.
+-- `synchronising_block` is the look-up, then `packed::synchronising`. Assumes nothing.
+use mathlib.Core.Path.{sym, ap, _∙_}
 use borrow.Author.Needs.{needs}
-use borrow.Author.Tests.{not-true, not-false}
-use mathlib.Core.Bool.{true}
-use mathlib.Core.Path.{_≡_, sym, ap, _∙_}
-use native.Mathlib.Omega.{arith}
-use Prim.Native.Nat.{ℕ, _/_, _+_}
-use Rattle.block.specs.Lengths.{isLength}
-use Rattle.block.specs.Block.{syncBlock}
-use Rattle.block.specs.Calls.{overwritten}
-use Rattle.block.proofs.Lengths.{length-facts, length-bytes}
-use Rattle.block.proofs.Refusals.{sync-length, sync-slice, sync-done}
+use Rattle.block.specs.Packed.{lengthAnswer}
+use Rattle.block.proofs.LookUp.{found, not-found, sync-known, sync-unknown}
 use Rattle.block.proofs.synchronising_block.Statement.{statement}
 use Rattle.block.proofs.synchronising_block.Tie as tie
 
-known-length-requires : tie.Need-known-length-requires
-known-length-requires c κs = search needs
+look-up-requires : tie.Need-look-up-requires
+look-up-requires c κs = search needs
 
-returns : tie.Need-returns
-returns c =
-    let a = c .before .before .before .args in
-    sync-length (a .k) (a .block .now) (sym (c .before .known-length .ensures) ∙ not-true _ (c .if1 .taken))
+enum-known-m : tie.Need-enum-known-m
+enum-known-m c = search needs
 
-add-if2 : tie.Need-add-if2
-add-if2 c = search needs
+synchronising-requires : tie.Need-synchronising-requires
+synchronising-requires c κs = search needs
 
-returns-2 : tie.Need-returns-2
-returns-2 c =
-    let a = c .before .before .before .before .args in
-    let known : isLength (a .k) ≡ true = sym (c .before .before .known-length .ensures) ∙ not-false _ (c .before .if1 .left) in
-    sync-slice (a .k) (a .block .now) known (c .if2 .taken)
-
-fill-sync-requires : tie.Need-fill-sync-requires
-fill-sync-requires c κs =
-    let a = c .before .before .before .before .before .args in
-    let known : isLength (a .k) ≡ true = sym (c .before .before .before .known-length .ensures) ∙ not-false _ (c .before .before .if1 .left) in
-    let f = length-facts (a .k) known in
-    omega arith
+enum-told : tie.Need-enum-told
+enum-told c = search needs
 
 same-length : tie.Need-same-length
 same-length c = search needs
 
-returns-3 : tie.Need-returns-3
-returns-3 c =
-    let a = c .before .before .before .before .before .before .before .before .args in
-    let known : isLength (a .k) ≡ true = sym (c .before .before .before .before .before .before .known-length .ensures) ∙ not-false _ (c .before .before .before .before .before .if1 .left) in
-    sync-done (a .k) (a .block .now) known _ (omega arith)
-    (c .before .before .fill-sync .ensures ∙ ap (λ (x : ℕ). overwritten (a .k / 8 + 3) (syncBlock x) (a .block .now)) (length-bytes (a .k) known))
+returns : tie.Need-returns
+returns c =
+    let b = c .before .before in
+    let m = b .before .before .before in
+    let l = m .before .before in
+    let a = l .before .before .args in
+    let f = found (a .k) _ (sym (l .look-up .ensures .answers) ∙ ap lengthAnswer (m .m .given .1)) in
+    sync-known (a .k) (f .0) _ (f .1) (a .block .now) _ _ (b .synchronising .ensures)
+
+returns-2 : tie.Need-returns-2
+returns-2 c =
+    let l = c .before .before in
+    let a = l .before .before .args in
+    sync-unknown (a .k) (not-found (a .k) _ (sym (l .look-up .ensures .answers) ∙ ap lengthAnswer (c .enum-told .given .1))) (a .block .now)
 
 pub synchronising-block-spec : {M : Type 1} → statement M
 synchronising-block-spec =
     tie.close
-    (tie.spec
-    known-length-requires
-    returns
-    add-if2
-    returns-2
-    fill-sync-requires
-    same-length
-    returns-3)
+    (tie.spec look-up-requires enum-known-m synchronising-requires enum-told same-length returns returns-2)

@@ -15,6 +15,7 @@ use Rattle.crc.specs.Check.{remainder, passes}
 use Rattle.crc.proofs.Rows.{length-binary, number-binary}
 use Rattle.block.specs.Lengths.{isLength}
 use Rattle.block.specs.Block.{serviceOf, payloadOf, Verdict, passed, failed, verdict, serviceSync, syncSequence, tens, syncBlock}
+use Rattle.block.proofs.Lengths.{length-facts}
 use Rattle.block.proofs.Block.{length-syncBlock}
 use Rattle.block.proofs.Truth.{cond-case, either, bit-false}
 use Rattle.line.specs.Marks.{isMark}
@@ -124,7 +125,7 @@ judge-fails in-use k r ended row h =
 
 sync-front : (k : ℕ) → isLength k ≡ true → length (serviceSync ++ tens (k / 2)) ≡ k + 4
 unfolding syncBlock
-sync-front k h = omega (arith, length-syncBlock k h, length-append (serviceSync ++ tens (k / 2)) syncSequence)
+sync-front k h = omega (arith, length-syncBlock k (length-facts k h .0), length-append (serviceSync ++ tens (k / 2)) syncSequence)
 
 -- unharmed, it is read by rule 1
 pub judge-sync : (in-use : Bool) (k r : ℕ) (ended : Bool) → isLength k ≡ true → judge in-use k r ended (syncBlock k) ≡ sync-block

@@ -9,6 +9,7 @@ use Rattle.crc.specs.Bits.{Bits}
 use Rattle.crc.specs.Check.{passes}
 use Rattle.block.specs.Lengths.{isLength}
 use Rattle.block.specs.Block.{syncBlock}
+use Rattle.block.proofs.Lengths.{length-facts}
 use Rattle.block.proofs.Block.{sync-fails}
 use Rattle.line.specs.Order.{longestOrder, itemService, itemPayload, itemBits}
 use Rattle.line.specs.Receiving.{Rule, sync-block, meaning, serviceRule, judge}
@@ -34,4 +35,8 @@ pub sync-not-read : (in-use : Bool) (k r : ℕ) (ended : Bool) → isLength k �
     → (passes (syncBlock k) ≡ false) × (judge in-use k r ended (syncBlock k) ≡ sync-block)
     × (meaning (judge in-use k r ended (syncBlock k)) .data-or-end ≡ false)
 sync-not-read in-use k r ended known =
-    (sync-fails k known, judge-sync in-use k r ended known, ap (λ (x : Rule). meaning x .data-or-end) (judge-sync in-use k r ended known))
+    let f = length-facts k known in (
+      sync-fails k (f .0) (omega arith) (f .2),
+      judge-sync in-use k r ended known,
+      ap (λ (x : Rule). meaning x .data-or-end) (judge-sync in-use k r ended known),
+    )

@@ -16,11 +16,11 @@ use Rattle.line.proofs.order.write_end.Tie as tie
 end-data-requires : tie.Need-end-data-requires
 end-data-requires c κs = search needs
 
-slice-aggregate-build-block : tie.Need-slice-aggregate-build-block
-slice-aggregate-build-block c = search needs
+slice-aggregate-build : tie.Need-slice-aggregate-build
+slice-aggregate-build c = search needs
 
-build-block-requires : tie.Need-build-block-requires
-build-block-requires c κs = search needs
+build-requires : tie.Need-build-requires
+build-requires c κs = search needs
 
 same-length : tie.Need-same-length
 same-length c = search needs
@@ -32,7 +32,7 @@ returns c =
     let f = length-facts (a .k) (start .pre .0) in
     let d = c .before .before .before .before .before .end-data in
     let n : length (d .result) ≡ 480 = search needs in
-    let b = c .before .before .build-block in
+    let b = c .before .before .build in
     built (a .k) (a .block .now) (b .result) (b .last .1 .1 .1 .0) (start .pre .0) (start .pre .2) endService (d .result)
     (omega arith) (omega arith) (b .ensures)
     ∙ ap (λ (p : Bits). overwritten (blockBytes (a .k)) (blockBits (binary 4 endService) p) (a .block .now))
@@ -43,7 +43,7 @@ write-end-spec =
     tie.close
     (tie.spec
     end-data-requires
-    slice-aggregate-build-block
-    build-block-requires
+    slice-aggregate-build
+    build-requires
     same-length
     returns)

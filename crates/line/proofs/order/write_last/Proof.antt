@@ -22,11 +22,11 @@ last-data-requires c κs =
     let f = length-facts (a .args .k) (a .pre .0) in
     search needs
 
-slice-aggregate-build-block : tie.Need-slice-aggregate-build-block
-slice-aggregate-build-block c = search needs
+slice-aggregate-build : tie.Need-slice-aggregate-build
+slice-aggregate-build c = search needs
 
-build-block-requires : tie.Need-build-block-requires
-build-block-requires c κs = search needs
+build-requires : tie.Need-build-requires
+build-requires c κs = search needs
 
 same-length : tie.Need-same-length
 same-length c = search needs
@@ -38,7 +38,7 @@ returns c =
     let f = length-facts (a .k) (start .pre .0) in
     let d = c .before .before .before .before .before .last-data in
     let n : length (d .result) ≡ 480 = search needs in
-    let b = c .before .before .build-block in
+    let b = c .before .before .build in
     built (a .k) (a .block .now) (b .result) (b .last .1 .1 .1 .0) (start .pre .0) (start .pre .4) (a .service) (d .result)
     (start .pre .5) (omega arith) (b .ensures)
     ∙ ap (λ (p : Bits). overwritten (blockBytes (a .k)) (blockBits (binary 4 (a .service)) p) (a .block .now))
@@ -50,7 +50,7 @@ write-last-spec =
     (tie.spec
     mul-last-data
     last-data-requires
-    slice-aggregate-build-block
-    build-block-requires
+    slice-aggregate-build
+    build-requires
     same-length
     returns)

@@ -25,21 +25,21 @@ add-end c =
     let f = length-facts (a .args .k) (a .pre .0) in
     search needs
 
-sub-build-block : tie.Need-sub-build-block
-sub-build-block c = search needs
+sub-build : tie.Need-sub-build
+sub-build c = search needs
 
-part-build-block-start : tie.Need-part-build-block-start
-part-build-block-start c = search needs
+part-build-start : tie.Need-part-build-start
+part-build-start c = search needs
 
-part-build-block-end : tie.Need-part-build-block-end
-part-build-block-end c =
+part-build-end : tie.Need-part-build-end
+part-build-end c =
     let a = c .before .before in
     let e = item-byte (a .args .i) (a .args .k) (a .pre .0) in
     let f = length-facts (a .args .k) (a .pre .0) in
     search needs
 
-build-block-requires : tie.Need-build-block-requires
-build-block-requires c κs = search needs
+build-requires : tie.Need-build-requires
+build-requires c κs = search needs
 
 same-length : tie.Need-same-length
 same-length c = search needs
@@ -48,7 +48,7 @@ returns : tie.Need-returns
 returns c =
     let start = c .before .before .before .before .before .before .before in
     let a = start .args in
-    let b = c .before .before .build-block in
+    let b = c .before .before .build in
     let f = length-facts (a .k) (start .pre .0) in
     let g = item-byte (a .i) (a .k) (start .pre .0) in
     let m = a .k / 8 in
@@ -70,9 +70,9 @@ write-whole-spec =
     (tie.spec
     mul-start
     add-end
-    sub-build-block
-    part-build-block-start
-    part-build-block-end
-    build-block-requires
+    sub-build
+    part-build-start
+    part-build-end
+    build-requires
     same-length
     returns)

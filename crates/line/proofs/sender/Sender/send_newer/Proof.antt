@@ -22,8 +22,8 @@ write-item-requires c κs =
     let r = in-range (start .args .self) (start .pre .sender .range) in
     (r .known, r .valid, start .pre .order-lent, start .pre .room)
 
-cancel-block-requires : tie.Need-cancel-block-requires
-cancel-block-requires c κs = search needs
+cancel-requires : tie.Need-cancel-requires
+cancel-requires c κs = search needs
 
 repeated-requires : tie.Need-repeated-requires
 repeated-requires c κs = search needs
@@ -37,8 +37,8 @@ same-length c = search needs
 returns : tie.Need-returns
 unfolding transmit sentBits
 returns c =
-    let b = c .before .before .before .before .cancel-block in
-    let t = c .before .before .before .before .before .before in
+    let b = c .before .before .before .before .cancel in
+    let t = c .before .before .before .before .before .before .before in
     let w = t .before .before .before in
     let start = w .before .before .before .before .before in
     let a = start .args in
@@ -86,7 +86,7 @@ send-newer-spec =
     tie.close
     (tie.spec
     write-item-requires
-    cancel-block-requires
+    cancel-requires
     repeated-requires
     item-requires
     same-length

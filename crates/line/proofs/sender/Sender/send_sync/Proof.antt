@@ -7,8 +7,8 @@ use Rattle.line.proofs.ItemBlocks.{synchronised}
 use Rattle.line.proofs.sender.Sender.send_sync.Statement.{statement}
 use Rattle.line.proofs.sender.Sender.send_sync.Tie as tie
 
-synchronising-block-requires : tie.Need-synchronising-block-requires
-synchronising-block-requires c κs = search needs
+synchronising-requires : tie.Need-synchronising-requires
+synchronising-requires c κs = search needs
 
 same-length : tie.Need-same-length
 same-length c = search needs
@@ -16,10 +16,10 @@ same-length c = search needs
 returns : tie.Need-returns
 unfolding transmit sentBits
 returns c order reading =
-    let start = c .before .before .before .before .before .before .before in
+    let start = c .before .before .before .before .before .before .before .before in
     let a = start .args in
     let r = in-range (a .self) (start .pre .0 .range) in
-    let b = c .before .before .before .synchronising-block in
+    let b = c .before .before .before .synchronising in
     record {
       answers = refl;
       state = refl;
@@ -28,4 +28,4 @@ returns c order reading =
     }
 
 pub send-sync-spec : {M : Type 1} → statement M
-send-sync-spec = tie.close (tie.spec synchronising-block-requires same-length returns)
+send-sync-spec = tie.close (tie.spec synchronising-requires same-length returns)

@@ -7,8 +7,8 @@ use native.Mathlib.Omega.{arith}
 use Prim.Native.Nat.{ℕ, _+_, _/_}
 use lib.ListN.{take, drop, length-set}
 use Rattle.block.proofs.Packing.{check-bytes, three-stores}
-use Rattle.block.proofs.put_check.Statement.{statement}
-use Rattle.block.proofs.put_check.Tie as tie
+use Rattle.block.proofs.packed.put_check.Statement.{statement}
+use Rattle.block.proofs.packed.put_check.Tie as tie
 
 cast-block : tie.Need-cast-block
 cast-block c = search needs

@@ -12,8 +12,8 @@ use lib.ListN.{length, getD, take, drop, set, length-set, take-append-drop}
 use lib.Seq.{take-suc-set, drop-set-lt, drop-drop}
 use Rattle.crc.specs.Bits.{Bits, binary, bitsOf, bytesOf}
 use Rattle.block.proofs.Packing.{drop-half-first, shifted-first}
-use Rattle.block.proofs.shift_half.Statement.{statement}
-use Rattle.block.proofs.shift_half.Tie as tie
+use Rattle.block.proofs.packed.shift_half.Statement.{statement}
+use Rattle.block.proofs.packed.shift_half.Tie as tie
 
 -- what is to come from place i on: the half of the byte there, and the bytes behind it
 abbrev toCome : List ℕ → ℕ → Bits

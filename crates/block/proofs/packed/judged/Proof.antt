@@ -1,7 +1,7 @@
 -- `judged` judges by zero. Assumes nothing.
 use borrow.Author.Tests.{eq-eqb, ne-eqb}
-use Rattle.block.proofs.judged.Statement.{statement}
-use Rattle.block.proofs.judged.Tie as tie
+use Rattle.block.proofs.packed.judged.Statement.{statement}
+use Rattle.block.proofs.packed.judged.Tie as tie
 
 returns : tie.Need-returns
 returns c = rw (ne-eqb (c .before .args .remainder) 0 (c .if1 .taken))

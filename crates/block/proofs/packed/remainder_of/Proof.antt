@@ -13,8 +13,8 @@ use Rattle.crc.proofs.Rows.{length-binary, number-binary}
 use Rattle.crc.proofs.Codeword.{remainder-behind}
 use Rattle.crc.proofs.Register.{register-append, register-check}
 use Rattle.block.proofs.Packing.{block-parts}
-use Rattle.block.proofs.remainder_of.Statement.{statement}
-use Rattle.block.proofs.remainder_of.Tie as tie
+use Rattle.block.proofs.packed.remainder_of.Statement.{statement}
+use Rattle.block.proofs.packed.remainder_of.Tie as tie
 
 whole : (m : ℕ) (s : List ℕ) (c r : ℕ) → m + 3 ≤ length s → r < 2 ^ 16
     → c ≡ register (register 0 (bitsOf (take m s))) (binary 4 (getD s m 0 / 16))
