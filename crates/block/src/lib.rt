@@ -7,6 +7,7 @@ ghost use Rattle.crc.specs.Bits.{binary};
 ghost use Rattle.block.specs.Lengths.{isLength};
 ghost use Rattle.block.specs.Calls.{readAnswer, carriedRemainder, tooShort, BuildBlock, CheckBlock, ReadService, MoveData, ReadBlock, BuildSync, CancelBlock};
 ghost use Rattle.block.specs.Packed.{LookUp};
+
 pub mod packed;
 
 use crate::packed::shift_half;

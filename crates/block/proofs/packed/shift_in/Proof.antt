@@ -93,8 +93,7 @@ returns-2 : tie.Need-returns-2
 returns-2 c =
     let a = c .before .before .before .before .before .before .before .before .before .args in
     let k = c .before in
-    let hm : 0 < a .m = omega arith in
-    (
+    let hm : 0 < a .m = omega arith in (
       rest (a .m) (a .service) (a .payload .now) hm (omega arith),
       front (a .m) (a .service) (a .payload .now) (a .block .now) _ hm (omega arith) (omega arith)
           (k .shared-slice-known2 .given 0 .fits) (k .before .before .before .shift-half .ensures),
