@@ -37,11 +37,11 @@ extern "C" {
 /* ---- the version ---- */
 
 /*
- * Version 5.0.0: major * 65536 + minor * 256 + patch. A later version with the same major number keeps the layouts, the
+ * Version 5.0.1: major * 65536 + minor * 256 + patch. A later version with the same major number keeps the layouts, the
  * numbers, the signatures and the promises of this one (docs/VERSION.md). order_line_version returns the version of the
  * library; the two differ where a header and a library of different versions were brought together.
  */
-#define ORDER_LINE_VERSION 0x050000u
+#define ORDER_LINE_VERSION 0x050001u
 
 uint32_t order_line_version(void);
 
