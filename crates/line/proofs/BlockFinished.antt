@@ -4,7 +4,7 @@ use mathlib.Core.Path.{_≡_, refl, sym, ap, _∙_, subst}
 use mathlib.Core.Bool.{Bool, true, false, _||_, or-false}
 use mathlib.Core.List.{List, [], _∷_, _++_}
 use mathlib.Core.Logic.{⊎-elim}
-use Prim.Native.Nat.{ℕ, _+_, _-_, _*_, _/_, _≤_}
+use Prim.Native.Nat.{ℕ, _+_, _-_, _*_, _/_, _%_, _≤_}
 use native.Mathlib.Omega.{arith}
 use borrow.Author.Tests.{le-ltb}
 use lib.Dec.{leb}
@@ -16,7 +16,7 @@ use Rattle.crc.specs.Bits.{Bits, bitsOf, bytesOf}
 use Rattle.crc.proofs.Bytes.{length-bitsOf, bitsOf-append, bitsOf-bytesOf-exact}
 use Rattle.block.specs.Answer as A
 use Rattle.block.specs.Answer.{done}
-use Rattle.block.specs.Lengths.{isLength, blockLength}
+use Rattle.block.specs.Lengths.{blockLength}
 use Rattle.block.specs.Block.{payloadOf, passed, failed, verdict}
 use Rattle.block.specs.Calls.{tooShort, readAnswer, carriedRemainder, movedBytes, MoveData}
 use Rattle.block.specs.Packed.{ServicePacked}
@@ -24,7 +24,6 @@ use Rattle.block.specs.declared.Built.{Built}
 use Rattle.block.specs.declared.Read.{Read}
 use Rattle.block.specs.declared.Read.the-variants as B
 use Rattle.block.proofs.Read.{the-type}
-use Rattle.block.proofs.Lengths.{length-facts, length-bytes}
 use Rattle.block.proofs.Refusals.{service-done, move-done}
 use Rattle.line.specs.Receiving.{lastBad, afterBad, Rule, sync-block, check-fails, accepts, meaning, endRule, serviceRule, looksSync, judge, orWait, blockRule, stops, Reception, storeAt}
 use Rattle.line.specs.Code.ReceiveSteps.{ruleOf, stepped, handedBack, judged, Handed}
@@ -106,14 +105,15 @@ module _ (s : Receiver) (row : Bits) (ready : Bool) where
 
 -- ---- the reader's answer and the data moved
 
-module _ (k : ℕ) (known : isLength k ≡ true) (slice : List ℕ) (h : blockLength k ≤ 8 * length slice) where
+module _ (k : ℕ) (slice : List ℕ) (h : blockLength k ≤ 8 * length slice) where
   abbrev row : Bits
   row = take (blockLength k) (bitsOf slice)
 
-  module _ (answer : Read) (below : ServicePacked (8 * (k / 8)) slice answer) where
+  module _ (whole : k % 8 ≡ 0) (answer : Read) (below : ServicePacked (8 * (k / 8)) slice answer) where
     answered : readAnswer answer ≡ done (verdict row)
     answered =
-        let p = subst (λ (x : ℕ). ServicePacked x slice answer) (length-bytes k known) below in
+        let e : 8 * (k / 8) ≡ k = omega arith in
+        let p = subst (λ (x : ℕ). ServicePacked x slice answer) e below in
         p .answers ∙ service-done k slice (le-ltb (8 * length slice) (blockLength k) h)
 
     pub check-passes : (service : ℕ) → answer ≡ B.Passed service → verdict row ≡ passed service
@@ -134,14 +134,12 @@ module _ (k : ℕ) (known : isLength k ≡ true) (slice : List ℕ) (h : blockLe
   -- the first m data bytes
   same-data : (m : ℕ) → 8 * m ≤ k → payloadOf (8 * m) (bitsOf slice) ≡ take (8 * m) (payloadOf k row)
   same-data m l =
-      let f = length-facts k known in
       sym (take-take (8 * m) (blockLength k - 4) (drop 4 (bitsOf slice)) (omega arith))
       ∙ ap (take (8 * m)) (sym (drop-take 4 (blockLength k) (bitsOf slice) (omega arith) (omega (arith, length-bitsOf slice))))
       ∙ sym (take-take (8 * m) k (drop 4 row) l)
 
   pub length-data : length (payloadOf k row) ≡ k
   length-data =
-      let f = length-facts k known in
       let n : length row ≡ blockLength k = length-take-le (blockLength k) (bitsOf slice) (omega (arith, length-bitsOf slice)) in
       length-take-le k (drop 4 row) (omega (arith, length-drop 4 row))
 
@@ -149,7 +147,6 @@ module _ (k : ℕ) (known : isLength k ≡ true) (slice : List ℕ) (h : blockLe
       (p : MoveData m slice payload answer payload′) where
     pub data-moved : payload′ ≡ bytesOf m (take (8 * m) (payloadOf k row)) ++ drop m payload
     data-moved =
-        let f = length-facts k known in
         p .writes ∙ ap (movedBytes m slice payload) (move-done m slice payload (omega arith) room)
         ∙ ap (λ (d : Bits). bytesOf m d ++ drop m payload) (same-data m l)
 

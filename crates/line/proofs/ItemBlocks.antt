@@ -1,9 +1,8 @@
 -- The packed calls on services and slices that they do not turn away, and an item's data as rows of the order.
 -- Assumes nothing.
 use mathlib.Core.Path.{_≡_, ap, ap₂, sym, subst, _∙_}
-use mathlib.Core.Bool.{true}
 use mathlib.Core.List.{List, _++_, append-assoc}
-use Prim.Native.Nat.{ℕ, _+_, _-_, _*_, _/_, _≤_, _<_}
+use Prim.Native.Nat.{ℕ, _+_, _-_, _*_, _/_, _%_, _≤_, _<_}
 use native.Mathlib.Nat.{mul-left-comm, mul-le-mul-right, div-mul-le-self, lt-div-mul-add}
 use native.Mathlib.Omega.{arith}
 use borrow.Author.Tests.{le-ltb}
@@ -13,12 +12,11 @@ use Rattle.crc.specs.Bits.{Bits, binary, bitsOf, bytesOf, zeros}
 use Rattle.crc.proofs.Rows.{length-binary}
 use Rattle.crc.proofs.Bytes.{length-bitsOf, bitsOf-append, take-bitsOf, drop-bitsOf, length-bytesOf, bytesOf-zeros, bitsOf-bytesOf, bytesOf-bitsOf, bytesOf-append, drop-bytes}
 use Rattle.block.specs.Answer.{done}
-use Rattle.block.specs.Lengths.{isLength, blockLength, blockBytes}
+use Rattle.block.specs.Lengths.{blockLength, blockBytes}
 use Rattle.block.specs.Block.{blockBits, syncBlock, cancelled}
 use Rattle.block.specs.Calls.{overwritten, builtBytes, syncBytes, cancelBytes}
 use Rattle.block.specs.Packed.{buildPacked, BuildPacked, heldPacked, SyncPacked, CancelPacked}
 use Rattle.block.specs.declared.Built.{Built}
-use Rattle.block.proofs.Lengths.{length-facts, length-bytes}
 use Rattle.block.proofs.Block.{length-cancelled}
 use Rattle.block.proofs.Refusals.{held-done}
 use Rattle.line.specs.Order.{itemCount, dataService, filled, orderBits, version, endPayload, itemBits}
@@ -28,14 +26,17 @@ use Rattle.line.proofs.LastItem.{take-zeros, drop-take}
 
 -- ---- the calls
 
-module _ (k : ℕ) (slice : List ℕ) (answer : Built) (slice′ : List ℕ) (h : isLength k ≡ true)
+whole-bytes : (k : ℕ) → k % 8 ≡ 0 → 8 * (k / 8) ≡ k
+whole-bytes k h = omega arith
+
+module _ (k : ℕ) (slice : List ℕ) (answer : Built) (slice′ : List ℕ) (whole : k % 8 ≡ 0)
     (room : blockLength k ≤ 8 * length slice) where
   pub built : (service : ℕ) (payload : List ℕ) → service < 16 → k ≤ 8 * length payload
       → BuildPacked (8 * (k / 8)) service payload slice answer slice′
       → slice′ ≡ overwritten (blockBytes k) (blockBits (binary 4 service) (take k (bitsOf payload))) slice
   unfolding buildPacked
   built service payload s l below =
-      let p = subst (λ (x : ℕ). BuildPacked x service payload slice answer slice′) (length-bytes k h) below in
+      let p = subst (λ (x : ℕ). BuildPacked x service payload slice answer slice′) (whole-bytes k whole) below in
       let e : buildPacked k service payload slice ≡ done tt =
       simp (le-ltb 15 service (omega arith), le-ltb (8 * length payload) k l, le-ltb (8 * length slice) (blockLength k) room)
       in
@@ -46,22 +47,21 @@ module _ (k : ℕ) (slice : List ℕ) (answer : Built) (slice′ : List ℕ) (h 
 
   pub synchronised : SyncPacked (8 * (k / 8)) slice answer slice′ → slice′ ≡ overwritten (blockBytes k) (syncBlock k) slice
   synchronised below =
-      let p = subst (λ (x : ℕ). SyncPacked x slice answer slice′) (length-bytes k h) below in
+      let p = subst (λ (x : ℕ). SyncPacked x slice answer slice′) (whole-bytes k whole) below in
       p .writes ∙ ap (syncBytes k slice) held
 
   pub cancels : CancelPacked (8 * (k / 8)) slice answer slice′ → slice′ ≡ cancelBytes k slice (done tt)
   cancels below =
-      let p = subst (λ (x : ℕ). CancelPacked x slice answer slice′) (length-bytes k h) below in
+      let p = subst (λ (x : ℕ). CancelPacked x slice answer slice′) (whole-bytes k whole) below in
       p .writes ∙ ap (cancelBytes k slice) held
 
 -- the bits of a slice over which a block was written
-module _ (k : ℕ) (row : Bits) (slice : List ℕ) (h : isLength k ≡ true) (n : length row ≡ blockLength k) where
+module _ (k : ℕ) (row : Bits) (slice : List ℕ) (whole : k % 8 ≡ 0) (n : length row ≡ blockLength k) where
   abbrev behind : List ℕ
   behind = drop (blockBytes k) slice
 
   bits-overwritten : bitsOf (overwritten (blockBytes k) row slice) ≡ row ++ (zeros 4 ++ bitsOf behind)
   bits-overwritten =
-      let f = length-facts k h in
       let e : 8 * blockBytes k - length row ≡ 4 = omega arith in
       bitsOf-append (bytesOf (blockBytes k) row) behind
       ∙ ap (λ (l : Bits). l ++ bitsOf behind)
@@ -72,7 +72,6 @@ module _ (k : ℕ) (row : Bits) (slice : List ℕ) (h : isLength k ≡ true) (n 
   pub cancel-overwritten : ((i : ℕ) → getD slice i 0 < 256)
       → cancelBytes k (overwritten (blockBytes k) row slice) (done tt) ≡ overwritten (blockBytes k) (cancelled row) slice
   cancel-overwritten bytes =
-      let f = length-facts k h in
       let m : ℕ = blockBytes k in
       let s : List ℕ = overwritten m row slice in
       let l : length s ≡ m + length behind =
@@ -105,22 +104,21 @@ end-data k L h g payload e =
 
 -- ---- item i of an order, in bytes
 
-pub item-byte : (i k : ℕ) → isLength k ≡ true → 8 * (i * (k / 8)) ≡ i * k
-item-byte i k h = mul-left-comm 8 i (k / 8) ∙ ap (λ (j : ℕ). i * j) (length-bytes k h)
+pub item-byte : (i k : ℕ) → k % 8 ≡ 0 → 8 * (i * (k / 8)) ≡ i * k
+item-byte i k h = mul-left-comm 8 i (k / 8) ∙ ap (λ (j : ℕ). i * j) (whole-bytes k h)
 
-pub whole-data : (i k : ℕ) (order : List ℕ) → isLength k ≡ true
+pub whole-data : (i k : ℕ) (order : List ℕ) → k % 8 ≡ 0
     → take k (bitsOf (take (k / 8) (drop (i * (k / 8)) order))) ≡ take k (drop (i * k) (bitsOf order))
 whole-data i k order h =
     ap (take k) (sym (take-bitsOf (k / 8) (drop (i * (k / 8)) order)) ∙ ap (take (8 * (k / 8))) (sym (drop-bitsOf (i * (k / 8)) order)))
-    ∙ ap₂ (λ (m a : ℕ). take k (take m (drop a (bitsOf order)))) (length-bytes k h) (item-byte i k h)
+    ∙ ap₂ (λ (m a : ℕ). take k (take m (drop a (bitsOf order)))) (whole-bytes k h) (item-byte i k h)
     ∙ take-take k k (drop (i * k) (bitsOf order)) (omega arith)
 
-pub last-data : (i k bits : ℕ) (order payload : List ℕ) → isLength k ≡ true → i * k ≤ bits → bits ≤ i * k + k
+pub last-data : (i k bits : ℕ) (order payload : List ℕ) → k % 8 ≡ 0 → k ≤ 3840 → i * k ≤ bits → bits ≤ i * k + k
     → bits ≤ 8 * length order
     → payload ≡ bytesOf 480 (drop (8 * (i * (k / 8))) (orderBits bits order))
     → take k (bitsOf payload) ≡ drop (i * k) (orderBits bits order) ++ zeros (i * k + k - bits)
-last-data i k bits order payload h from to lent e =
-    let f = length-facts k h in
+last-data i k bits order payload h high from to lent e =
     let row : Bits = drop (i * k) (orderBits bits order) in
     let n : length row ≡ bits - i * k =
     length-drop (i * k) (orderBits bits order) ∙ ap (λ (j : ℕ). j - i * k) (length-orderBits bits order lent)

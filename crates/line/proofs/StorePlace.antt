@@ -28,7 +28,7 @@ module _ (k taken : ℕ) (known : isLength k ≡ true) where
   module _ (store : List ℕ) where
     pub room : tooShort store (taken * k + k) ≡ false → taken * (k / 8) + k / 8 ≤ length store
     room e =
-        let i = item-byte taken k known in
+        let i = item-byte taken k (length-facts k known .0) in
         let f = length-bytes k known in
         let h = ltb-false (8 * length store) (taken * k + k) e in
         omega arith
@@ -36,7 +36,7 @@ module _ (k taken : ℕ) (known : isLength k ≡ true) where
     -- the test in whole bytes
     pub room-test : leb (taken * (k / 8) + k / 8) (length store) ≡ not (tooShort store (taken * k + k))
     room-test =
-        let i = item-byte taken k known in
+        let i = item-byte taken k (length-facts k known .0) in
         let f = length-bytes k known in
         ⊎-elim
         (λ (e : tooShort store (taken * k + k) ≡ true).
@@ -64,5 +64,5 @@ module _ (k taken : ℕ) (known : isLength k ≡ true) where
           ap (λ (x : List ℕ). take from store ++ (x ++ drop n rest)) p
           ∙ ap (λ (i : ℕ). take from store ++ (new ++ drop i rest)) (en ∙ sym l)
           ∙ placed-store store new from g bs (bytesOf-lt (k / 8) d)
-          ∙ ap (λ (x : ℕ). storeAt x (bitsOf new) store) (item-byte taken k known)
+          ∙ ap (λ (x : ℕ). storeAt x (bitsOf new) store) (item-byte taken k (length-facts k known .0))
           ∙ ap (λ (x : Bits). storeAt (taken * k) x store) (bitsOf-bytesOf-exact (k / 8) d (ed ∙ sym (length-bytes k known)))

@@ -33,7 +33,7 @@ returns c =
     let d = c .before .before .before .before .before .end-data in
     let n : length (d .result) ≡ 480 = search needs in
     let b = c .before .before .build in
-    built (a .k) (a .block .now) (b .result) (b .last .1 .1 .1 .0) (start .pre .0) (start .pre .2) endService (d .result)
+    built (a .k) (a .block .now) (b .result) (b .last .1 .1 .1 .0) (f .0) (start .pre .2) endService (d .result)
     (omega arith) (omega arith) (b .ensures)
     ∙ ap (λ (p : Bits). overwritten (blockBytes (a .k)) (blockBits (binary 4 endService) p) (a .block .now))
     (end-data (a .k) (a .bits) (omega arith) (omega arith) (d .result) (d .ensures))

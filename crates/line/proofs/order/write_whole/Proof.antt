@@ -16,12 +16,12 @@ use Rattle.line.proofs.order.write_whole.Statement.{statement}
 use Rattle.line.proofs.order.write_whole.Tie as tie
 
 mul-start : tie.Need-mul-start
-mul-start c = let a = c .before .before in let e = item-byte (a .args .i) (a .args .k) (a .pre .0) in search needs
+mul-start c = let a = c .before .before in let e = item-byte (a .args .i) (a .args .k) (length-facts (a .args .k) (a .pre .0) .0) in search needs
 
 add-end : tie.Need-add-end
 add-end c =
     let a = c .before .before in
-    let e = item-byte (a .args .i) (a .args .k) (a .pre .0) in
+    let e = item-byte (a .args .i) (a .args .k) (length-facts (a .args .k) (a .pre .0) .0) in
     let f = length-facts (a .args .k) (a .pre .0) in
     search needs
 
@@ -34,7 +34,7 @@ part-build-start c = search needs
 part-build-end : tie.Need-part-build-end
 part-build-end c =
     let a = c .before .before in
-    let e = item-byte (a .args .i) (a .args .k) (a .pre .0) in
+    let e = item-byte (a .args .i) (a .args .k) (length-facts (a .args .k) (a .pre .0) .0) in
     let f = length-facts (a .args .k) (a .pre .0) in
     search needs
 
@@ -50,7 +50,7 @@ returns c =
     let a = start .args in
     let b = c .before .before .build in
     let f = length-facts (a .k) (start .pre .0) in
-    let g = item-byte (a .i) (a .k) (start .pre .0) in
+    let g = item-byte (a .i) (a .k) (f .0) in
     let m = a .k / 8 in
     let from = a .i * (a .k / 8) in
     let part : List ℕ = take (from + m - from) (drop from (a .order .now)) in
@@ -58,11 +58,11 @@ returns c =
     let n : length part ≡ m =
     length-take-le (from + m - from) (drop from (a .order .now)) (omega (arith, length-drop from (a .order .now))) ∙ e
     in
-    built (a .k) (a .block .now) (b .result) (b .last .1 .1 .1 .0) (start .pre .0) (start .pre .2) (a .service) part
+    built (a .k) (a .block .now) (b .result) (b .last .1 .1 .1 .0) (f .0) (start .pre .2) (a .service) part
     (start .pre .3) (omega arith) (b .ensures)
     ∙ ap (λ (p : Bits). overwritten (blockBytes (a .k)) (blockBits (binary 4 (a .service)) p) (a .block .now))
     (ap (λ (j : ℕ). take (a .k) (bitsOf (take j (drop from (a .order .now))))) e
-    ∙ whole-data (a .i) (a .k) (a .order .now) (start .pre .0))
+    ∙ whole-data (a .i) (a .k) (a .order .now) (f .0))
 
 pub write-whole-spec : {M : Type 1} → statement M
 write-whole-spec =

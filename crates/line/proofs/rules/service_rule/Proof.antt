@@ -54,10 +54,10 @@ returns-3 c =
     let payload : List ℕ = m .move-data .last .1 .1 .0 in
     let n : length payload ≡ 5 = search needs in
     let d : Bits = payloadOf k (take (blockLength k) (bitsOf (a .args .row .now))) in
-    let l : length d ≡ k = length-data k (a .pre .0) (a .args .row .now) (a .pre .2) in
+    let l : length d ≡ k = length-data k (a .args .row .now) (a .pre .2) in
     c .end-rule .ensures
     ∙ end-first-bits k (a .args .taken) (a .args .ended) (bitsOf payload) (omega (arith, length-bitsOf payload))
-    ∙ ap (endRule k (a .args .taken) (a .args .ended)) (bits-moved k (a .pre .0) (a .args .row .now) (a .pre .2) 5 (omega arith) _ (omega arith) _ payload (m .move-data .ensures))
+    ∙ ap (endRule k (a .args .taken) (a .args .ended)) (bits-moved k (a .args .row .now) (a .pre .2) 5 (omega arith) _ (omega arith) _ payload (m .move-data .ensures))
     ∙ sym (end-first-bits k (a .args .taken) (a .args .ended) d (omega arith))
     ∙ sym (simp (sym (e .before .before .is-letter .ensures) ∙ e .before .if1 .left, eq-eqb _ _ (e .if3 .taken)))
 

@@ -9,6 +9,7 @@ use Rattle.crc.specs.Bits.{Bits, bitsOf}
 use Rattle.block.specs.Lengths.{blockLength}
 use Rattle.block.specs.Block.{failed}
 use Rattle.block.specs.Calls.{tooShort}
+use Rattle.block.proofs.Lengths.{length-facts}
 use Rattle.line.specs.Receiving.{sync-block, check-fails, orWait, blockRule}
 use Rattle.line.specs.ReceivingInPlace.{withArray}
 use Rattle.line.specs.Code.ReceiveSteps.{ruleOf, stepWith}
@@ -32,7 +33,7 @@ passed-rule c =
     let j = c .before in
     let k = j .before .before .before .before in
     let e = sym (k .before .before .looks-sync .ensures) ∙ k .before .if1 .left in
-    let v = check-passes (a .args .self .setup .k) (a .pre .range .known) (a .args .row .now) (a .pre .held) _ (k .read-service .ensures) _ (j .before .before .answer .given .1) in
+    let v = check-passes (a .args .self .setup .k) (a .args .row .now) (a .pre .held) (length-facts (a .args .self .setup .k) (a .pre .range .known) .0) _ (k .read-service .ensures) _ (j .before .before .answer .given .1) in
     c .or-wait .ensures ∙ ap (orWait (a .args .ready)) (j .service-rule .ensures)
     ∙ rule-passed (withArray (a .args .self) (a .args .array .now)) _ (a .args .ready) _ e v
 
@@ -74,7 +75,7 @@ returns-2 c =
     let b = m .before .before in
     let a = b .before .before .before .before .before in
     let e = sym (b .before .looks-sync .ensures) ∙ b .if1 .left in
-    let v = check-not-passed (a .args .self .setup .k) (a .pre .range .known) (a .args .row .now) (a .pre .held) _ (m .before .read-service .ensures) (m .match .keys2) ∙ ap failed (sym (n .remainder .ensures)) in
+    let v = check-not-passed (a .args .self .setup .k) (a .args .row .now) (a .pre .held) (length-facts (a .args .self .setup .k) (a .pre .range .known) .0) _ (m .before .read-service .ensures) (m .match .keys2) ∙ ap failed (sym (n .remainder .ensures)) in
     handed-rule _ _ _ _ _ (a .args .ready) (check-fails (n .remainder .result)) (rule-failed (withArray (a .args .self) (a .args .array .now)) _ (a .args .ready) (n .remainder .result) e v) refl
     (c .before .before .after-bad .ensures ∙ handed-bad (withArray (a .args .self) (a .args .array .now)) (n .remainder .result) (a .args .used))
 

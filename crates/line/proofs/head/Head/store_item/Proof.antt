@@ -52,14 +52,14 @@ module _ (s : Receiver) (known : isLength (s .setup .k) ≡ true) (slice store :
   wide = omega (arith, same, fits, length-take-le n (drop start store) (omega (arith, same, fits, length-drop start store)))
 
   all-data : take (8 * (k / 8)) (payloadOf k row) ≡ payloadOf k row
-  all-data = take-all (8 * (k / 8)) (payloadOf k row) (omega (arith, length-bytes k known, length-data k known slice h))
+  all-data = take-all (8 * (k / 8)) (payloadOf k row) (omega (arith, length-bytes k known, length-data k slice h))
 
   stored : (answer : Built) (part : List ℕ) → MoveData (k / 8) slice lent answer part → (r : Step) → r ≡ handedBack (stops s accepts [] used)
       → Handed s store (stops s accepts row used) r (put-back k (s .taken) known store n part)
   stored answer part p r e =
       handed-stored s row used store r _ held
-      (accepted-store k (s .taken) known store n part _ same (length-data k known slice h) fits bytes
-      (data-moved k known slice h (k / 8) (omega (arith, length-bytes k known)) lent wide answer part p
+      (accepted-store k (s .taken) known store n part _ same (length-data k slice h) fits bytes
+      (data-moved k slice h (k / 8) (omega (arith, length-bytes k known)) lent wide answer part p
       ∙ ap (λ (d : Bits). bytesOf (k / 8) d ++ drop (k / 8) lent) all-data))
       e
 

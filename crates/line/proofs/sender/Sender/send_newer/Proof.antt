@@ -8,6 +8,7 @@ use Rattle.crc.specs.Bits.{Bits}
 use Rattle.block.specs.Answer.{done}
 use Rattle.block.specs.Lengths.{blockLength}
 use Rattle.block.specs.Calls.{cancelBytes}
+use Rattle.block.proofs.Lengths.{length-facts}
 use Rattle.line.specs.Order.{orderBits, itemBits}
 use Rattle.line.specs.Sending.{transmit, sentBits}
 use Rattle.line.proofs.Items.{length-orderBits, length-itemBits}
@@ -46,6 +47,7 @@ returns c =
     let k = s .setup .k in
     let L = s .setup .length in
     let r = in-range s (start .pre .sender .range) in
+    let whole = length-facts k (r .known) .0 in
     let content : Bits = orderBits L (a .order .now) in
     let row : Bits = itemBits (s .setup .marks) k L content (s .newer) in
     let n : length row ≡ blockLength k =
@@ -57,9 +59,9 @@ returns c =
       answers = c .item .ensures;
       state = c .before .repeated .ensures;
       writes =
-          cancels k (w .write-item .last .1 .1 .1 .1 .1 .0) (b .result) (b .last .1 .0) (r .known) room (b .ensures)
+          cancels k (w .write-item .last .1 .1 .1 .1 .1 .0) (b .result) (b .last .1 .0) whole room (b .ensures)
           ∙ ap (λ (l : List ℕ). cancelBytes k l (done tt)) (w .write-item .ensures)
-          ∙ cancel-overwritten k row (a .block .now) (r .known) n (λ i. w .before .before .before .slice-known .given i .fits);
+          ∙ cancel-overwritten k row (a .block .now) whole n (λ i. w .before .before .before .slice-known .given i .fits);
     })
 
 confirmed-requires : tie.Need-confirmed-requires

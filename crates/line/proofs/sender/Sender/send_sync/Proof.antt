@@ -1,6 +1,7 @@
 -- `Sender::send_sync` sends a synchronising block. Assumes nothing.
 use borrow.Author.Needs.{needs}
 use mathlib.Core.Path.{refl}
+use Rattle.block.proofs.Lengths.{length-facts}
 use Rattle.line.specs.Sending.{transmit, sentBits}
 use Rattle.line.proofs.SenderRange.{in-range}
 use Rattle.line.proofs.ItemBlocks.{synchronised}
@@ -24,7 +25,7 @@ returns c order reading =
       answers = refl;
       state = refl;
       writes =
-          synchronised (a .self .setup .k) (a .block .now) (b .result) (b .last .1 .0) (r .known) (start .pre .1) (b .ensures);
+          synchronised (a .self .setup .k) (a .block .now) (b .result) (b .last .1 .0) (length-facts (a .self .setup .k) (r .known) .0) (start .pre .1) (b .ensures);
     }
 
 pub send-sync-spec : {M : Type 1} → statement M
