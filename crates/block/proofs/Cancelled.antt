@@ -13,7 +13,7 @@ use Rattle.crc.proofs.Bytes.{length-bitsOf, length-bytesOf, bitsOf-bytesOf-exac
 use Rattle.block.specs.Answer as A
 use Rattle.block.specs.Answer.{done}
 use Rattle.block.specs.Lengths.{blockLength}
-use Rattle.block.specs.Block.{passed, failed, verdict, cancelled}
+use Rattle.block.specs.Block.{failed, verdict, cancelled}
 use Rattle.block.specs.Calls.{tooShort, readAnswer, ReadBlock, cancelBytes, CancelBlock}
 use Rattle.block.specs.Packed.{ReadPacked, heldPacked, CancelPacked}
 use Rattle.block.specs.declared.Built.the-variants as B

@@ -9,7 +9,7 @@ use Rattle.block.specs.Answer as A
 use Rattle.block.specs.Answer.{Answer, refused, done}
 use Rattle.block.specs.Lengths.{isLength}
 use Rattle.block.specs.Block.{Verdict}
-use Rattle.block.specs.Calls.{builtAnswer, buildBlock, BuildBlock, checkBlock, CheckBlock, readAnswer, readService, ReadService, readBlock, ReadBlock, buildSync, BuildSync, cancelBlock, CancelBlock}
+use Rattle.block.specs.Calls.{buildBlock, BuildBlock, checkBlock, CheckBlock, readAnswer, readService, ReadService, readBlock, ReadBlock, buildSync, BuildSync, cancelBlock, CancelBlock}
 use Rattle.block.specs.Packed.{ifLength, lookUp, buildPacked, BuildPacked, checkPacked, CheckPacked, servicePacked, ServicePacked, readPacked, ReadPacked, heldPacked, SyncPacked, CancelPacked}
 use Rattle.block.specs.EveryLength.{LookedUpOnce}
 use Rattle.block.specs.declared.Built.{Built}

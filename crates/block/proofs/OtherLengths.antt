@@ -1,19 +1,18 @@
 -- The theorem over k at two lengths that no call by k admits, each with what meets its hypotheses: k 0, with the examples' five
 -- blocks, and k 248. Assumes nothing.
 use mathlib.Core.Path.{_≡_, refl, sym}
-use mathlib.Core.Bool.{true, false}
 use mathlib.Core.List.{List, [], _∷_, _++_}
 use Prim.Native.Nat.{ℕ, zero, suc, _<_}
 use lib.Dec.{lit<, lit≤}
 use lib.ListN.{getD, take, drop, replicate}
-use Rattle.crc.specs.Bits.{binary, number, bitsOf, bytesOf}
+use Rattle.crc.specs.Bits.{zeros, binary, number, bitsOf, bytesOf}
 use Rattle.crc.specs.Polynomial.{polynomial, Remainder}
 use Rattle.crc.specs.Check.{remainder, passes, check}
 use Rattle.block.specs.Answer as A
 use Rattle.block.specs.Answer.{refused, done}
 use Rattle.block.specs.Lengths.{isLength}
 use Rattle.block.specs.Block.{blockBits, verdict, syncBlock, cancelled}
-use Rattle.block.specs.Calls.{builtBytes, syncBytes, buildBlock}
+use Rattle.block.specs.Calls.{builtBytes, buildBlock}
 use Rattle.block.specs.Packed.{buildPacked, BuildPacked, checkPacked, CheckPacked, readPacked, ReadPacked, heldPacked, SyncPacked, CancelPacked}
 use Rattle.block.specs.EveryLength.{EveryLength}
 use Rattle.block.specs.declared.Built.the-variants as B
@@ -47,11 +46,11 @@ letter-read : ReadPacked 0 letter [] (R.Passed 3) []
 unfolding letter readPacked verdict passes remainder binary number bitsOf bytesOf
 letter-read = record { answers = refl; writes = refl }
 
-letter-bits : take 20 (bitsOf letter) ≡ blockBits (binary 4 3) (take 0 (bitsOf []))
-letter-bits = at-0 .packed 3 [] (0 ∷ 0 ∷ 0 ∷ []) letter letter-built
+letter-bits : bitsOf letter ≡ blockBits (binary 4 3) (take 0 (bitsOf [])) ++ (zeros 4 ++ bitsOf (drop 3 (0 ∷ 0 ∷ 0 ∷ [])))
+letter-bits = at-0 .packing 3 [] (0 ∷ 0 ∷ 0 ∷ []) letter letter-built
 
 letter-back : (R.Passed 3 ≡ R.Passed 3) × (_≡_ {A = List ℕ} [] (take 0 [] ++ drop 0 []))
-letter-back = at-0 .unpacked 3 [] (0 ∷ 0 ∷ 0 ∷ []) letter [] [] (R.Passed 3) (λ i. lit< tt) letter-built letter-read (lit≤ tt)
+letter-back = at-0 .unpacking 3 [] (0 ∷ 0 ∷ 0 ∷ []) letter [] [] (R.Passed 3) (λ i. lit< tt) letter-built letter-read (lit≤ tt)
 
 letter-cancelled : CancelPacked 0 letter B.Done (0x33 ∷ 0x06 ∷ 0x20 ∷ [])
 unfolding letter heldPacked cancelled binary number bitsOf bytesOf
@@ -62,14 +61,14 @@ unfolding readPacked verdict passes remainder binary number bitsOf bytesOf
 cancelled-read = record { answers = refl; writes = refl }
 
 shows-one : R.Failed 1 ≡ R.Failed 1
-shows-one = at-0 .cancelled 3 letter (0x33 ∷ 0x06 ∷ 0x20 ∷ []) [] [] [] [] (R.Failed 1) letter-read letter-cancelled cancelled-read (lit≤ tt)
+shows-one = at-0 .cancelling 3 letter (0x33 ∷ 0x06 ∷ 0x20 ∷ []) [] [] [] [] (R.Failed 1) letter-read letter-cancelled cancelled-read (lit≤ tt)
 
 -- without data the synchronising block is the example of 0101, and passes
 sync-written : SyncPacked 0 (0 ∷ 0 ∷ 0 ∷ []) B.Done (0x55 ∷ 0x0a ∷ 0x50 ∷ [])
 unfolding heldPacked syncBlock number bytesOf
 sync-written = record { answers = refl; writes = refl }
 
-sync-bits : take 20 (bitsOf (0x55 ∷ 0x0a ∷ 0x50 ∷ [])) ≡ syncBlock 0
+sync-bits : bitsOf (0x55 ∷ 0x0a ∷ 0x50 ∷ []) ≡ syncBlock 0 ++ (zeros 4 ++ bitsOf (drop 3 (0 ∷ 0 ∷ 0 ∷ [])))
 sync-bits = at-0 .synchronising (0 ∷ 0 ∷ 0 ∷ []) (0x55 ∷ 0x0a ∷ 0x50 ∷ []) sync-written
 
 sync-checked : CheckPacked 0 (0x55 ∷ 0x0a ∷ 0x50 ∷ []) (C.Remainder 0)
@@ -77,7 +76,7 @@ unfolding checkPacked remainder binary bitsOf
 sync-checked = record { answers = refl }
 
 sync-divides : Remainder (polynomial (take 20 (bitsOf (0x55 ∷ 0x0a ∷ 0x50 ∷ [])))) 0
-sync-divides = at-0 .checked (0x55 ∷ 0x0a ∷ 0x50 ∷ []) 0 sync-checked
+sync-divides = at-0 .checking (0x55 ∷ 0x0a ∷ 0x50 ∷ []) 0 sync-checked
 
 -- ---- k 248: 31 data bytes
 
@@ -110,7 +109,7 @@ read = record {
 
 read-back : (R.Passed 5 ≡ R.Passed 5) × (sample ≡ take 31 sample ++ drop 31 (replicate 31 0))
 unfolding sample
-read-back = at-248 .unpacked 5 sample (replicate 34 0) _ (replicate 31 0) sample (R.Passed 5) (sample-lt 31) built read (lit≤ tt)
+read-back = at-248 .unpacking 5 sample (replicate 34 0) _ (replicate 31 0) sample (R.Passed 5) (sample-lt 31) built read (lit≤ tt)
 
 -- the shortest synchronising block that fails
 sync-8 : SyncPacked 8 (0 ∷ 0 ∷ 0 ∷ 0 ∷ []) B.Done (0x5a ∷ 0xa5 ∷ 0x0a ∷ 0x50 ∷ [])

@@ -3,7 +3,7 @@
 use mathlib.Core.Path.{_≡_, refl, sym, ap, ap₂, _∙_}
 use mathlib.Core.Bool.{cond}
 use mathlib.Core.List.{List, [], _∷_, _++_, append-assoc}
-use Prim.Native.Nat.{ℕ, suc, _+_, _*_, _/_, _%_, _^_, _≤_, _<_}
+use Prim.Native.Nat.{ℕ, suc, _+_, _-_, _*_, _/_, _%_, _^_, _≤_, _<_}
 use native.Mathlib.Nat.{add-suc, le-of-lt}
 use native.Mathlib.Numerals.{add-one, add-two}
 use native.Mathlib.Omega.{arith}
@@ -14,8 +14,10 @@ use lib.Seq.{take-take, drop-at, take-suc, drop-cons, take-add, length-take-le, 
 use Rattle.crc.specs.Bits.{Bits, zeros, binary, number, bitsOf, bytesOf}
 use Rattle.crc.specs.Check.{remainder, passes}
 use Rattle.crc.proofs.Rows.{length-binary, number-binary, binary-mod, binary-join, binary-split}
-use Rattle.crc.proofs.Bytes.{length-bitsOf, take-bitsOf, drop-bitsOf, bitsOf-last, bytesOf-zeros, byte-first, bytesOf-front}
+use Rattle.crc.proofs.Bytes.{length-bitsOf, bitsOf-append, take-bitsOf, drop-bitsOf, bitsOf-last, bitsOf-bytesOf, bytesOf-zeros, byte-first, bytesOf-front}
+use Rattle.block.specs.Lengths.{blockLength, blockBytes}
 use Rattle.block.specs.Block.{passed, failed, verdict}
+use Rattle.block.specs.Calls.{overwritten}
 
 -- ---- the first bytes of a row
 
@@ -45,6 +47,17 @@ pub bytesOf-take : (m : ℕ) (bs : Bits) → 8 * m ≤ length bs → bytesOf m (
 bytesOf-take m bs h =
     sym (bytesOf-front m (take (8 * m) bs) (drop (8 * m) bs) (omega (arith, length-take-le (8 * m) bs h)))
     ∙ ap (bytesOf m) (take-append-drop (8 * m) bs)
+
+-- a row of n bits over the first bytes of a slice: behind it stand four zero bits and the other bytes
+pub bits-overwritten : (k : ℕ) (row : Bits) (slice : List ℕ) → k % 8 ≡ 0 → length row ≡ blockLength k
+    → bitsOf (overwritten (blockBytes k) row slice) ≡ row ++ (zeros 4 ++ bitsOf (drop (blockBytes k) slice))
+bits-overwritten k row slice whole n =
+    let e : 8 * blockBytes k - length row ≡ 4 = omega arith in
+    let behind : List ℕ = drop (blockBytes k) slice in
+    bitsOf-append (bytesOf (blockBytes k) row) behind
+    ∙ ap (λ (l : Bits). l ++ bitsOf behind)
+    (bitsOf-bytesOf (blockBytes k) row (omega arith) ∙ ap (λ (j : ℕ). row ++ zeros j) e)
+    ∙ append-assoc row (zeros 4) (bitsOf behind)
 
 -- ---- bytes shifted by half a byte
 

@@ -1,8 +1,8 @@
 -- Reading what building wrote gives the service bits and the data back. Assumes nothing.
 use mathlib.Core.Path.{_≡_, sym, ap, ap₂, _∙_}
 use mathlib.Core.Bool.{_||_}
-use mathlib.Core.List.{List, _++_, append-assoc}
-use Prim.Native.Nat.{ℕ, _+_, _-_, _*_, _/_, _%_, _≤_, _<_}
+use mathlib.Core.List.{List, _++_}
+use Prim.Native.Nat.{ℕ, _+_, _*_, _/_, _%_, _≤_, _<_}
 use native.Mathlib.Omega.{arith}
 use borrow.Author.Tests.{ltb-false}
 use lib.Dec.{ltb}
@@ -10,7 +10,7 @@ use lib.ListN.{length, getD, take, drop, length-append, length-drop}
 use lib.Seq.{take-at, take-append-le, drop-append-le, length-take-le}
 use Rattle.crc.specs.Bits.{Bits, zeros, binary, number, bitsOf, bytesOf}
 use Rattle.crc.proofs.Rows.{length-binary, number-binary}
-use Rattle.crc.proofs.Bytes.{length-bitsOf, bitsOf-append, length-bytesOf, bitsOf-bytesOf, packed-front}
+use Rattle.crc.proofs.Bytes.{length-bitsOf, length-bytesOf, packed-front}
 use Rattle.block.specs.Answer as A
 use Rattle.block.specs.Answer.{done}
 use Rattle.block.specs.Lengths.{blockLength, payloadBytes, blockBytes}
@@ -22,6 +22,7 @@ use Rattle.block.specs.declared.Read.{Read}
 use Rattle.block.specs.declared.Read.the-variants as R
 use Rattle.block.proofs.Lengths.{length-facts}
 use Rattle.block.proofs.Block.{length-blockBits, passes-blockBits, service-blockBits, payload-blockBits}
+use Rattle.block.proofs.Packing.{bits-overwritten}
 use Rattle.block.proofs.Refusals.{passed-test, read-done}
 use Rattle.block.proofs.LookUp.{built-below, read-below}
 use Rattle.block.proofs.Truth.{or-false}
@@ -50,16 +51,12 @@ module _ (k service : ℕ) (payload slice room : List ℕ) (whole : k % 8 ≡ 0)
 
   -- what stands in the slice behind the block
   abbrev behind : Bits
-  behind = zeros (8 * blockBytes k - length row) ++ bitsOf (drop (blockBytes k) slice)
+  behind = zeros 4 ++ bitsOf (drop (blockBytes k) slice)
 
-  bits-written : bitsOf written ≡ row ++ behind
-  bits-written =
-      let n : length row ≤ 8 * blockBytes k = omega (arith, length-row) in
-      bitsOf-append (bytesOf (blockBytes k) row) (drop (blockBytes k) slice)
-      ∙ ap (λ (l : Bits). l ++ bitsOf (drop (blockBytes k) slice)) (bitsOf-bytesOf (blockBytes k) row n)
-      ∙ append-assoc row (zeros (8 * blockBytes k - length row)) (bitsOf (drop (blockBytes k) slice))
+  pub bits-written : bitsOf written ≡ row ++ behind
+  bits-written = bits-overwritten k row slice whole length-row
 
-  pub row-written : take (blockLength k) (bitsOf written) ≡ row
+  row-written : take (blockLength k) (bitsOf written) ≡ row
   row-written = ap (take (blockLength k)) bits-written ∙ take-at row behind (blockLength k) length-row
 
   verdict-row : verdict row ≡ passed service

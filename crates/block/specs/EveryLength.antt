@@ -1,12 +1,13 @@
--- Packing, unpacking, check, synchronising block and cancelling, for every k that is a multiple of 8: the four lengths, and k 0 of
--- the examples, are no case of their own. 1 is refused above that, by the look-up alone. Assumes nothing.
+-- A block length is looked up once, and refused by 1 there alone. Below that packing, unpacking, check, synchronising block and
+-- cancelling are right for every k that is a multiple of 8: the four lengths are no case of their own, nor is k 0 of the
+-- examples. Assumes nothing.
 use mathlib.Core.Path.{_≡_}
 use mathlib.Core.List.{List, _++_}
 use Prim.Native.Nat.{ℕ, _*_, _%_, _≤_, _<_}
 use lib.ListN.{length, getD, take, drop}
-use Rattle.crc.specs.Bits.{binary, bitsOf}
+use Rattle.crc.specs.Bits.{zeros, binary, bitsOf}
 use Rattle.crc.specs.Polynomial.{polynomial, Remainder}
-use Rattle.block.specs.Lengths.{blockLength, payloadBytes}
+use Rattle.block.specs.Lengths.{blockLength, payloadBytes, blockBytes}
 use Rattle.block.specs.Block.{blockBits, syncBlock}
 use Rattle.block.specs.Calls.{buildBlock, checkBlock, readService, readBlock, buildSync, cancelBlock}
 use Rattle.block.specs.Packed.{ifLength, buildPacked, BuildPacked, checkPacked, CheckPacked, servicePacked, readPacked, ReadPacked, heldPacked, SyncPacked, CancelPacked}
@@ -25,26 +26,26 @@ pub record LookedUpOnce : Type 0 where
   pub cancels : (k : ℕ) (slice : List ℕ) → cancelBlock k slice ≡ ifLength k (heldPacked k slice)
 
 pub record EveryLength (k : ℕ) : Type 0 where
-  -- packing: the n bits written are those of the block
-  pub packed : (service : ℕ) (payload slice slice′ : List ℕ) → BuildPacked k service payload slice B.Done slice′
-      → take (blockLength k) (bitsOf slice′) ≡ blockBits (binary 4 service) (take k (bitsOf payload))
-  -- unpacking: a block that was built passes and is read with its service bits and its data, wherever the data have room
-  pub unpacked : (service : ℕ) (payload slice slice′ room room′ : List ℕ) (answer : Read) → ((i : ℕ) → getD payload i 0 < 256)
+  -- a block built: its n bits, four spare zero bits, and the other bytes as they were
+  pub packing : (service : ℕ) (payload slice slice′ : List ℕ) → BuildPacked k service payload slice B.Done slice′
+      → bitsOf slice′ ≡ blockBits (binary 4 service) (take k (bitsOf payload)) ++ (zeros 4 ++ bitsOf (drop (blockBytes k) slice))
+  -- it is read with its service bits and its data, wherever the data have room
+  pub unpacking : (service : ℕ) (payload slice slice′ room room′ : List ℕ) (answer : Read) → ((i : ℕ) → getD payload i 0 < 256)
       → BuildPacked k service payload slice B.Done slice′ → ReadPacked k slice′ room answer room′ → k ≤ 8 * length room
       → (answer ≡ R.Passed service) × (room′ ≡ take (payloadBytes k) payload ++ drop (payloadBytes k) room)
   -- the check hands over the remainder of the polynomial of all n bits
-  pub checked : (slice : List ℕ) (r : ℕ) → CheckPacked k slice (C.Remainder r)
+  pub checking : (slice : List ℕ) (r : ℕ) → CheckPacked k slice (C.Remainder r)
       → Remainder (polynomial (take (blockLength k) (bitsOf slice))) r
-  -- the synchronising block is written as it is defined
-  pub synchronising : (slice slice′ : List ℕ) → SyncPacked k slice B.Done slice′ → take (blockLength k) (bitsOf slice′) ≡ syncBlock k
-  -- and fails the check; with no data it would pass, since its sequence is the check of 0101
+  -- a synchronising block: its n bits, four spare zero bits, and the other bytes as they were
+  pub synchronising : (slice slice′ : List ℕ) → SyncPacked k slice B.Done slice′
+      → bitsOf slice′ ≡ syncBlock k ++ (zeros 4 ++ bitsOf (drop (blockBytes k) slice))
+  -- it fails the check, up to 3,840 data bits; without data it would pass, since its sequence is the check of 0101
   pub synchronising-fails : (slice slice′ : List ℕ) (r : ℕ) → 8 ≤ k → k ≤ 3840 → SyncPacked k slice B.Done slice′
       → CheckPacked k slice′ (C.Remainder r) → r ≡ 0 → ⊥
   -- a block that passes, once it is cancelled, fails with the remainder 1
-  pub cancelled : (service : ℕ) (slice slice′ room room′ again again′ : List ℕ) (answer : Read)
+  pub cancelling : (service : ℕ) (slice slice′ room room′ again again′ : List ℕ) (answer : Read)
       → ReadPacked k slice room (R.Passed service) room′ → CancelPacked k slice B.Done slice′
       → ReadPacked k slice′ again answer again′ → k ≤ 8 * length again → answer ≡ R.Failed 1
 
--- up to any length; the code is given at most 480 data bytes, 3,840 data bits
 abbrev pub AtEveryLength : Type 0
 AtEveryLength = (k : ℕ) → k % 8 ≡ 0 → EveryLength k

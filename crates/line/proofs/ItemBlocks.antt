@@ -10,7 +10,7 @@ use lib.ListN.{length, getD, take, drop, length-append, length-drop}
 use lib.Seq.{take-at, drop-at, take-take, take-append-le, drop-append-le}
 use Rattle.crc.specs.Bits.{Bits, binary, bitsOf, bytesOf, zeros}
 use Rattle.crc.proofs.Rows.{length-binary}
-use Rattle.crc.proofs.Bytes.{length-bitsOf, bitsOf-append, take-bitsOf, drop-bitsOf, length-bytesOf, bytesOf-zeros, bitsOf-bytesOf, bytesOf-bitsOf, bytesOf-append, drop-bytes}
+use Rattle.crc.proofs.Bytes.{length-bitsOf, take-bitsOf, drop-bitsOf, length-bytesOf, bytesOf-zeros, bitsOf-bytesOf, bytesOf-bitsOf, bytesOf-append, drop-bytes}
 use Rattle.block.specs.Answer.{done}
 use Rattle.block.specs.Lengths.{blockLength, blockBytes}
 use Rattle.block.specs.Block.{blockBits, syncBlock, cancelled}
@@ -18,6 +18,7 @@ use Rattle.block.specs.Calls.{overwritten, builtBytes, syncBytes, cancelBytes}
 use Rattle.block.specs.Packed.{buildPacked, BuildPacked, heldPacked, SyncPacked, CancelPacked}
 use Rattle.block.specs.declared.Built.{Built}
 use Rattle.block.proofs.Block.{length-cancelled}
+use Rattle.block.proofs.Packing.{bits-overwritten}
 use Rattle.block.proofs.Refusals.{held-done}
 use Rattle.line.specs.Order.{itemCount, dataService, filled, orderBits, version, endPayload, itemBits}
 use Rattle.line.specs.declared.marks.Marks.{Marks}
@@ -60,28 +61,21 @@ module _ (k : ℕ) (row : Bits) (slice : List ℕ) (whole : k % 8 ≡ 0) (n : le
   abbrev behind : List ℕ
   behind = drop (blockBytes k) slice
 
-  bits-overwritten : bitsOf (overwritten (blockBytes k) row slice) ≡ row ++ (zeros 4 ++ bitsOf behind)
-  bits-overwritten =
-      let e : 8 * blockBytes k - length row ≡ 4 = omega arith in
-      bitsOf-append (bytesOf (blockBytes k) row) behind
-      ∙ ap (λ (l : Bits). l ++ bitsOf behind)
-      (bitsOf-bytesOf (blockBytes k) row (omega arith) ∙ ap (λ (j : ℕ). row ++ zeros j) e)
-      ∙ append-assoc row (zeros 4) (bitsOf behind)
-
   -- cancelled there, it is the cancelled block written
   pub cancel-overwritten : ((i : ℕ) → getD slice i 0 < 256)
       → cancelBytes k (overwritten (blockBytes k) row slice) (done tt) ≡ overwritten (blockBytes k) (cancelled row) slice
   cancel-overwritten bytes =
+      let bits = bits-overwritten k row slice whole n in
       let m : ℕ = blockBytes k in
       let s : List ℕ = overwritten m row slice in
       let l : length s ≡ m + length behind =
       length-append (bytesOf m row) behind ∙ ap (λ (j : ℕ). j + length behind) (length-bytesOf m row)
       in
       let t : take (blockLength k) (bitsOf s) ≡ row =
-      ap (take (blockLength k)) bits-overwritten ∙ take-at row (zeros 4 ++ bitsOf behind) (blockLength k) n
+      ap (take (blockLength k)) bits ∙ take-at row (zeros 4 ++ bitsOf behind) (blockLength k) n
       in
       let d : drop (blockLength k) (bitsOf s) ≡ zeros 4 ++ bitsOf behind =
-      ap (drop (blockLength k)) bits-overwritten ∙ drop-at row (zeros 4 ++ bitsOf behind) (blockLength k) n
+      ap (drop (blockLength k)) bits ∙ drop-at row (zeros 4 ++ bitsOf behind) (blockLength k) n
       in
       let w : length (cancelled row ++ zeros 4) ≡ 8 * m =
       omega (arith, length-append (cancelled row) (zeros 4), length-cancelled row)

@@ -1,6 +1,6 @@
 -- `build` keeps its promise: each refusal by its tests, in their order, and the block filled in. Assumes nothing.
 use borrow.Author.Needs.{needs}
-use mathlib.Core.Path.{_≡_, sym, ap, _∙_}
+use mathlib.Core.Path.{_≡_, ap, _∙_}
 use native.Mathlib.Omega.{arith}
 use Prim.Native.Nat.{ℕ, _/_, _+_, _*_}
 use lib.ListN.{take}
