@@ -276,10 +276,12 @@ impl Input<'_> {
         }
     }
 
-    /// Mostly one of the four, the short ones more often since they take less time, or any number.
+    /// Mostly one of the four, the short ones more often since they take less time, one near them, a
+    /// multiple of 8, or any number.
     fn length(&mut self) -> usize {
         match self.byte() {
-            byte @ 0..=239 => LENGTHS[[0, 0, 0, 0, 1, 1, 2, 3][usize::from(byte) % 8]],
+            byte @ 0..=235 => LENGTHS[[0, 0, 0, 0, 1, 1, 2, 3][usize::from(byte) % 8]],
+            236..=239 => 8 * self.below(501),
             byte @ 240..=250 => LENGTHS[usize::from(byte) % 4] - 5 + usize::from(byte - 240),
             _ => self.any(),
         }

@@ -33,6 +33,27 @@ pub const REFUSED_LENGTHS: [usize; 18] = [
     usize::MAX,
 ];
 
+/// Every multiple of 8, from 0 to beyond the longest block's; all but the four are refused.
+pub fn multiples_of_8() -> impl Iterator<Item = usize> {
+    (0..=4_000).step_by(8)
+}
+
+/// The name under which a case of a multiple of 8 is counted.
+pub fn multiple_name(refused: bool) -> &'static str {
+    match refused {
+        true => "multiples of 8 refused",
+        false => "multiples of 8 not refused",
+    }
+}
+
+/// A group tried each of them this often, and was refused with all but the four.
+#[cfg(test)]
+pub fn assert_multiples(tally: &Tally, times: usize) {
+    let number_of = |refused| tally.number_of(multiple_name(refused));
+    assert_eq!(number_of(true), 497 * times);
+    assert_eq!(number_of(false), 4 * times);
+}
+
 /// The names under which blocks that fail are counted.
 pub const READ_FAILED_WITH_1: &str = "read failed with 1";
 pub const READ_FAILED_OTHERWISE: &str = "read failed with another remainder";
@@ -45,6 +66,7 @@ pub fn compare(tested: &impl Blocks, seed: u64, cases: usize) -> Result<Tally, D
         tally: Tally::default(),
     };
     group.arguments()?;
+    group.multiples()?;
     group.single_bits()?;
     group.cancelled()?;
     group.bursts()?;
@@ -122,6 +144,24 @@ impl<B: Blocks> Group<'_, B> {
             *byte ^= 0x80;
         }
         self.read(k, &bytes, payload)?;
+        Ok(())
+    }
+
+    /// Every multiple of 8, with slices that would hold its block: one built, and two read, one of
+    /// which would pass.
+    fn multiples(&mut self) -> Result<(), Difference> {
+        for k in multiples_of_8() {
+            let data = payload(&mut self.rng, k);
+            let service = self.rng.below(16) as u8;
+            let block = GuardedBuffer::random(&mut self.rng, block_bytes(k));
+            self.build(k, service, &data, block)?;
+            let mut bits = assemble(service, &unpack(&data, 0, k));
+            let read = self.read(k, &pack(&bits), payload_bytes(k))?;
+            let name = multiple_name(matches!(read, Read::Refused(_)));
+            self.tally.count(name);
+            cancel(&mut bits);
+            self.read(k, &pack(&bits), payload_bytes(k))?;
+        }
         Ok(())
     }
 
@@ -341,6 +381,7 @@ mod tests {
             "read refused",
         ];
         tally.assert_above(500, &kinds);
+        assert_multiples(&tally, 1);
     }
 
     /// A reader that takes a spare bit for a check bit is found.

@@ -1,11 +1,12 @@
 //! That the groups find faults: the second implementation with one fault at a time.
 
 mod busy;
+mod lengths;
 mod marks;
 mod remainder;
 mod tint;
 
-use super::{any_bytes, block, both_ends, idle, receiver, sender, two_orders};
+use super::{any_bytes, block, both_ends, idle, loop_time, receiver, sender, two_orders};
 use super::{Difference, Tally};
 use crate::calls::{Blocks, Line, LoopTimes, Opening, ReceivingEnd, Reference, SendingEnd, Tints};
 use crate::interface::{decode_sent, is_event, Counts, EVENT_ACCEPTED, EVENT_NONE};
@@ -16,6 +17,7 @@ use crate::reference::refusal::SHORT;
 use crate::reference::sender::Sent;
 use crate::rng::Rng;
 use busy::{BusyFault, OfBusy, BUSY_FAULTS};
+use lengths::{LengthFault, Place, FURTHER_LENGTHS};
 use marks::OfMarks;
 use remainder::{reading_faults, receiving_faults};
 use remainder::{OfRemainder, RemainderFault, FURTHER_RECEIVING_FAULTS};
@@ -59,6 +61,8 @@ enum Fault {
     MarkAfterEnd,
     /// Only the mark of the receiver's own code size is taken.
     OwnMarkAlone,
+    /// One of a block length.
+    Length(LengthFault),
     /// One of the remainder that reading a block writes.
     Reading(RemainderFault),
     /// One of the remainder that a receiving call writes.
@@ -121,6 +125,14 @@ impl Faulty {
         }
     }
 
+    /// k as it is seen in a place.
+    fn seen(&self, place: Place, k: usize) -> usize {
+        match self.0 {
+            Fault::Length(fault) => fault.seen(place, k),
+            _ => k,
+        }
+    }
+
     fn limit_flags(&self, flags: &[usize], state: &mut [u8]) {
         for &place in flags {
             if self.0 == Fault::NonzeroFlags && place < state.len() {
@@ -132,26 +144,30 @@ impl Faulty {
 
 impl LoopTimes for Faulty {
     fn loop_time(&self, k: usize, speed: u32, loop_ms: u32) -> u8 {
-        Reference.loop_time(k, speed, loop_ms)
+        Reference.loop_time(self.seen(Place::LoopTime, k), speed, loop_ms)
     }
 }
 
 impl Blocks for Faulty {
     fn build_block(&self, k: usize, service: u8, payload: &[u8], block: &mut [u8]) -> u8 {
-        Reference.build_block(k, service, payload, block)
+        Reference.build_block(self.seen(Place::Building, k), service, payload, block)
     }
 
     fn read_block(&self, k: usize, block: &[u8], payload: &mut [u8], remainder: &mut u16) -> u16 {
         match self.0 {
             Fault::Reading(fault) => OfRemainder(fault).read_block(k, block, payload, remainder),
-            _ => Reference.read_block(k, block, payload, remainder),
+            _ => {
+                let k = self.seen(Place::Reading, k);
+                Reference.read_block(k, block, payload, remainder)
+            }
         }
     }
 }
 
 impl SendingEnd for Faulty {
     fn open_sender(&self, opening: Opening, order: &[u8], state: &mut [u8]) -> u8 {
-        OfMarks(self.0).open_sender(opening, order, state)
+        let k = self.seen(Place::Opening, opening.k);
+        OfMarks(self.0).open_sender(Opening { k, ..opening }, order, state)
     }
 
     fn send(&self, state: &mut [u8], order: &[u8], reading: bool, block: &mut [u8]) -> u32 {
@@ -159,7 +175,12 @@ impl SendingEnd for Faulty {
             return u32::from(SHORT);
         }
         self.limit_flags(&[13, 15, SENDER_BYTES - MARKS_BYTES], state);
-        let word = OfMarks(self.0).send(state, order, reading, block);
+        let word = match self.0 {
+            Fault::Length(fault) => {
+                fault.step(state, |state| Reference.send(state, order, reading, block))
+            }
+            fault => OfMarks(fault).send(state, order, reading, block),
+        };
         let refused = matches!(decode_sent(word), Sent::Refused(_));
         self.spoil_state(refused, SENDER_BYTES, state);
         self.spoil_data(refused, block);
@@ -176,7 +197,7 @@ impl SendingEnd for Faulty {
 
 impl ReceivingEnd for Faulty {
     fn open_receiver(&self, k: usize, code_size: Option<usize>, state: &mut [u8]) -> u8 {
-        OfMarks(self.0).open_receiver(k, code_size, state)
+        OfMarks(self.0).open_receiver(self.seen(Place::Opening, k), code_size, state)
     }
 
     fn receive(
@@ -198,6 +219,9 @@ impl ReceivingEnd for Faulty {
             Fault::Receiving(fault) => {
                 OfRemainder(fault).receive(state, line, ready, store, counts)
             }
+            Fault::Length(fault) => fault.step(state, |state| {
+                Reference.receive(state, line, ready, store, counts)
+            }),
             fault => OfMarks(fault).receive(state, line, ready, store, counts),
         };
         let refused = !is_event(number);
@@ -252,6 +276,26 @@ fn faults_of_a_receiver_are_found() {
         assert!(compared.is_err(), "{fault:?}");
     }
     assert!(receiver::compare(&Faulty::with(Fault::None), 8, 500).is_ok());
+}
+
+/// By the cases before the random ones.
+#[test]
+fn faults_of_a_block_length_are_found() {
+    for k in FURTHER_LENGTHS {
+        let faulty = |place| Faulty::with(Fault::Length(LengthFault(place, k)));
+        let compared = loop_time::compare(&faulty(Place::LoopTime));
+        assert!(is_different(compared), "{k}: loop time");
+        for place in [Place::Building, Place::Reading] {
+            let compared = block::compare(&faulty(place), 11, 0);
+            assert!(is_different(compared), "{k}: {place:?}");
+        }
+        for place in [Place::Opening, Place::State] {
+            let compared = sender::compare(&faulty(place), 5, 0);
+            assert!(is_different(compared), "{k}: {place:?}, sender");
+            let compared = receiver::compare(&faulty(place), 8, 0);
+            assert!(is_different(compared), "{k}: {place:?}, receiver");
+        }
+    }
 }
 
 #[test]

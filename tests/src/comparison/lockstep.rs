@@ -3,7 +3,7 @@
 
 use super::{hex, same, Difference, GuardedBuffer, Tally};
 use crate::calls::{Line, Opening, ReceivingEnd, Reference, SendingEnd};
-use crate::interface::{decode_received, decode_sent, Counts};
+use crate::interface::{decode_received, decode_sent, store_word, Counts};
 use crate::reference::receiver::{Event, Received};
 use crate::reference::refusal::SHORT;
 use crate::reference::sender::Sent;
@@ -83,6 +83,13 @@ impl BufferPair {
     pub fn write(&mut self, at: usize, bytes: &[u8]) {
         for buffer in [&mut self.expected, &mut self.got] {
             buffer.slice_mut()[at..at + bytes.len()].copy_from_slice(bytes);
+        }
+    }
+
+    /// Writes a number of a state into both.
+    pub fn write_word(&mut self, at: usize, number: usize) {
+        for buffer in [&mut self.expected, &mut self.got] {
+            store_word(buffer.slice_mut(), at, number);
         }
     }
 

@@ -1,7 +1,7 @@
 //! Loop times: every block length with every speed and every loop up to beyond the longest of the
-//! table; refused lengths and speeds with a few loops each.
+//! table; refused lengths and speeds with a few loops each; every multiple of 8 without a loop.
 
-use super::block::REFUSED_LENGTHS;
+use super::block::{multiples_of_8, REFUSED_LENGTHS};
 use super::{same, Difference, Tally};
 use crate::calls::{LoopTimes, Reference};
 use crate::reference::block::LENGTHS;
@@ -34,6 +34,11 @@ pub fn compare(tested: &impl LoopTimes) -> Result<Tally, Difference> {
             for loop_ms in (0..=most).chain(FAR_LOOPS) {
                 compare_loop(tested, k, speed as u32, loop_ms, &mut tally)?;
             }
+        }
+    }
+    for k in multiples_of_8() {
+        for speed in SPEEDS {
+            compare_loop(tested, k, speed as u32, 0, &mut tally)?;
         }
     }
     Ok(tally)
@@ -75,7 +80,7 @@ mod tests {
         }
         assert!(compare(&Late).is_err());
         let tally = compare(&Reference).unwrap();
-        // The sum of the 22 entries, and a loop of 0 for each.
-        assert_eq!(tally.number_of("allowed"), 44_942 + 22);
+        // The sum of the 22 entries, and a loop of 0 for each, twice.
+        assert_eq!(tally.number_of("allowed"), 44_942 + 2 * 22);
     }
 }

@@ -1,6 +1,6 @@
 //! Openings of a sender, good and refused.
 
-use super::block::REFUSED_LENGTHS;
+use super::block::{multiples_of_8, REFUSED_LENGTHS};
 use super::lockstep::{BufferPair, Lockstep};
 use super::loop_time::REFUSED_SPEEDS;
 use super::marks::REFUSED_SIZES;
@@ -64,6 +64,19 @@ pub fn open_with_every_size<S: SendingEnd>(
             arguments.opening.code_size = Some(size);
             arguments.open(ends, rng, tally)?;
         }
+    }
+    Ok(())
+}
+
+/// Every multiple of 8 as k, with every other argument good.
+pub fn open_with_every_multiple<S: SendingEnd>(
+    ends: &Lockstep<S, ()>,
+    rng: &mut Rng,
+    tally: &mut Tally,
+) -> Result<(), Difference> {
+    for k in multiples_of_8() {
+        let order = Order::with_length(rng, k, 500);
+        Arguments::new(rng, &order).open(ends, rng, tally)?;
     }
     Ok(())
 }

@@ -1,11 +1,12 @@
 //! Single receiving calls on states of every kind: each rule at each edge, a search at each point
 //! of the sequence, and states out of range.
 
-use super::block::REFUSED_LENGTHS;
+use super::block::{multiples_of_8, REFUSED_LENGTHS};
 use super::lockstep::{BufferPair, Lockstep, ReceivingCall};
 use super::marks::REFUSED_SIZES;
 use super::openings::opening_name;
 use super::sender::refusal_name;
+use super::services::receive_with_every_multiple;
 use super::services::{receive_every_service, receive_with_every_marks};
 use super::{spoil, Difference, GuardedBuffer, Tally};
 use crate::calls::{Line, ReceivingEnd};
@@ -27,6 +28,7 @@ pub fn compare(tested: &impl ReceivingEnd, seed: u64, cases: usize) -> Result<Ta
     open(&ends, rng, &mut tally)?;
     receive_every_service(&ends, rng, &mut tally)?;
     receive_with_every_marks(&ends, rng, &mut tally)?;
+    receive_with_every_multiple(&ends, rng, &mut tally)?;
     for number in 0..cases {
         let mut case = Case::random(Rng::for_case(seed, number));
         tally.count(case.kind());
@@ -46,7 +48,7 @@ pub fn received_name(received: Received) -> &'static str {
 }
 
 /// Every k and code size, good and refused, into slices that are empty, short by one, right and
-/// long.
+/// long; every multiple of 8 without a code size and with one.
 fn open<R: ReceivingEnd>(
     ends: &Lockstep<(), R>,
     rng: &mut Rng,
@@ -54,13 +56,22 @@ fn open<R: ReceivingEnd>(
 ) -> Result<(), Difference> {
     let given = CODE_SIZES.into_iter().chain(REFUSED_SIZES).map(Some);
     let sizes: Vec<Option<usize>> = given.chain([None]).collect();
+    let mut open_into = |k, size, length| -> Result<(), Difference> {
+        let mut state = BufferPair::random(rng, length);
+        let answer = ends.open_receiver(k, size, &mut state)?;
+        tally.count(opening_name(answer));
+        Ok(())
+    };
     for k in LENGTHS.into_iter().chain(REFUSED_LENGTHS) {
         for &size in &sizes {
             for length in [0, RECEIVER_BYTES - 1, RECEIVER_BYTES, RECEIVER_BYTES + 5] {
-                let mut state = BufferPair::random(rng, length);
-                let answer = ends.open_receiver(k, size, &mut state)?;
-                tally.count(opening_name(answer));
+                open_into(k, size, length)?;
             }
+        }
+    }
+    for k in multiples_of_8() {
+        for size in [None, Some(CODE_SIZES[0])] {
+            open_into(k, size, RECEIVER_BYTES)?;
         }
     }
     Ok(())
@@ -268,6 +279,7 @@ fn end_data(rng: &mut Rng, k: usize, taken: usize) -> Bits {
 
 #[cfg(test)]
 mod tests {
+    use super::super::block::assert_multiples;
     use super::super::lockstep::TRIED;
     use super::super::{agreed, EVENTS};
     use super::*;
@@ -298,5 +310,7 @@ mod tests {
         // Four marks and A, for each size byte without marks, and for 5 to 8 with them.
         assert_eq!(tally.number_of("marks not refused"), 5 * (8 + 4));
         assert_eq!(tally.number_of("marks refused"), 5 * (4 + 8 + 8));
+        // In search and in step.
+        assert_multiples(&tally, 2);
     }
 }

@@ -1,12 +1,13 @@
 //! Opening a sender, and random sessions of sending calls on state bytes of every kind.
 
+use super::block::{multiple_name, multiples_of_8};
 use super::lockstep::{BufferPair, Lockstep};
 use super::marks::state_bytes;
-use super::openings::{open_refused, open_with_every_size, opening};
+use super::openings::{open_refused, open_with_every_multiple, open_with_every_size, opening};
 use super::orders::Order;
 use super::{spoil, Difference, GuardedBuffer, Tally};
 use crate::calls::SendingEnd;
-use crate::interface::{load_sender, store_word, MARKS_BYTES, SENDER_BYTES};
+use crate::interface::{load_sender, MARKS_BYTES, SENDER_BYTES};
 use crate::reference::bits::bit_at;
 use crate::reference::block::block_bytes;
 use crate::reference::order::LONGEST;
@@ -23,7 +24,9 @@ pub fn compare(tested: &impl SendingEnd, seed: u64, sessions: usize) -> Result<T
     let ends = Lockstep::new(tested, &());
     let mut tally = Tally::default();
     open_with_every_size(&ends, &mut Rng::new(seed), &mut tally)?;
+    open_with_every_multiple(&ends, &mut Rng::new(seed), &mut tally)?;
     send_with_every_marks(&ends, &mut Rng::new(seed), &mut tally)?;
+    send_with_every_multiple(&ends, &mut Rng::new(seed), &mut tally)?;
     for session in 0..sessions {
         let rng = Rng::for_case(seed, session);
         let run = Session::open(&ends, rng, &mut tally).and_then(Session::run);
@@ -54,10 +57,7 @@ impl<'a, S: SendingEnd> Session<'a, S> {
         count_order(&order, tally);
         open_refused(ends, &mut rng, &order, tally)?;
         let further = rng.below(4);
-        let mut state = BufferPair::random(&mut rng, SENDER_BYTES + further);
-        let opening = opening(&mut rng, &order);
-        let refused = ends.open_sender(opening, &order.bytes, &mut state)?;
-        assert_eq!(refused, 0, "an opening that the rules accept");
+        let state = opened(ends, &mut rng, &order, SENDER_BYTES + further)?;
         let request_percent = rng.pick(&[0, 5, 20, 50, 90, 100]);
         let mut session = Session {
             ends,
@@ -79,9 +79,7 @@ impl<'a, S: SendingEnd> Session<'a, S> {
             4 => items,
             _ => 1,
         };
-        let mut bytes = [0; 4];
-        store_word(&mut bytes, 0, newer);
-        self.state.write(NEWER, &bytes);
+        self.state.write_word(NEWER, newer);
         if self.rng.chance(10) {
             let cancel_run = self.rng.below(64) as u8;
             self.state.write(CANCEL_RUN, &[cancel_run]);
@@ -191,6 +189,19 @@ fn count_order(order: &Order, tally: &mut Tally) {
     }
 }
 
+/// The state of a sender that was opened as the rules accept, in so many bytes.
+fn opened<S: SendingEnd>(
+    ends: &Lockstep<S, ()>,
+    rng: &mut Rng,
+    order: &Order,
+    bytes: usize,
+) -> Result<BufferPair, Difference> {
+    let mut state = BufferPair::random(rng, bytes);
+    let refused = ends.open_sender(opening(rng, order), &order.bytes, &mut state)?;
+    assert_eq!(refused, 0, "an opening that the rules accept");
+    Ok(state)
+}
+
 /// A session's first three blocks with each pair of bytes that says whether marks are in use and
 /// which code size was given.
 fn send_with_every_marks<S: SendingEnd>(
@@ -200,9 +211,7 @@ fn send_with_every_marks<S: SendingEnd>(
 ) -> Result<(), Difference> {
     let order = Order::with_length(rng, 240, 500);
     for marks in state_bytes() {
-        let mut state = BufferPair::random(rng, SENDER_BYTES);
-        let refused = ends.open_sender(opening(rng, &order), &order.bytes, &mut state)?;
-        assert_eq!(refused, 0, "an opening that the rules accept");
+        let mut state = opened(ends, rng, &order, SENDER_BYTES)?;
         state.write(SENDER_BYTES - MARKS_BYTES, &marks);
         for _ in 0..3 {
             let mut block = BufferPair::random(rng, block_bytes(order.k));
@@ -212,6 +221,23 @@ fn send_with_every_marks<S: SendingEnd>(
                 _ => "marks not refused",
             });
         }
+    }
+    Ok(())
+}
+
+/// A session's first block with every multiple of 8 as the state's k.
+fn send_with_every_multiple<S: SendingEnd>(
+    ends: &Lockstep<S, ()>,
+    rng: &mut Rng,
+    tally: &mut Tally,
+) -> Result<(), Difference> {
+    let order = Order::with_length(rng, 240, 500);
+    for k in multiples_of_8() {
+        let mut state = opened(ends, rng, &order, SENDER_BYTES)?;
+        state.write_word(spoil::K, k);
+        let mut block = BufferPair::random(rng, block_bytes(k));
+        let sent = ends.send(&mut state, &order.bytes, rng.bit(), &mut block)?;
+        tally.count(multiple_name(matches!(sent, Sent::Refused(_))));
     }
     Ok(())
 }
@@ -229,6 +255,7 @@ pub fn refusal_name(number: Refusal) -> &'static str {
 #[cfg(test)]
 mod tests {
     use super::super::agreed;
+    use super::super::block::assert_multiples;
     use super::*;
     use crate::calls::TableDriven;
 
@@ -264,5 +291,6 @@ mod tests {
         // Three calls for each size byte without marks, and for 5 to 8 with them.
         assert_eq!(tally.number_of("marks not refused"), 3 * (8 + 4));
         assert_eq!(tally.number_of("marks refused"), 3 * (4 + 8 + 8));
+        assert_multiples(&tally, 1);
     }
 }

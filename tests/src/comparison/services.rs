@@ -1,6 +1,8 @@
-//! Receiving calls on one whole block in step: every service value at the first items and after the
-//! end, and the service values of item 0 to every state of marks.
+//! Receiving calls on one whole block, most in step: every service value at the first items and
+//! after the end, the service values of item 0 to every state of marks, and A at every multiple of
+//! 8.
 
+use super::block::{multiple_name, multiples_of_8};
 use super::lockstep::{BufferPair, Lockstep, ReceivingCall};
 use super::marks::state_bytes;
 use super::{Difference, GuardedBuffer, Tally};
@@ -54,6 +56,24 @@ pub fn receive_with_every_marks<R: ReceivingEnd>(
                 Received::Reported { .. } => "marks not refused",
             });
         }
+    }
+    Ok(())
+}
+
+/// A, with every multiple of 8 as the state's k, in search and in step.
+pub fn receive_with_every_multiple<R: ReceivingEnd>(
+    ends: &Lockstep<(), R>,
+    rng: &mut Rng,
+    tally: &mut Tally,
+) -> Result<(), Difference> {
+    for (k, search) in multiples_of_8().flat_map(|k| [(k, true), (k, false)]) {
+        let state = Receiver {
+            k,
+            search,
+            ..in_step(LENGTHS[0], None)
+        };
+        let received = receive_block(ends, rng, &state, state_of(&state), A, CALLS[0])?;
+        tally.count(multiple_name(matches!(received, Received::Refused(_))));
     }
     Ok(())
 }

@@ -1,7 +1,7 @@
 //! State bytes that no session leaves: fields, flags and enum bytes out of their range, odd ones
 //! within it, any bytes at all, and slices of another length.
 
-use super::block::REFUSED_LENGTHS;
+use super::block::{multiples_of_8, REFUSED_LENGTHS};
 use super::marks::{FLAG_BYTES, SIZE_BYTES};
 use crate::interface::{load_receiver, load_sender, store_word};
 use crate::interface::{MARKS_BYTES, RECEIVER_BYTES, SENDER_BYTES};
@@ -12,15 +12,17 @@ use crate::rng::Rng;
 /// The largest number that four bytes hold.
 const LARGEST: usize = u32::MAX as usize;
 
-/// Where the four single bytes stand in both layouts.
+/// Where k and the four single bytes stand in both layouts.
+pub const K: usize = 0;
 const COUNT: usize = 12;
 const FLAGS: usize = 13;
 
-/// Any k that a field holds, one of the four or not.
+/// Any k that a field holds, one of the four or not, now and then any multiple of 8.
 fn any_length(rng: &mut Rng) -> usize {
-    match rng.bit() {
-        true => rng.pick(&LENGTHS),
-        false => rng.pick(&REFUSED_LENGTHS).min(LARGEST),
+    match rng.below(8) {
+        0 => rng.pick(&multiples_of_8().collect::<Vec<_>>()),
+        1..=3 => rng.pick(&REFUSED_LENGTHS).min(LARGEST),
+        _ => rng.pick(&LENGTHS),
     }
 }
 
@@ -41,7 +43,7 @@ pub fn sender(rng: &mut Rng, state: &[u8]) -> Vec<u8> {
 fn spoil_sender(rng: &mut Rng, bytes: &mut [u8]) {
     let items = load_sender(bytes).map_or(1, |sender| sender.length.div_ceil(sender.k.max(1)));
     match rng.below(9) {
-        0 => store_word(bytes, 0, any_length(rng)),
+        0 => store_word(bytes, K, any_length(rng)),
         1 => {
             let near = rng.between(1, LONGEST);
             let length = rng.pick(&[0, 1, near, LONGEST, LONGEST + 1, LARGEST]);
@@ -65,7 +67,7 @@ pub fn receiver(rng: &mut Rng, state: &[u8]) -> Vec<u8> {
 fn spoil_receiver(rng: &mut Rng, bytes: &mut [u8]) {
     let n = load_receiver(bytes).map_or(260, |receiver| block_bits(receiver.k));
     match rng.below(9) {
-        0 => store_word(bytes, 0, any_length(rng)),
+        0 => store_word(bytes, K, any_length(rng)),
         1 => {
             let held = rng.pick(&[0, 1, 15, 16, 17, n - 1, n, n + 1, 3859, 3860, LARGEST]);
             store_word(bytes, 4, held);
