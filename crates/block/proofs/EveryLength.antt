@@ -18,7 +18,7 @@ use Rattle.block.specs.declared.Built.the-variants as B
 use Rattle.block.specs.declared.Checked.the-variants as C
 use Rattle.block.proofs.Block.{length-syncBlock, sync-fails}
 use Rattle.block.proofs.Packing.{bits-overwritten}
-use Rattle.block.proofs.RoundTrip.{built-packed, bits-written, packed-read}
+use Rattle.block.proofs.RoundTrip.{build-done-packed, bits-written, packed-read}
 use Rattle.block.proofs.Passing.{row-checked, checking}
 use Rattle.block.proofs.Cancelled.{packed-cancelled}
 
@@ -39,7 +39,7 @@ module _ (k : ℕ) (whole : k % 8 ≡ 0) (slice slice′ : List ℕ) (p : SyncPa
 
 pub every-length : AtEveryLength
 every-length k whole = record {
-  packing = λ service payload slice slice′ p. let t = built-packed k service payload slice slice′ p in
+  packing = λ service payload slice slice′ p. let t = build-done-packed k service payload slice slice′ p in
       ap bitsOf (t .bytes) ∙ bits-written k service payload slice slice whole (t .small) (t .held) (t .wide) (omega (arith, t .wide));
   unpacking = λ service payload slice slice′ room room′ answer b p q space.
       packed-read k service payload slice slice′ room room′ answer whole b p q space;

@@ -55,7 +55,7 @@ module _ (k : ℕ) (slice payload payload′ : List ℕ) where
   abbrev row : Bits
   row = take (blockLength k) (bitsOf slice)
 
-  pub verdict-row : (v : Verdict) → readPacked k slice payload ≡ done v → verdict row ≡ v
+  verdict-row : (v : Verdict) → readPacked k slice payload ≡ done v → verdict row ≡ v
   unfolding readPacked
   verdict-row v e =
       let t = passed-test (tooShort slice (blockLength k) || tooShort payload k) A.short (done (verdict row)) v e in

@@ -105,16 +105,16 @@ passed-answer (R.Failed r) s h = absurd (let z : _≡_ {A = ℕ} 0 1 = cc in ome
 passed-answer (R.Refused n) s h = absurd (let z : _≡_ {A = ℕ} 0 1 = cc in omega arith)
 
 -- what a building call that is done was lent, and what it wrote
-pub record Built (k service : ℕ) (payload slice slice′ : List ℕ) : Type 0 where
+pub record BuildDone (k service : ℕ) (payload slice slice′ : List ℕ) : Type 0 where
   pub small : service ≤ 15
   pub held : k ≤ 8 * length payload
   pub wide : blockLength k ≤ 8 * length slice
   pub bytes : slice′ ≡ builtBytes k service payload slice (done tt)
 
-pub built-packed : (k service : ℕ) (payload slice slice′ : List ℕ) → BuildPacked k service payload slice B.Done slice′
-    → Built k service payload slice slice′
+pub build-done-packed : (k service : ℕ) (payload slice slice′ : List ℕ) → BuildPacked k service payload slice B.Done slice′
+    → BuildDone k service payload slice slice′
 unfolding buildPacked
-built-packed k service payload slice slice′ built =
+build-done-packed k service payload slice slice′ built =
     let d : buildPacked k service payload slice ≡ done tt = sym (built .answers) in
     let t1 = passed-test (ltb 15 service) A.spoiled _ tt d in
     let t2 = passed-test (tooShort payload k || tooShort slice (blockLength k)) A.short (done tt) tt (t1 .1) in
@@ -131,7 +131,7 @@ pub packed-read : (k service : ℕ) (payload slice slice′ room room′ : List 
     → BuildPacked k service payload slice B.Done slice′ → ReadPacked k slice′ room answer room′ → k ≤ 8 * length room
     → (answer ≡ R.Passed service) × (room′ ≡ take (payloadBytes k) payload ++ drop (payloadBytes k) room)
 packed-read k service payload slice slice′ room room′ answer whole b built read space =
-    let t = built-packed k service payload slice slice′ built in (
+    let t = build-done-packed k service payload slice slice′ built in (
       passed-answer answer service
           (read .answers ∙ ap (λ (l : List ℕ). readPacked k l room) (t .bytes)
           ∙ read-built k service payload slice room whole (t .small) (t .held) (t .wide) space),
