@@ -44,13 +44,16 @@ module _ (k : ℕ) (slice slice′ : List ℕ) (c : CancelPacked k slice B.Done 
   bytes-written : slice′ ≡ bytesOf (length slice) written
   bytes-written = c .writes ∙ ap (cancelBytes k slice) (sym (c .answers))
 
-  row-cancelled : take (blockLength k) (bitsOf slice′) ≡ cancelled row
-  row-cancelled =
+  pub bits-cancelled : bitsOf slice′ ≡ cancelled (take (blockLength k) (bitsOf slice)) ++ drop (blockLength k) (bitsOf slice)
+  bits-cancelled =
       let l : length written ≡ 8 * length slice =
       length-append (cancelled row) (drop (blockLength k) (bitsOf slice))
       ∙ omega (arith, length-cancelled row, length-row, length-drop (blockLength k) (bitsOf slice), length-bitsOf slice, held) in
-      ap (λ (s : List ℕ). take (blockLength k) (bitsOf s)) bytes-written
-      ∙ ap (take (blockLength k)) (bitsOf-bytesOf-exact (length slice) written l)
+      ap bitsOf bytes-written ∙ bitsOf-bytesOf-exact (length slice) written l
+
+  row-cancelled : take (blockLength k) (bitsOf slice′) ≡ cancelled row
+  row-cancelled =
+      ap (take (blockLength k)) bits-cancelled
       ∙ take-at (cancelled row) (drop (blockLength k) (bitsOf slice)) (blockLength k) (length-cancelled row ∙ length-row)
 
   verdict-cancelled : passes row ≡ true → verdict (take (blockLength k) (bitsOf slice′)) ≡ failed 1

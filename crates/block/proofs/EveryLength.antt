@@ -20,7 +20,7 @@ use Rattle.block.proofs.Block.{length-syncBlock, sync-fails}
 use Rattle.block.proofs.Packing.{bits-overwritten}
 use Rattle.block.proofs.RoundTrip.{build-done-packed, bits-written, packed-read}
 use Rattle.block.proofs.Passing.{row-checked, checking}
-use Rattle.block.proofs.Cancelled.{packed-cancelled}
+use Rattle.block.proofs.Cancelled.{bits-cancelled, packed-cancelled}
 
 module _ (k : ℕ) (whole : k % 8 ≡ 0) (slice slice′ : List ℕ) (p : SyncPacked k slice B.Done slice′) where
   sync-bits : bitsOf slice′ ≡ syncBlock k ++ (zeros 4 ++ bitsOf (drop (blockBytes k) slice))
@@ -46,6 +46,7 @@ every-length k whole = record {
   checking = checking k;
   synchronising = sync-bits k whole;
   synchronising-fails = λ slice slice′ r low high p c. sync-not-zero k whole slice slice′ p r low high c;
-  cancelling = λ service slice slice′ room room′ again again′ answer before c behind space.
+  cancelling = bits-cancelled k;
+  cancelling-fails = λ service slice slice′ room room′ again again′ answer before c behind space.
       packed-cancelled k slice slice′ c service room room′ again again′ answer before behind space;
 }

@@ -38,8 +38,11 @@ length-facts k h = (
 )
 
 -- the data fill whole bytes, and their number is even
+pub whole-bytes : (k : ℕ) → k % 8 ≡ 0 → 8 * (k / 8) ≡ k
+whole-bytes k h = omega arith
+
 pub length-bytes : (k : ℕ) → isLength k ≡ true → 8 * (k / 8) ≡ k
-length-bytes k h = let f = length-facts k h in omega arith
+length-bytes k h = whole-bytes k (length-facts k h .0)
 
 pub length-even : (k : ℕ) → isLength k ≡ true → k / 2 * 2 ≡ k
 length-even k h = let f = length-facts k h in omega arith

@@ -11,7 +11,7 @@ use Rattle.block.specs.Lengths.{isLength}
 use Rattle.block.specs.Block.{Verdict}
 use Rattle.block.specs.Calls.{buildBlock, BuildBlock, checkBlock, CheckBlock, readAnswer, readService, ReadService, readBlock, ReadBlock, buildSync, BuildSync, cancelBlock, CancelBlock}
 use Rattle.block.specs.Packed.{ifLength, lookUp, buildPacked, BuildPacked, checkPacked, CheckPacked, servicePacked, ServicePacked, readPacked, ReadPacked, heldPacked, SyncPacked, CancelPacked}
-use Rattle.block.specs.EveryLength.{LookedUpOnce}
+use Rattle.block.specs.EveryLength.{LookUpFirst}
 use Rattle.block.specs.declared.Built.{Built}
 use Rattle.block.specs.declared.Built.the-variants as B
 use Rattle.block.specs.declared.Checked.{Checked}
@@ -21,9 +21,9 @@ use Rattle.block.specs.declared.Read.the-variants as R
 use Rattle.block.proofs.Lengths.{length-bytes}
 use Rattle.block.proofs.Refusals.{passed-test}
 
-pub looked-up-once : LookedUpOnce
+pub look-up-first : LookUpFirst
 unfolding buildBlock buildPacked checkBlock checkPacked readService servicePacked readBlock readPacked buildSync cancelBlock heldPacked
-looked-up-once = record {
+look-up-first = record {
   builds = λ k service payload slice. refl;
   checks = λ k slice. refl;
   reads-service = λ k slice. refl;
@@ -65,41 +65,41 @@ not-found k n e = no (isLength k) refl
 module _ (k : ℕ) (unknown : isLength k ≡ false) where
   pub build-unknown : (service : ℕ) (payload slice : List ℕ) → BuildBlock k service payload slice (B.Refused A.block) slice
   build-unknown service payload slice =
-      let e = looked-up-once .builds k service payload slice ∙ unknown-refused k _ unknown in
+      let e = look-up-first .builds k service payload slice ∙ unknown-refused k _ unknown in
       record { answers = sym e; writes = rw e refl }
 
   pub check-unknown : (slice : List ℕ) → CheckBlock k slice (C.Refused A.block)
-  check-unknown slice = record { answers = sym (looked-up-once .checks k slice ∙ unknown-refused k _ unknown) }
+  check-unknown slice = record { answers = sym (look-up-first .checks k slice ∙ unknown-refused k _ unknown) }
 
   pub service-unknown : (slice : List ℕ) → ReadService k slice (R.Refused A.block)
-  service-unknown slice = record { answers = sym (looked-up-once .reads-service k slice ∙ unknown-refused k _ unknown) }
+  service-unknown slice = record { answers = sym (look-up-first .reads-service k slice ∙ unknown-refused k _ unknown) }
 
   pub read-unknown : (slice payload : List ℕ) → ReadBlock k slice payload (R.Refused A.block) payload
   read-unknown slice payload =
-      let e = looked-up-once .reads k slice payload ∙ unknown-refused k _ unknown in
+      let e = look-up-first .reads k slice payload ∙ unknown-refused k _ unknown in
       record { answers = sym e; writes = rw e refl }
 
   pub sync-unknown : (slice : List ℕ) → BuildSync k slice (B.Refused A.block) slice
   sync-unknown slice =
-      let e = looked-up-once .synchronises k slice ∙ unknown-refused k _ unknown in
+      let e = look-up-first .synchronises k slice ∙ unknown-refused k _ unknown in
       record { answers = sym e; writes = rw e refl }
 
   pub cancel-unknown : (slice : List ℕ) → CancelBlock k slice (B.Refused A.block) slice
   cancel-unknown slice =
-      let e = looked-up-once .cancels k slice ∙ unknown-refused k _ unknown in
+      let e = look-up-first .cancels k slice ∙ unknown-refused k _ unknown in
       record { answers = sym e; writes = rw e refl }
 
 -- ---- each call where k is known: the promise of the call below is its own
 
 module _ (k : ℕ) (known : isLength k ≡ true) where
   builds-below : (service : ℕ) (payload slice : List ℕ) → buildBlock k service payload slice ≡ buildPacked k service payload slice
-  builds-below service payload slice = looked-up-once .builds k service payload slice ∙ known-next k _ known
+  builds-below service payload slice = look-up-first .builds k service payload slice ∙ known-next k _ known
 
   reads-below : (slice payload : List ℕ) → readBlock k slice payload ≡ readPacked k slice payload
-  reads-below slice payload = looked-up-once .reads k slice payload ∙ known-next k _ known
+  reads-below slice payload = look-up-first .reads k slice payload ∙ known-next k _ known
 
   cancels-below : (slice : List ℕ) → cancelBlock k slice ≡ heldPacked k slice
-  cancels-below slice = looked-up-once .cancels k slice ∙ known-next k _ known
+  cancels-below slice = look-up-first .cancels k slice ∙ known-next k _ known
 
   module _ (m : ℕ) (whole : 8 * m ≡ k) where
     pub build-known : (service : ℕ) (payload slice : List ℕ) (answer : Built) (slice′ : List ℕ)
@@ -112,12 +112,12 @@ module _ (k : ℕ) (known : isLength k ≡ true) where
     pub check-known : (slice : List ℕ) (answer : Checked) → CheckPacked (8 * m) slice answer → CheckBlock k slice answer
     check-known slice answer below =
         let p = subst (λ (x : ℕ). CheckPacked x slice answer) whole below in
-        record { answers = p .answers ∙ sym (looked-up-once .checks k slice ∙ known-next k _ known) }
+        record { answers = p .answers ∙ sym (look-up-first .checks k slice ∙ known-next k _ known) }
 
     pub service-known : (slice : List ℕ) (answer : Read) → ServicePacked (8 * m) slice answer → ReadService k slice answer
     service-known slice answer below =
         let p = subst (λ (x : ℕ). ServicePacked x slice answer) whole below in
-        record { answers = p .answers ∙ sym (looked-up-once .reads-service k slice ∙ known-next k _ known) }
+        record { answers = p .answers ∙ sym (look-up-first .reads-service k slice ∙ known-next k _ known) }
 
     pub read-known : (slice payload : List ℕ) (answer : Read) (payload′ : List ℕ) → ReadPacked (8 * m) slice payload answer payload′
         → ReadBlock k slice payload answer payload′
@@ -130,7 +130,7 @@ module _ (k : ℕ) (known : isLength k ≡ true) where
         → BuildSync k slice answer slice′
     sync-known slice answer slice′ below =
         let p = subst (λ (x : ℕ). SyncPacked x slice answer slice′) whole below in
-        let e = looked-up-once .synchronises k slice ∙ known-next k _ known in
+        let e = look-up-first .synchronises k slice ∙ known-next k _ known in
         record { answers = p .answers ∙ sym e; writes = rw e (p .writes) }
 
     pub cancel-known : (slice : List ℕ) (answer : Built) (slice′ : List ℕ) → CancelPacked (8 * m) slice answer slice′
@@ -145,7 +145,7 @@ module _ (k : ℕ) (known : isLength k ≡ true) where
 pub built-below : (k service : ℕ) (payload slice slice′ : List ℕ) → BuildBlock k service payload slice B.Done slice′
     → (isLength k ≡ true) × BuildPacked k service payload slice B.Done slice′
 built-below k service payload slice slice′ p =
-    let known = known-done k _ tt (sym (looked-up-once .builds k service payload slice) ∙ sym (p .answers)) in
+    let known = known-done k _ tt (sym (look-up-first .builds k service payload slice) ∙ sym (p .answers)) in
     let e = sym (builds-below k known service payload slice) in
     (known, record { answers = p .answers ∙ sym e; writes = rw e (p .writes) })
 
@@ -159,11 +159,11 @@ read-below k slice payload answer payload′ known p =
 pub read-done-below : (k : ℕ) (slice payload : List ℕ) (answer : Read) (payload′ : List ℕ) (v : Verdict) → readAnswer answer ≡ done v
     → ReadBlock k slice payload answer payload′ → ReadPacked k slice payload answer payload′
 read-done-below k slice payload answer payload′ v d p =
-    read-below k slice payload answer payload′ (known-done k _ v (sym (looked-up-once .reads k slice payload) ∙ sym (p .answers) ∙ d)) p
+    read-below k slice payload answer payload′ (known-done k _ v (sym (look-up-first .reads k slice payload) ∙ sym (p .answers) ∙ d)) p
 
 pub cancelled-below : (k : ℕ) (slice slice′ : List ℕ) → CancelBlock k slice B.Done slice′
     → (isLength k ≡ true) × CancelPacked k slice B.Done slice′
 cancelled-below k slice slice′ p =
-    let known = known-done k _ tt (sym (looked-up-once .cancels k slice) ∙ sym (p .answers)) in
+    let known = known-done k _ tt (sym (look-up-first .cancels k slice) ∙ sym (p .answers)) in
     let e = sym (cancels-below k known slice) in
     (known, record { answers = p .answers ∙ sym e; writes = rw e (p .writes) })

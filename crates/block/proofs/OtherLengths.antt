@@ -60,8 +60,11 @@ cancelled-read : ReadPacked 0 (0x33 ∷ 0x06 ∷ 0x20 ∷ []) [] (R.Failed 1) []
 unfolding readPacked verdict passes remainder binary number bitsOf bytesOf
 cancelled-read = record { answers = refl; writes = refl }
 
+cancelled-bits : bitsOf (0x33 ∷ 0x06 ∷ 0x20 ∷ []) ≡ cancelled (take 20 (bitsOf letter)) ++ drop 20 (bitsOf letter)
+cancelled-bits = at-0 .cancelling letter (0x33 ∷ 0x06 ∷ 0x20 ∷ []) letter-cancelled
+
 shows-one : R.Failed 1 ≡ R.Failed 1
-shows-one = at-0 .cancelling 3 letter (0x33 ∷ 0x06 ∷ 0x20 ∷ []) [] [] [] [] (R.Failed 1) letter-read letter-cancelled cancelled-read (lit≤ tt)
+shows-one = at-0 .cancelling-fails 3 letter (0x33 ∷ 0x06 ∷ 0x20 ∷ []) [] [] [] [] (R.Failed 1) letter-read letter-cancelled cancelled-read (lit≤ tt)
 
 -- without data the synchronising block is the example of 0101, and passes
 sync-written : SyncPacked 0 (0 ∷ 0 ∷ 0 ∷ []) B.Done (0x55 ∷ 0x0a ∷ 0x50 ∷ [])

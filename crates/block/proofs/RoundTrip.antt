@@ -2,7 +2,7 @@
 use mathlib.Core.Path.{_≡_, sym, ap, ap₂, _∙_}
 use mathlib.Core.Bool.{_||_}
 use mathlib.Core.List.{List, _++_}
-use Prim.Native.Nat.{ℕ, _+_, _*_, _/_, _%_, _≤_, _<_}
+use Prim.Native.Nat.{ℕ, _+_, _*_, _%_, _≤_, _<_}
 use native.Mathlib.Omega.{arith}
 use borrow.Author.Tests.{ltb-false}
 use lib.Dec.{ltb}
@@ -20,7 +20,7 @@ use Rattle.block.specs.Packed.{buildPacked, BuildPacked, readPacked, Rea
 use Rattle.block.specs.declared.Built.the-variants as B
 use Rattle.block.specs.declared.Read.{Read}
 use Rattle.block.specs.declared.Read.the-variants as R
-use Rattle.block.proofs.Lengths.{length-facts}
+use Rattle.block.proofs.Lengths.{length-facts, whole-bytes}
 use Rattle.block.proofs.Block.{length-blockBits, passes-blockBits, service-blockBits, payload-blockBits}
 use Rattle.block.proofs.Packing.{bits-overwritten}
 use Rattle.block.proofs.Refusals.{passed-test, read-done}
@@ -92,9 +92,8 @@ module _ (k service : ℕ) (payload slice room : List ℕ) (whole : k % 8 ≡ 0)
       ≡ take (payloadBytes k) payload ++ drop (payloadBytes k) room
   bytes-built b =
       let m : ℕ = payloadBytes k in
-      let n : 8 * (k / 8) ≡ k = omega arith in
       let e : bytesOf m (take k (bitsOf payload)) ≡ take m payload =
-      ap (λ (x : ℕ). bytesOf m (take x (bitsOf payload))) (sym n) ∙ packed-front m payload b (omega arith) in
+      ap (λ (x : ℕ). bytesOf m (take x (bitsOf payload))) (sym (whole-bytes k whole)) ∙ packed-front m payload b (omega arith) in
       data-built ∙ ap (λ (l : List ℕ). l ++ drop m room) e
 
 -- ---- the same on the promises of the two calls

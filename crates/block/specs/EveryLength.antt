@@ -1,6 +1,6 @@
--- A block length is looked up once, and refused by 1 there alone. Below that packing, unpacking, check, synchronising block and
--- cancelling are right for every k that is a multiple of 8: the four lengths are no case of their own, nor is k 0 of the
--- examples. Assumes nothing.
+-- A block length is refused by 1 in the look-up alone, which comes first. Below that packing, unpacking, check, synchronising
+-- block and cancelling are right for every k that is a multiple of 8: the four lengths are no case of their own, nor is k 0 of
+-- the examples. Assumes nothing.
 use mathlib.Core.Path.{_≡_}
 use mathlib.Core.List.{List, _++_}
 use Prim.Native.Nat.{ℕ, _*_, _%_, _≤_, _<_}
@@ -8,7 +8,7 @@ use lib.ListN.{length, getD, take, drop}
 use Rattle.crc.specs.Bits.{zeros, binary, bitsOf}
 use Rattle.crc.specs.Polynomial.{polynomial, Remainder}
 use Rattle.block.specs.Lengths.{blockLength, payloadBytes, blockBytes}
-use Rattle.block.specs.Block.{blockBits, syncBlock}
+use Rattle.block.specs.Block.{blockBits, syncBlock, cancelled}
 use Rattle.block.specs.Calls.{buildBlock, checkBlock, readService, readBlock, buildSync, cancelBlock}
 use Rattle.block.specs.Packed.{ifLength, buildPacked, BuildPacked, checkPacked, CheckPacked, servicePacked, readPacked, ReadPacked, heldPacked, SyncPacked, CancelPacked}
 use Rattle.block.specs.declared.Built.the-variants as B
@@ -16,8 +16,8 @@ use Rattle.block.specs.declared.Checked.the-variants as C
 use Rattle.block.specs.declared.Read.{Read}
 use Rattle.block.specs.declared.Read.the-variants as R
 
--- each call by k is the look-up, then the call below it
-pub record LookedUpOnce : Type 0 where
+-- what each call by k answers: the look-up's test, then as the call below it
+pub record LookUpFirst : Type 0 where
   pub builds : (k service : ℕ) (payload slice : List ℕ) → buildBlock k service payload slice ≡ ifLength k (buildPacked k service payload slice)
   pub checks : (k : ℕ) (slice : List ℕ) → checkBlock k slice ≡ ifLength k (checkPacked k slice)
   pub reads-service : (k : ℕ) (slice : List ℕ) → readService k slice ≡ ifLength k (servicePacked k slice)
@@ -42,8 +42,11 @@ pub record EveryLength (k : ℕ) : Type 0 where
   -- it fails the check, up to 3,840 data bits; without data it would pass, since its sequence is the check of 0101
   pub synchronising-fails : (slice slice′ : List ℕ) (r : ℕ) → 8 ≤ k → k ≤ 3840 → SyncPacked k slice B.Done slice′
       → CheckPacked k slice′ (C.Remainder r) → r ≡ 0 → ⊥
-  -- a block that passes, once it is cancelled, fails with the remainder 1
-  pub cancelling : (service : ℕ) (slice slice′ room room′ again again′ : List ℕ) (answer : Read)
+  -- a block cancelled: its last bit inverted, the spare bits and the other bytes as they were
+  pub cancelling : (slice slice′ : List ℕ) → CancelPacked k slice B.Done slice′
+      → bitsOf slice′ ≡ cancelled (take (blockLength k) (bitsOf slice)) ++ drop (blockLength k) (bitsOf slice)
+  -- if it passed before, it fails with the remainder 1
+  pub cancelling-fails : (service : ℕ) (slice slice′ room room′ again again′ : List ℕ) (answer : Read)
       → ReadPacked k slice room (R.Passed service) room′ → CancelPacked k slice B.Done slice′
       → ReadPacked k slice′ again answer again′ → k ≤ 8 * length again → answer ≡ R.Failed 1
 

@@ -24,6 +24,7 @@ use Rattle.block.specs.declared.Built.{Built}
 use Rattle.block.specs.declared.Read.{Read}
 use Rattle.block.specs.declared.Read.the-variants as B
 use Rattle.block.proofs.Read.{the-type}
+use Rattle.block.proofs.Lengths.{whole-bytes}
 use Rattle.block.proofs.Refusals.{service-done, move-done}
 use Rattle.line.specs.Receiving.{lastBad, afterBad, Rule, sync-block, check-fails, accepts, meaning, endRule, serviceRule, looksSync, judge, orWait, blockRule, stops, Reception, storeAt}
 use Rattle.line.specs.Code.ReceiveSteps.{ruleOf, stepped, handedBack, judged, Handed}
@@ -112,8 +113,7 @@ module _ (k : ℕ) (slice : List ℕ) (h : blockLength k ≤ 8 * length slice) w
   module _ (whole : k % 8 ≡ 0) (answer : Read) (below : ServicePacked (8 * (k / 8)) slice answer) where
     answered : readAnswer answer ≡ done (verdict row)
     answered =
-        let e : 8 * (k / 8) ≡ k = omega arith in
-        let p = subst (λ (x : ℕ). ServicePacked x slice answer) e below in
+        let p = subst (λ (x : ℕ). ServicePacked x slice answer) (whole-bytes k whole) below in
         p .answers ∙ service-done k slice (le-ltb (8 * length slice) (blockLength k) h)
 
     pub check-passes : (service : ℕ) → answer ≡ B.Passed service → verdict row ≡ passed service

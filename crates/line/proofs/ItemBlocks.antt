@@ -17,6 +17,7 @@ use Rattle.block.specs.Block.{blockBits, syncBlock, cancelled}
 use Rattle.block.specs.Calls.{overwritten, builtBytes, syncBytes, cancelBytes}
 use Rattle.block.specs.Packed.{buildPacked, BuildPacked, heldPacked, SyncPacked, CancelPacked}
 use Rattle.block.specs.declared.Built.{Built}
+use Rattle.block.proofs.Lengths.{whole-bytes}
 use Rattle.block.proofs.Block.{length-cancelled}
 use Rattle.block.proofs.Packing.{bits-overwritten}
 use Rattle.block.proofs.Refusals.{held-done}
@@ -26,9 +27,6 @@ use Rattle.line.proofs.Items.{itemCount-least, item-within, length-orde
 use Rattle.line.proofs.LastItem.{take-zeros, drop-take}
 
 -- ---- the calls
-
-whole-bytes : (k : ℕ) → k % 8 ≡ 0 → 8 * (k / 8) ≡ k
-whole-bytes k h = omega arith
 
 module _ (k : ℕ) (slice : List ℕ) (answer : Built) (slice′ : List ℕ) (whole : k % 8 ≡ 0)
     (room : blockLength k ≤ 8 * length slice) where
