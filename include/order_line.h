@@ -5,8 +5,8 @@
  * Every call is proved to answer and write what crates/line_c/specs says, on every input, and to end without a fault.
  * What the proofs suppose of a caller in C:
  *   - a pointer is not null and points to at least the given number of bytes, also where that number is 0; doses points
- *     to the given number of 16-bit numbers, and used, length, remainder, bytes and count to one number each, aligned as
- *     their types are;
+ *     to the given number of 16-bit numbers, and used, length, remainder, bytes, count, first and second to one number
+ *     each, aligned as their types are;
  *   - what a call may write overlaps nothing else that is lent to the same call;
  *   - no other thread touches what is lent while the call runs.
  * Nothing else is asked: any bytes, any numbers. The library keeps nothing between calls and allocates nothing.
@@ -37,11 +37,11 @@ extern "C" {
 /* ---- the version ---- */
 
 /*
- * Version 5.0.1: major * 65536 + minor * 256 + patch. A later version with the same major number keeps the layouts, the
+ * Version 5.1.0: major * 65536 + minor * 256 + patch. A later version with the same major number keeps the layouts, the
  * numbers, the signatures and the promises of this one (docs/VERSION.md). order_line_version returns the version of the
  * library; the two differ where a header and a library of different versions were brought together.
  */
-#define ORDER_LINE_VERSION 0x050001u
+#define ORDER_LINE_VERSION 0x050100u
 
 uint32_t order_line_version(void);
 
@@ -49,7 +49,7 @@ uint32_t order_line_version(void);
 
 /*
  * In every version: 0, done; 1 to 63, refused; 64 to 79, an event; 80 to 95, whether a sender sends on; 96 and 97, a
- * return bit; from 0x100 on, what was sent or read.
+ * return bit; from 0x100 on, what was sent, read or done to a block.
  *
  * A refused call writes no byte and no number, and leaves the state's bytes as they were. ORDER_LINE_IS_REFUSED says
  * whether a call was refused, whichever call it was.
@@ -69,6 +69,7 @@ uint32_t order_line_version(void);
 #define ORDER_LINE_REFUSED_FORMAT 10   /* no tint order: its version or its length; or no doses to write */
 #define ORDER_LINE_REFUSED_ENTRY 11    /* a dose out of range or order, or more than ORDER_LINE_MOST_DOSES to write */
 #define ORDER_LINE_REFUSED_STEPS 12    /* a tint order of more than 20,000 pump steps in all */
+#define ORDER_LINE_REFUSED_GENERATOR 13 /* a noise generator whose first word is 0 */
 
 /* ---- sizes ---- */
 
@@ -317,6 +318,40 @@ uint8_t order_line_write_tint(const uint16_t *doses, size_t doses_numbers, size_
  */
 uint8_t order_line_read_tint(const uint8_t *order, size_t order_bytes, uint16_t *doses, size_t doses_numbers,
                              size_t *count);
+
+/* ---- the noise load ---- */
+
+/*
+ * For a bench: the same rough line on every visit. A NOISE LOAD DAMAGES BLOCKS: no office and no machine in a shop makes
+ * this call.
+ *
+ * The generator is two words, which the caller keeps. A draw changes both. The first becomes x xor (x shifted left by
+ * 13); this, x xor (x shifted right by 17); and this, x xor (x shifted left by 5); kept to 32 bits each time. The second
+ * grows by 362,437, the carry above 32 bits dropped. The number drawn is the sum of both, the carry dropped. The same
+ * two words give the same noise, call for call: write down those that a session starts from. The first is any number but
+ * 0, and is then never 0 again; the second is any number.
+ */
+
+/*
+ * The noise of one block period: call it once for each block that is sent, with the block as it was sent. One number is
+ * drawn. Its low two bits choose: 0 or 1, nothing; 2, one damaged span; 3, a turned-over reading. For a span a second
+ * number is drawn: its low 16 bits are the pattern, whose ones are laid over the block and invert it, the top bit first,
+ * from bit (the number divided by 65,536, rounded down) modulo (n - 15) on. So what is inverted lies within 16 adjacent
+ * bits of the n; the spare bits and all other bytes stay. *first and *second become the words after the draws. Returns
+ * ORDER_LINE_NOISE with the number of bits inverted, 0 to 16, and the flag below; a pattern without ones inverts none.
+ *
+ * SESSIONS UNDER THE LOAD MAY GO WRONG, as on a rough line: a turned-over reading may lose a repeat request, and damage
+ * to a cancelled block may restore it. Compare what arrived with what was sent (docs/INTEGRATION.md, "A rough line on
+ * the bench").
+ *
+ * Refused: BLOCK, GENERATOR (*first is 0), SHORT (block cannot hold a block, whatever would be drawn), in this order.
+ */
+uint32_t order_line_noise(size_t k, uint32_t *first, uint32_t *second, uint8_t *block, size_t block_bytes);
+
+#define ORDER_LINE_NOISE 0x100u        /* the period's noise was drawn; set in every word that is no refusal */
+#define ORDER_LINE_NOISE_TURNED 0x200u /* the reading given to the next period's sending call is to be turned over */
+
+#define ORDER_LINE_NOISE_INVERTED(word) ((word) >> 16) /* the number of bits inverted in this block */
 
 #ifdef __cplusplus
 }

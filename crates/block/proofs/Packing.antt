@@ -102,6 +102,20 @@ unfolding binary bitsOf
 head-parts x y z r =
     ap₂ (λ (a c : Bits). take 20 (a ++ (binary 8 y ++ (c ++ bitsOf r)))) (binary-split 4 4 x) (binary-split 4 4 z)
 
+-- a slice from a place on: three bytes, and the others
+pub drop-three : (m : ℕ) (s : List ℕ) → m + 3 ≤ length s
+    → drop m s ≡ getD s m 0 ∷ getD s (m + 1) 0 ∷ getD s (m + 2) 0 ∷ drop (m + 3) s
+drop-three m s h =
+    let x : ℕ = getD s m 0 in
+    let y : ℕ = getD s (m + 1) 0 in
+    let z : ℕ = getD s (m + 2) 0 in
+    let b : m + 1 < length s = omega arith in
+    let c : m + 2 < length s = omega arith in
+    drop-cons s m 0 (omega arith)
+    ∙ ap (λ (l : List ℕ). x ∷ l) (ap (λ (n : ℕ). drop n s) (sym (add-one m)) ∙ drop-cons s (m + 1) 0 b)
+    ∙ ap (λ (l : List ℕ). x ∷ y ∷ l) (ap (λ (n : ℕ). drop n s) (sym (add-suc m 1)) ∙ drop-cons s (m + 2) 0 c)
+    ∙ ap (λ (n : ℕ). x ∷ y ∷ z ∷ drop n s) (sym (add-suc m 2))
+
 -- its service bits and data, and its check bits
 pub block-parts : (m : ℕ) (s : List ℕ) → m + 3 ≤ length s
     → take (8 * m + 20) (bitsOf s)
@@ -110,15 +124,8 @@ block-parts m s h =
     let x : ℕ = getD s m 0 in
     let y : ℕ = getD s (m + 1) 0 in
     let z : ℕ = getD s (m + 2) 0 in
-    let b : m + 1 < length s = omega arith in
-    let c : m + 2 < length s = omega arith in
-    let e : drop m s ≡ x ∷ y ∷ z ∷ drop (m + 3) s =
-    drop-cons s m 0 (omega arith)
-    ∙ ap (λ (l : List ℕ). x ∷ l) (ap (λ (n : ℕ). drop n s) (sym (add-one m)) ∙ drop-cons s (m + 1) 0 b)
-    ∙ ap (λ (l : List ℕ). x ∷ y ∷ l) (ap (λ (n : ℕ). drop n s) (sym (add-suc m 1)) ∙ drop-cons s (m + 2) 0 c)
-    ∙ ap (λ (n : ℕ). x ∷ y ∷ z ∷ drop n s) (sym (add-suc m 2)) in
     take-add (8 * m) 20 (bitsOf s)
-    ∙ ap₂ (λ (l t : Bits). l ++ take 20 t) (take-bitsOf m s) (drop-bitsOf m s ∙ ap bitsOf e)
+    ∙ ap₂ (λ (l t : Bits). l ++ take 20 t) (take-bitsOf m s) (drop-bitsOf m s ∙ ap bitsOf (drop-three m s h))
     ∙ ap (λ (l : Bits). bitsOf (take m s) ++ l) (head-parts x y z (drop (m + 3) s))
     ∙ sym (append-assoc (bitsOf (take m s)) (binary 4 (x / 16)) (binary 4 x ++ (binary 8 y ++ binary 4 (z / 16))))
 

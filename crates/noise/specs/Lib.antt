@@ -1,0 +1,4 @@
+-- The noise load: the generator and its draws; what the load does to a block; and what is so of every load.
+pub mod Generator
+pub mod Load
+pub mod Code
