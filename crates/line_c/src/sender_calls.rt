@@ -94,7 +94,7 @@ pub const FINISHED: u8 = 81;
 pub const GAVE_UP: u8 = 82;
 
 // A flag where a truth value holds.
-fn flag(set: bool, value: u32) -> u32
+pub(crate) fn flag(set: bool, value: u32) -> u32
     ensures { λ r. ⌜ (r ≡ flagWord set value) × (r ≤ value) ⌝ }
 {
     if set { value } else { 0 }

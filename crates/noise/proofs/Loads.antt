@@ -1,11 +1,11 @@
 -- What the load does, as the code does it: a damaged span, no damage, and each refusal. Assumes nothing.
 use mathlib.Core.Path.{_≡_, refl, sym, ap, ap₂, _∙_}
-use mathlib.Core.Bool.{Bool, true, false, not, cond}
+use mathlib.Core.Bool.{Bool, true, false, not}
 use mathlib.Core.List.{List, _++_}
 use Prim.Native.Nat.{ℕ, _+_, _-_, _*_, _/_, _%_, _^_, _≤_, _<_}
 use native.Mathlib.Nat.{mod-lt}
 use native.Mathlib.Omega.{arith}
-use borrow.Author.Tests.{ltb-false}
+use borrow.Author.Tests.{ltb-false, eqb-true}
 use lib.Count as Count
 use lib.Dec.{eqb}
 use lib.ListN.{length, take, drop, getD, length-replicate, replicate-append-replicate, take-append-drop}
@@ -14,10 +14,10 @@ use Rattle.crc.specs.Bits.{Bits, zeros, binary, xorBits, bitsOf, bytesOf}
 use Rattle.crc.proofs.Rows.{binary-zero, xorBits-zeros}
 use Rattle.crc.proofs.Bytes.{length-bitsOf, bytesOf-bitsOf}
 use Rattle.block.specs.Answer as A
-use Rattle.block.specs.Answer.{done, refused}
+use Rattle.block.specs.Answer.{Answer, done, refused}
 use Rattle.block.specs.Lengths.{isLength, blockLength}
 use Rattle.block.specs.Calls.{tooShort}
-use Rattle.block.proofs.Lengths.{length-facts}
+use Rattle.block.proofs.Truth.{cond-case}
 use Rattle.noise.specs.Generator.{next, drawn}
 use Rattle.noise.specs.Load.{Load, spanLoad, wholeLoad, load, places, ones, generator, loadBlock, reported, generatorAfter, loadedBytes, LoadedAs, LoadBlock}
 use Rattle.noise.specs.Code.{laid}
@@ -137,3 +137,22 @@ module _ (k : ℕ) (g : Generator) (s : List ℕ) where
           → LoadBlock k g s r s′
       unfolding loadBlock
       loads t r s′ a = rw (l, z, t) a
+
+-- ---- cases of the answer
+
+-- what holds of each refusal, and of the load on a slice that holds a block, holds of the answer
+pub load-cases : (k : ℕ) (g : Generator) (s : List ℕ) (P : Answer Load → Type 0) → ((n : ℕ) → (n ≡ generator → g .first ≡ 0) → P (refused n))
+    → (tooShort s (blockLength k) ≡ false → P (done (load (blockLength k) g))) → P (loadBlock k g s)
+unfolding loadBlock
+load-cases k g s P turned-away loaded =
+    cond-case P (not (isLength k)) (λ e. turned-away A.block (λ z. absurd (omega arith)))
+    (λ e. cond-case P (eqb (g .first) 0) (λ f. turned-away generator (λ z. eqb-true (g .first) 0 f))
+    (λ f. cond-case P (tooShort s (blockLength k)) (λ t. turned-away A.short (λ z. absurd (omega arith))) loaded))
+
+-- only a first word of 0 is refused by 13
+pub not-13 : (k : ℕ) (g : Generator) (s : List ℕ) → (g .first ≡ 0 → ⊥) → loadBlock k g s ≡ refused generator → ⊥
+not-13 k g s n = load-cases k g s (λ (a : Answer Load). a ≡ refused generator → ⊥) (λ m z e. n (z (ap number e))) (λ t e. absurd (omega (arith, ap number e)))
+  where
+    number : Answer Load → ℕ
+    number (refused m) = m
+    number (done l) = 0

@@ -1,14 +1,14 @@
 -- How many ones a row has: of rows put together, of zeros, and of a number's binary digits. Assumes nothing.
 use mathlib.Core.Path.{_≡_, refl, sym, ap, ap₂, _∙_}
 use mathlib.Core.List.{[], _∷_, _++_}
-use Prim.Native.Nat.{ℕ, zero, suc, _+_, _*_, _/_, _%_, _^_, _<_}
+use Prim.Native.Nat.{ℕ, zero, suc, _+_, _*_, _/_, _%_, _^_, _≤_, _<_}
 use native.Mathlib.Nat.{add-assoc, add-comm, add-zero, pow-suc}
 use native.Mathlib.Numerals.{add-one}
 use native.Mathlib.Omega.{arith}
-use lib.Arith.{lt-one}
 use lib.Count as Count
+use lib.ListN.{length}
 use Rattle.crc.specs.Bits.{Bits, zeros, bit, odd, binary}
-use Rattle.crc.proofs.Rows.{bit-odd, binary-split}
+use Rattle.crc.proofs.Rows.{bit-lt, bit-odd, binary-split}
 use Rattle.noise.specs.Load.{ones}
 
 pub ones-append : (x y : Bits) → ones (x ++ y) ≡ ones x + ones y
@@ -34,3 +34,7 @@ ones-binary (suc w) n h =
     ap (λ (x : ℕ). ones (binary x n)) (sym (add-one w)) ∙ ap ones (binary-split w 1 n) ∙ ones-append (binary w (n / 2)) (binary 1 n)
     ∙ ap₂ (λ (x y : ℕ). x + y) (ones-binary w (n / 2) b) (ones-low n)
     ∙ add-comm (Count.ones (n / 2)) (n % 2) ∙ sym (Count.ones-step n)
+
+pub ones-le : (l : Bits) → ones l ≤ length l
+ones-le [] = omega arith
+ones-le (b ∷ l) = omega (arith, bit-lt b, ones-le l)

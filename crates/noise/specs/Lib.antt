@@ -1,4 +1,5 @@
 -- The noise load: the generator and its draws; what the load does to a block; and what is so of every load.
 pub mod Generator
 pub mod Load
+pub mod Facts
 pub mod Code
