@@ -7,7 +7,7 @@ use native.Mathlib.Omega.{arith}
 use borrow.Author.Tests.{le-ltb}
 use lib.Dec.{eqb, ltb}
 use lib.ListN.{length, take, drop}
-use Rattle.crc.specs.Bits.{bitsOf}
+use Rattle.crc.specs.Bits.{binary, bitsOf}
 use Rattle.block.specs.Answer as A
 use Rattle.block.specs.Answer.{Answer, refused, done, refuseIf}
 use Rattle.block.specs.Lengths.{isLength, blockLength}
@@ -27,11 +27,14 @@ use Rattle.line.specs.declared.receiving.Event.the-variants as E
 use Rattle.tint.specs.Refusals as Tint
 use Rattle.tint.specs.Format.{Dose, orderBytes, dosesIn, isFormat, canisters, mostTotal, inRangeAndOrder, total, judgeDoses}
 use Rattle.tint.specs.Calls.{judgeCounted, read}
+use Rattle.noise.specs.Load as Noise
+use Rattle.noise.specs.Load.{Load, load, ones, loadBlock, reportOf}
 use Rattle.line_c.specs.State.{senderSize, holdsSender, senderIn, senderOf, receiverSize, holdsReceiver, receiverIn, receiverOf}
 use Rattle.line_c.specs.BlockCalls.{refusal, readNumber}
 use Rattle.line_c.specs.SenderCalls.{judgeState, openSenderIn, flagWord, itemWord, sendIn, sentWord, goingOnNumber, finishedNumber, gaveUpNumber, restIn}
 use Rattle.line_c.specs.ReceiverCalls.{openReceiverIn, eventNumber, receiveIn, reportNumber, returnNumber, backIn}
 use Rattle.line_c.specs.TintCalls.{numbersOf, dosesHeld, writeTint, judgeRoom, readTint}
+use Rattle.line_c.specs.NoiseCalls.{generatorOf, reportWord, noiseWord, loadIn}
 use Rattle.line_c.specs.Refused.{isRefusal, isRefused, RefusalsTold}
 
 -- ---- answers that are no refusal
@@ -206,6 +209,20 @@ read-tint-told : (order numbers : List ℕ) → Plain (readTint order numbers)
 unfolding readTint
 read-tint-told order numbers = room-told numbers (read order) (order-told order)
 
+noise-word : (inverted : ℕ) (turned : Bool) → isRefusal (reportWord inverted turned) ≡ false
+noise-word inverted turned = from-64 (reportWord inverted turned) (over inverted (flagWord turned 0x200))
+  where
+    over : (i a : ℕ) → 64 ≤ 0x100 + a + i * 65536
+    over i a = omega arith
+
+noise-told : (k first second : ℕ) (slice : List ℕ)
+    → isRefusal (noiseWord (reportOf (loadIn k first second slice))) ≡ isRefused (loadIn k first second slice)
+unfolding loadBlock
+noise-told k first second slice =
+    let l : Load = load (blockLength k) (generatorOf first second) in
+    three (λ a. noiseWord (reportOf a)) (λ n. refl) (done l) (noise-word (ones (binary 16 (l .pattern))) (l .turned))
+    (not (isLength k)) (eqb first 0) (tooShort slice (blockLength k)) A.block Noise.generator A.short refl refl refl
+
 -- ---- the two queries: refused by 7 alone
 
 abbrev OnlySpoiled : ℕ → Type 0
@@ -246,4 +263,5 @@ refusals-told =
       return-bit = λ state. back-told (not (holdsReceiver state)) (receiverIn state);
       write-tint = write-tint-told;
       read-tint = read-tint-told;
+      noise = noise-told;
     }

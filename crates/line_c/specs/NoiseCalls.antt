@@ -5,7 +5,7 @@ use mathlib.Core.Bool.{Bool}
 use mathlib.Core.List.{List}
 use Prim.Native.Nat.{ℕ, _+_, _*_}
 use Rattle.block.specs.Answer.{Answer, refused, done}
-use Rattle.noise.specs.Load.{Report, loadBlock, reported, generatorAfter, loadedBytes}
+use Rattle.noise.specs.Load.{Load, Report, loadBlock, reportOf, generatorAfter, loadedBytes}
 use Rattle.noise.specs.declared.Generator.{Generator}
 use Rattle.line_c.specs.SenderCalls.{flagWord}
 
@@ -20,7 +20,11 @@ abbrev pub noiseWord : Answer Report → ℕ
 noiseWord (refused n) = n
 noiseWord (done r) = reportWord (r .inverted) (r .turned)
 
+-- the load by the two words
+abbrev pub loadIn : ℕ → ℕ → ℕ → List ℕ → Answer Load
+loadIn k first second slice = loadBlock k (generatorOf first second) slice
+
 pub record NoiseCall (k first second : ℕ) (slice : List ℕ) (result first′ second′ : ℕ) (slice′ : List ℕ) : Type 0 where
-  pub answers : result ≡ noiseWord (reported (loadBlock k (generatorOf first second) slice))
-  pub hands-back : generatorOf first′ second′ ≡ generatorAfter (generatorOf first second) (loadBlock k (generatorOf first second) slice)
-  pub writes : slice′ ≡ loadedBytes k slice (loadBlock k (generatorOf first second) slice)
+  pub answers : result ≡ noiseWord (reportOf (loadIn k first second slice))
+  pub hands-back : generatorOf first′ second′ ≡ generatorAfter (generatorOf first second) (loadIn k first second slice)
+  pub writes : slice′ ≡ loadedBytes k slice (loadIn k first second slice)

@@ -11,11 +11,13 @@ use Rattle.block.specs.Calls.{buildBlock, readBlock}
 use Rattle.line.specs.LoopTime.{loopTime}
 use Rattle.line.specs.Receiving.{reported}
 use Rattle.line.specs.declared.marks.CodeSize.{CodeSize}
+use Rattle.noise.specs.Load.{reportOf}
 use Rattle.line_c.specs.State.{senderOf, receiverOf}
 use Rattle.line_c.specs.BlockCalls.{refusal, readNumber}
 use Rattle.line_c.specs.SenderCalls.{openSenderIn, sendIn, sentWord, restIn}
 use Rattle.line_c.specs.ReceiverCalls.{openReceiverIn, receiveIn, reportNumber, backIn}
 use Rattle.line_c.specs.TintCalls.{writeTint, readTint}
+use Rattle.line_c.specs.NoiseCalls.{noiseWord, loadIn}
 
 -- 1 to 63
 abbrev pub isRefusal : ℕ → Bool
@@ -47,3 +49,5 @@ pub record RefusalsTold : Type 0 where
   pub write-tint : (numbers : List ℕ) (count : ℕ) (slice : List ℕ)
       → isRefusal (refusal (writeTint numbers count slice)) ≡ isRefused (writeTint numbers count slice)
   pub read-tint : (order numbers : List ℕ) → isRefusal (refusal (readTint order numbers)) ≡ isRefused (readTint order numbers)
+  pub noise : (k first second : ℕ) (slice : List ℕ)
+      → isRefusal (noiseWord (reportOf (loadIn k first second slice))) ≡ isRefused (loadIn k first second slice)

@@ -6,10 +6,10 @@ abbrev pub major : ℕ
 major = 5
 
 abbrev pub minor : ℕ
-minor = 0
+minor = 1
 
 abbrev pub patch : ℕ
-patch = 1
+patch = 0
 
 -- the three in one number, a byte for each of the last two
 abbrev pub libraryVersion : ℕ

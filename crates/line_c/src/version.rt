@@ -3,9 +3,9 @@ ghost use Rattle.line_c.specs.Version.{VersionCall};
 
 pub const MAJOR: u32 = 5;
 
-pub const MINOR: u32 = 0;
+pub const MINOR: u32 = 1;
 
-pub const PATCH: u32 = 1;
+pub const PATCH: u32 = 0;
 
 #[no_mangle]
 pub extern "C" fn order_line_version() -> u32

@@ -120,7 +120,7 @@ module _ (k : ℕ) (s s′ : List ℕ) (l : Load) (room : l .place + 16 ≤ bloc
         damage = subst Damage (sym differ) (places-damage n l room);
         counted = c;
         others = others-stay;
-        found = λ p h. ⊎-elim (λ q. absurd (omega (arith, c, not-found p q, h))) (λ q. q) (either (passes (blockOf k s′)))
+        found = λ p h. ⊎-elim (λ q. absurd (omega (arith, c, not-found p q, h))) (λ q. q) (either (passes (blockOf k s′)));
       }
     where
       c : inverted ≡ ones (differences k s s′)
@@ -143,5 +143,5 @@ every-load k g s s′ r inverted turned =
     load-cases k g s (λ (a : Answer Load). LoadedAs k g s a r s′ → r .answer ≡ N.Done inverted turned → BlockLoaded k s s′ inverted)
     (λ n z a e. absurd (omega (arith, ap isDone (ap noiseAnswer (sym e) ∙ a .answers))))
     (λ held a e.
-      loaded k s s′ (load (blockLength k) g) (load-room k g) held (a .writes) inverted
-      (ap invertedOf (ap noiseAnswer (sym e) ∙ a .answers)))
+    loaded k s s′ (load (blockLength k) g) (load-room k g) held (a .writes) inverted
+    (ap invertedOf (ap noiseAnswer (sym e) ∙ a .answers)))

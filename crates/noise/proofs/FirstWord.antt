@@ -78,7 +78,7 @@ first-word =
       below = step-lt;
       one-to-one = one-to-one;
       onto = λ y h. (value back y, back-lt y h, back-undone y h);
-      never-0 = λ x h n z. n (one-to-one x 0 h (lit< tt) z)
+      never-0 = λ x h n z. n (one-to-one x 0 h (lit< tt) z);
     }
 
 -- ---- the generator's first word, from one that is not 0 on

@@ -1,8 +1,10 @@
 -- Lemmas of the noise load; those of one function of the code stand in its folder.
 -- The pattern over three bytes, and over a block: Spans. Ones counted: Ones. What a call does and answers: Loads. The first word's
--- step: FirstWord. The block before and after: EveryLoad. Words and blocks computed: Witness.
+-- step: FirstWord. The block before and after: EveryLoad. Numbers and blocks computed: Examples, Witness.
 pub mod Spans
 pub mod Ones
 pub mod Loads
 pub mod FirstWord
 pub mod EveryLoad
+pub mod Examples
+pub mod Witness

@@ -19,7 +19,7 @@ use Rattle.block.specs.Lengths.{isLength, blockLength}
 use Rattle.block.specs.Calls.{tooShort}
 use Rattle.block.proofs.Truth.{cond-case}
 use Rattle.noise.specs.Generator.{next, drawn}
-use Rattle.noise.specs.Load.{Load, spanLoad, wholeLoad, load, places, ones, generator, loadBlock, reported, generatorAfter, loadedBytes, LoadedAs, LoadBlock}
+use Rattle.noise.specs.Load.{Load, spanLoad, wholeLoad, load, places, ones, generator, loadBlock, reportOf, generatorAfter, loadedBytes, LoadedAs, LoadBlock}
 use Rattle.noise.specs.Code.{laid}
 use Rattle.noise.specs.declared.Generator.{Generator}
 use Rattle.noise.specs.declared.Noise.the-variants as N
@@ -56,10 +56,10 @@ module _ (k : ℕ) (g : Generator) (s : List ℕ) (held : tooShort s (blockLengt
   damaged g′ d s′ n e w =
       record {
         answers =
-          ap (λ (x : ℕ). done (record { inverted = x; turned = false }))
-          (sym (ones-binary 16 (d % 2 ^ 16) (omega arith)) ∙ ap (λ (x : ℕ). ones (binary 16 (x % 2 ^ 16))) e);
+            ap (λ (x : ℕ). done (record { inverted = x; turned = false }))
+            (sym (ones-binary 16 (d % 2 ^ 16) (omega arith)) ∙ ap (λ (x : ℕ). ones (binary 16 (x % 2 ^ 16))) e);
         hands-back = n;
-        writes = w ∙ ap (λ (x : ℕ). laid (x / 2 ^ 16 % (blockLength k - 15)) (x % 2 ^ 16) s) e ∙ laid-bytes
+        writes = w ∙ ap (λ (x : ℕ). laid (x / 2 ^ 16 % (blockLength k - 15)) (x % 2 ^ 16) s) e ∙ laid-bytes;
       }
 
 -- ---- no damage
@@ -93,9 +93,9 @@ module _ (k : ℕ) (g : Generator) (s : List ℕ) (d : ℕ) (e : d ≡ drawn g) 
       let c : eqb (drawn g % 4) 2 ≡ true = ap (λ (x : ℕ). eqb (x % 4) 2) (sym e) ∙ t in
       let f : load (blockLength k) g ≡ spanLoad (blockLength k) g′ = rw (c, n) in
       record {
-        answers = a .answers ∙ ap (λ (l : Load). reported (done l)) (sym f);
+        answers = a .answers ∙ ap (λ (l : Load). reportOf (done l)) (sym f);
         hands-back = a .hands-back ∙ ap (λ (l : Load). generatorAfter g (done l)) (sym f);
-        writes = a .writes ∙ ap (λ (l : Load). loadedBytes k s (done l)) (sym f)
+        writes = a .writes ∙ ap (λ (l : Load). loadedBytes k s (done l)) (sym f);
       }
 
   -- no damage, and perhaps a turned-over reading
@@ -108,9 +108,9 @@ module _ (k : ℕ) (g : Generator) (s : List ℕ) (d : ℕ) (e : d ≡ drawn g) 
       let v : turned ≡ eqb (drawn g % 4) 3 = u ∙ ap (λ (x : ℕ). eqb (x % 4) 3) e in
       let f : load (blockLength k) g ≡ wholeLoad turned g′ = rw (c, n, v) in
       record {
-        answers = ap (λ (l : Load). reported (done l)) (sym f);
+        answers = ap (λ (l : Load). reportOf (done l)) (sym f);
         hands-back = ap (λ (l : Load). generatorAfter g (done l)) (sym f);
-        writes = whole-bytes k s turned g′ held bytes ∙ ap (λ (l : Load). loadedBytes k s (done l)) (sym f)
+        writes = whole-bytes k s turned g′ held bytes ∙ ap (λ (l : Load). loadedBytes k s (done l)) (sym f);
       }
 
 -- ---- the call: 1, 13, 6

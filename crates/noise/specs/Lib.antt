@@ -2,4 +2,5 @@
 pub mod Generator
 pub mod Load
 pub mod Facts
+pub mod Examples
 pub mod Code

@@ -42,9 +42,13 @@ wholeLoad turned g = record { pattern = 0; place = 0; turned = turned; generator
 unfoldable pub load : ℕ → Generator → Load
 load n g = cond (eqb (drawn g % 4) 2) (spanLoad n (next g)) (wholeLoad (eqb (drawn g % 4) 3) (next g))
 
--- the places of the n bits that are inverted, as ones
+-- a pattern from a place of n bits on: the places that it inverts, as ones
+abbrev pub patternAt : ℕ → ℕ → ℕ → Bits
+patternAt n place pattern = zeros place ++ (binary 16 pattern ++ zeros (n - (place + 16)))
+
+-- the places that a load inverts
 unfoldable pub places : ℕ → Load → Bits
-places n l = zeros (l .place) ++ (binary 16 (l .pattern) ++ zeros (n - (l .place + 16)))
+places n l = patternAt n (l .place) (l .pattern)
 
 -- how many ones a row has
 abbrev pub ones : Bits → ℕ
@@ -72,9 +76,9 @@ abbrev pub noiseAnswer : Noise → Answer Report
 noiseAnswer (N.Done inverted turned) = done (record { inverted = inverted; turned = turned })
 noiseAnswer (N.Refused n) = refused n
 
-abbrev pub reported : Answer Load → Answer Report
-reported (refused n) = refused n
-reported (done l) = done (record { inverted = ones (binary 16 (l .pattern)); turned = l .turned })
+abbrev pub reportOf : Answer Load → Answer Report
+reportOf (refused n) = refused n
+reportOf (done l) = done (record { inverted = ones (binary 16 (l .pattern)); turned = l .turned })
 
 -- refused, the generator is as it was
 abbrev pub generatorAfter : Generator → Answer Load → Generator
@@ -90,7 +94,7 @@ loadedBytes k slice (done l) =
 
 -- what a call answers, hands back and writes, if the answer is this
 pub record LoadedAs (k : ℕ) (g : Generator) (slice : List ℕ) (a : Answer Load) (r : Loaded) (slice′ : List ℕ) : Type 0 where
-  pub answers : noiseAnswer (r .answer) ≡ reported a
+  pub answers : noiseAnswer (r .answer) ≡ reportOf a
   pub hands-back : r .generator ≡ generatorAfter g a
   pub writes : slice′ ≡ loadedBytes k slice a
 

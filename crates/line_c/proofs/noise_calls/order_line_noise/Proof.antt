@@ -7,7 +7,7 @@ use native.Mathlib.Omega.{arith}
 use Rattle.crc.specs.Bits.{binary}
 use Rattle.crc.proofs.Rows.{length-binary}
 use Rattle.block.specs.Answer.{Answer, refused, done}
-use Rattle.noise.specs.Load.{Load, Report, noiseAnswer, reported, generatorAfter, loadBlock, LoadBlock}
+use Rattle.noise.specs.Load.{Load, Report, noiseAnswer, reportOf, generatorAfter, loadBlock, LoadBlock}
 use Rattle.noise.specs.declared.Generator.{Generator}
 use Rattle.noise.specs.declared.Noise.{Noise}
 use Rattle.noise.specs.declared.Noise.the-variants as N
@@ -28,18 +28,18 @@ isDone (refused n) = 0
 isDone (done r) = 1
 
 -- 16 bits have at most 16 ones
-at-most-16 : (a : Answer Load) (r : Report) → done r ≡ reported a → r .inverted ≤ 16
+at-most-16 : (a : Answer Load) (r : Report) → done r ≡ reportOf a → r .inverted ≤ 16
 at-most-16 (refused n) r e = absurd (omega (arith, ap isDone e))
 at-most-16 (done l) r e = omega (arith, ap invertedOf e, ones-le (binary 16 (l .pattern)), length-binary 16 (l .pattern))
 
 -- refused, the generator is as it was
-kept : (g : Generator) (a : Answer Load) (n : ℕ) → refused n ≡ reported a → g ≡ generatorAfter g a
+kept : (g : Generator) (a : Answer Load) (n : ℕ) → refused n ≡ reportOf a → g ≡ generatorAfter g a
 kept g (refused m) n e = refl
 kept g (done l) n e = absurd (omega (arith, ap isDone e))
 
 module _ (k first second : ℕ) (s s′ : List ℕ) (r : Loaded) (a : LoadBlock k (generatorOf first second) s r s′) where
   -- the answer, where it is known
-  known : (x : Noise) → r .answer ≡ x → noiseAnswer x ≡ reported (loadBlock k (generatorOf first second) s)
+  known : (x : Noise) → r .answer ≡ x → noiseAnswer x ≡ reportOf (loadBlock k (generatorOf first second) s)
   known x e = ap noiseAnswer (sym e) ∙ a .answers
 
   turned-away : (n : ℕ) → r .answer ≡ N.Refused n → NoiseCall k first second s n first second s′
@@ -47,7 +47,7 @@ module _ (k first second : ℕ) (s s′ : List ℕ) (r : Loaded) (a : LoadBlock 
       record {
         answers = ap noiseWord (known (N.Refused n) e);
         hands-back = kept (generatorOf first second) (loadBlock k (generatorOf first second) s) n (known (N.Refused n) e);
-        writes = a .writes
+        writes = a .writes;
       }
 
   module _ (inverted : ℕ) (turned : Bool) (e : r .answer ≡ N.Done inverted turned) where

@@ -14,7 +14,7 @@ unfolding next drawn
 draws g first second number f s n =
     record {
       updates = ap₂ (λ (x y : ℕ). record { first = x; second = y }) f s;
-      draws = n ∙ ap₂ (λ (x y : ℕ). kept (x + y)) f s
+      draws = n ∙ ap₂ (λ (x y : ℕ). kept (x + y)) f s;
     }
 
 next-first-requires : tie.Need-next-first-requires
