@@ -1,7 +1,7 @@
 /*
  * The sizes and tests of include/order_line.h, judged while this is compiled, as C11 and as C++: the store's room, a
- * tint order's bytes, and ORDER_LINE_IS_REFUSED and ORDER_LINE_IS_EVENT at the ends of each range and for each type
- * that a call returns.
+ * tint order's bytes, ORDER_LINE_IS_REFUSED and ORDER_LINE_IS_EVENT at the ends of each range and for each type that a
+ * call returns, and what the words of sending and of the noise load hold.
  */
 #include "../include/order_line.h"
 
@@ -29,13 +29,20 @@ static_assert(2 * ORDER_LINE_TINT_BYTES(1 + 1) == 18, "brackets around the macro
 #define WORD(number) (!ORDER_LINE_IS_REFUSED((uint16_t)(number)) && !ORDER_LINE_IS_REFUSED((uint32_t)(number)))
 
 static_assert(NEITHER(0) && WORD(0), "done");
-static_assert(REFUSED(ORDER_LINE_REFUSED_BLOCK) && REFUSED(ORDER_LINE_REFUSED_STEPS) && REFUSED(63), "refusals");
+static_assert(REFUSED(ORDER_LINE_REFUSED_BLOCK) && REFUSED(ORDER_LINE_REFUSED_GENERATOR) && REFUSED(63), "refusals");
 static_assert(EVENT(ORDER_LINE_EVENT_NONE) && EVENT(ORDER_LINE_EVENT_WAIT) && EVENT(79), "events");
 static_assert(NEITHER(ORDER_LINE_GOING_ON) && NEITHER(ORDER_LINE_FINISHED) && NEITHER(ORDER_LINE_GAVE_UP), "rest");
 static_assert(NEITHER(ORDER_LINE_RETURN_0) && NEITHER(ORDER_LINE_RETURN_1), "return bit");
 static_assert(WORD(ORDER_LINE_PASSED) && WORD(ORDER_LINE_PASSED + 15) && WORD(ORDER_LINE_FAILED), "read");
 static_assert(WORD(ORDER_LINE_SENT) && WORD(ORDER_LINE_SENT | ORDER_LINE_SENT_ITEM | 1094u << 16), "sent");
+static_assert(WORD(ORDER_LINE_NOISE) && WORD(ORDER_LINE_NOISE | ORDER_LINE_NOISE_TURNED), "noise without a span");
+static_assert(WORD(ORDER_LINE_NOISE | 1u << 16) && WORD(ORDER_LINE_NOISE | 16u << 16), "noise with a span");
 
 static_assert(ORDER_LINE_RETURN_BIT(ORDER_LINE_RETURN_0) == 0, "return bit 0");
 static_assert(ORDER_LINE_RETURN_BIT(ORDER_LINE_RETURN_1) == 1, "return bit 1");
 static_assert(ORDER_LINE_RETURN_BIT(ORDER_LINE_REFUSED_SPOILED) == 1, "a spoiled state asks for a repeat");
+
+static_assert(ORDER_LINE_SENT_NUMBER(ORDER_LINE_SENT | ORDER_LINE_SENT_ITEM | 1094u << 16) == 1094, "an item's number");
+static_assert(ORDER_LINE_NOISE_INVERTED(ORDER_LINE_NOISE | 16u << 16) == 16, "the bits of a span");
+static_assert(ORDER_LINE_NOISE_INVERTED(ORDER_LINE_NOISE | ORDER_LINE_NOISE_TURNED) == 0, "a turned reading alone");
+static_assert(2 * ORDER_LINE_NOISE_INVERTED(ORDER_LINE_NOISE + 65536u) == 2, "brackets around the macro");

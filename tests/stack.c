@@ -17,6 +17,7 @@ static uint16_t doses[2 * ORDER_LINE_MOST_DOSES];
 static uint8_t tint[ORDER_LINE_TINT_BYTES(ORDER_LINE_MOST_DOSES)];
 static size_t bits, used, length, tint_bytes, count;
 static uint16_t remainder;
+static uint32_t first_word, second_word;
 static uint32_t answer;
 
 static void nothing(void) {}
@@ -65,6 +66,7 @@ static void read_tint(void)
 {
     answer = order_line_read_tint(tint, sizeof tint, doses, 2 * ORDER_LINE_MOST_DOSES, &count);
 }
+static void noise(void) { answer = order_line_noise(k, &first_word, &second_word, block, sizeof block); }
 static void version(void) { answer = order_line_version(); }
 
 static uint8_t stack[1 << 16];
@@ -86,15 +88,18 @@ static size_t painted(void (*call)(void), uint8_t paint)
     return sizeof stack - clean;
 }
 
-/* The deepest of the two, with the state as it was before each. */
+/* The deepest of the two, with the state and the words as they were before each. */
 static size_t depth(void (*call)(void))
 {
     uint8_t before[sizeof sender + sizeof receiver], *rest_of = before + sizeof sender;
+    uint32_t words[2] = {first_word, second_word};
     memcpy(before, sender, sizeof sender);
     memcpy(rest_of, receiver, sizeof receiver);
     size_t first = painted(call, 0xA5);
     memcpy(sender, before, sizeof sender);
     memcpy(receiver, rest_of, sizeof receiver);
+    first_word = words[0];
+    second_word = words[1];
     size_t second = painted(call, 0x5A), empty = painted(nothing, 0xA5);
     return (first > second ? first : second) - empty;
 }
@@ -164,7 +169,24 @@ static bool tint_order(size_t *writing, size_t *reading)
     return answer == 0 && count == ORDER_LINE_MOST_DOSES && doses[22] == 12 && doses[23] == 1666;
 }
 
-/* The calls that a session or a tint order does not measure. */
+/* Some periods of noise, among them each of what a draw can choose; the deepest. */
+static bool noises(size_t *deepest)
+{
+    bool unharmed = false, damaged = false, turned = false;
+    first_word = 1968;
+    second_word = 41;
+    for (int period = 0; period < 32; period++) {
+        deepen(deepest, noise);
+        if (!(answer & ORDER_LINE_NOISE))
+            return false;
+        unharmed |= answer == ORDER_LINE_NOISE;
+        damaged |= ORDER_LINE_NOISE_INVERTED(answer) > 0;
+        turned |= answer == (ORDER_LINE_NOISE | ORDER_LINE_NOISE_TURNED);
+    }
+    return unharmed && damaged && turned;
+}
+
+/* The calls that a session, a tint order or noise does not measure. */
 static struct {
     const char *name;
     void (*call)(void);
@@ -188,7 +210,7 @@ static struct {
 int main(void)
 {
     static const size_t lengths[] = {240, 480, 960, 3840}, pieces[] = {3860, 64, 1};
-    size_t sending = 0, receiving = 0, writing = 0, reading = 0;
+    size_t sending = 0, receiving = 0, writing = 0, reading = 0, loading = 0;
     for (size_t i = 0; i < sizeof order; i++)
         order[i] = (uint8_t)(i * 89 + 7);
     for (size_t i = 0; i < 4; i++) {
@@ -205,6 +227,10 @@ int main(void)
             puts("a block with an inverted bit was not read as failed");
             return 1;
         }
+        if (!noises(&loading)) {
+            puts("the noise load did not do all that a draw can choose");
+            return 1;
+        }
     }
     if (!tint_order(&writing, &reading)) {
         puts("the tint order was not read as it was written");
@@ -214,5 +240,6 @@ int main(void)
         printf("%-24s %5zu\n", others[j].name, others[j].deepest);
     printf("%-24s %5zu\n%-24s %5zu\n", "send", sending, "receive", receiving);
     printf("%-24s %5zu\n%-24s %5zu\n", "write_tint", writing, "read_tint", reading);
+    printf("%-24s %5zu\n", "noise", loading);
     return 0;
 }

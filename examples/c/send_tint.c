@@ -2,12 +2,13 @@
  * An office and a machine in one program: a tint order goes through the order line's library over a noisy line, and the
  * doses that the machine reads are compared with those that the office wrote.
  *
- *     send_tint [K [CANISTER STEPS]...]
+ *     send_tint [--noise FIRST SECOND] [K [CANISTER STEPS]...]
  *
- * K is 240 (as without it), 480, 960 or 3840 data bits a block. A dose is a CANISTER, 1 to 12, and its pump STEPS, 1 to
- * 4,800; canisters rise, and all steps together are 20,000 or fewer. Where none is given, four are sent. Exit status 0
- * means that the same doses were read, 1 that they were not, 2 that the doses or the line were refused. The office and
- * the machine are in session.c.
+ * FIRST and SECOND are the words that the noise starts from; it is the same from the same words. K is 240 (as without
+ * it), 480, 960 or 3840 data bits a block. A dose is a CANISTER, 1 to 12, and its pump STEPS, 1 to 4,800; canisters rise,
+ * and all steps together are 20,000 or fewer. Where none is given, four are sent. Exit status 0 means that the same doses
+ * were read, 1 that they were not, 2 that the doses, the line or the words were refused. The office and the machine are
+ * in session.c.
  */
 #include <stdio.h>
 #include <stdlib.h>
@@ -64,15 +65,15 @@ int main(int argc, char **argv)
     static uint8_t order[TINT_BYTES];
     static struct office office;
     static struct machine machine;
-    size_t k = argc > 1 ? (size_t)strtoul(argv[1], NULL, 10) : 240;
-    size_t count = 4;
+    struct words words;
+    size_t k, count = 4;
     uint8_t refusal;
     int status;
 
     if (!same_version())
         return 2;
-    if (argc > 2 && argc % 2 != 0) {
-        fputs("usage: send_tint [K [CANISTER STEPS]...]\n", stderr);
+    if (!take_noise_option(&argc, &argv, &words) || (argc > 2 && argc % 2 != 0)) {
+        fputs("usage: send_tint [--noise FIRST SECOND] [K [CANISTER STEPS]...]\n", stderr);
         return 2;
     }
     if (argc > 2)
@@ -83,7 +84,8 @@ int main(int argc, char **argv)
         return 2;
     }
     office.order = order; /* its length is 8 times its bytes: see office_open in session.c */
-    status = run_session(&office, &machine, k, NULL);
+    k = argc > 1 ? (size_t)strtoul(argv[1], NULL, 10) : 240;
+    status = run_session(&office, &machine, k, NULL, words);
     if (status == 2)
         return 2;
     if (status == 0 && !machine_reads(&machine, doses, count))

@@ -135,75 +135,70 @@ static void machine_on_bits(struct machine *machine, uint8_t byte, size_t bits)
     }
 }
 
-/* ---- the noise: the same at each run ---- */
+/* ---- the noise: the library's noise load, for a bench; no office and no machine has it ---- */
 
-/*
- * One block in eight is damaged, and all ten of an outage in each 64, so that a search and resynchronising are seen.
- * The damage is an even number of bits within 16 adjacent places; with a cancelled block's inverted last bit that makes
- * an odd number. Either is damage that the check finds. A return reading of 0 is turned into 1 in one block of 32, which
- * costs a repeat. A reading of 1 is never turned: no repeat request is lost.
- */
 struct noise {
-    uint32_t random; /* the state of the random numbers (xorshift) */
-    unsigned long period;
-    size_t first;   /* the first damaged bit */
-    uint16_t burst; /* the damage from there on, the first bit on top; 0 in a block that stays whole */
+    struct words words;          /* the generator's */
+    uint8_t damage[BLOCK_BYTES]; /* ones where this period's block is inverted */
+    bool turned;                 /* this period's reading is turned over */
+    bool turned_next;            /* the next period's is */
+    unsigned long periods, damaged; /* blocks sent, and those of them with inverted bits */
+    unsigned long inverted;         /* bits inverted in all */
+    unsigned long readings;         /* readings turned over */
 };
 
-static uint32_t noise_below(struct noise *noise, uint32_t limit)
+/*
+ * At the start of a block period, once in each: draws its noise. The load is meant for a block as it was sent, but here
+ * the first bits are taken before the last one is decided. What is inverted does not depend on the block's bits, so the
+ * load is laid over zeros, and the ones that it leaves are the inverted places. Returns 0 or a refusal.
+ */
+static uint8_t noise_begin_block(struct noise *noise, size_t k)
 {
-    noise->random ^= noise->random << 13;
-    noise->random ^= noise->random >> 17;
-    noise->random ^= noise->random << 5;
-    return noise->random % limit;
-}
+    uint32_t word;
 
-static void noise_begin_block(struct noise *noise, size_t n)
-{
-    bool in_outage = noise->period % 64 >= 20 && noise->period % 64 < 30;
-    bool odd = false;
-    unsigned i;
-
-    noise->period++;
-    noise->burst = 0;
-    if (noise_below(noise, 8) != 0 && !in_outage)
-        return;
-    noise->first = noise_below(noise, (uint32_t)(n - 15));
-    noise->burst = (uint16_t)(0x8000u | noise_below(noise, 0x8000));
-    for (i = 0; i < 16; i++)
-        odd ^= (noise->burst >> i & 1) != 0;
-    if (odd)
-        noise->burst ^= 1;
+    memset(noise->damage, 0, BLOCK_BYTES);
+    word = order_line_noise(k, &noise->words.first, &noise->words.second, noise->damage, BLOCK_BYTES);
+    if (ORDER_LINE_IS_REFUSED(word))
+        return (uint8_t)word;
+    noise->turned = noise->turned_next; /* what was drawn in the period before */
+    noise->turned_next = (word & ORDER_LINE_NOISE_TURNED) != 0;
+    noise->periods++;
+    if (ORDER_LINE_NOISE_INVERTED(word) != 0)
+        noise->damaged++;
+    noise->inverted += ORDER_LINE_NOISE_INVERTED(word);
+    return 0;
 }
 
 /* The block's byte at this place as it arrives. */
 static uint8_t noise_on_byte(const struct noise *noise, size_t place, uint8_t byte)
 {
-    size_t i;
-
-    for (i = 0; i < 16; i++)
-        if ((noise->burst >> (15 - i) & 1) != 0 && (noise->first + i) / 8 == place)
-            byte = (uint8_t)(byte ^ 0x80u >> (noise->first + i) % 8);
-    return byte;
+    return (uint8_t)(byte ^ noise->damage[place]);
 }
 
+/* The return bit as it is read at the sending call that counts. */
 static bool noise_on_reading(struct noise *noise, bool return_bit)
 {
-    return noise_below(noise, 32) == 0 || return_bit;
+    if (noise->turned)
+        noise->readings++;
+    return return_bit != noise->turned;
 }
 
 /* ---- one session ---- */
 
-/* One block period: the block goes out byte by byte and is taken as it comes. Returns 0 or the office's refusal. */
+/*
+ * One block period: the block goes out byte by byte and is taken as it comes. Returns 0, or the refusal of the office or
+ * of the noise.
+ */
 static uint8_t run_period(struct office *office, struct machine *machine, struct noise *noise, size_t k)
 {
     size_t last = ORDER_LINE_BLOCK_BYTES(k) - 1; /* the byte with the block's last four bits */
     size_t i;
     uint8_t refusal = office_begin_block(office);
 
+    if (refusal == 0)
+        refusal = noise_begin_block(noise, k);
     if (refusal != 0)
         return refusal;
-    noise_begin_block(noise, k + 20);
     for (i = 0; i < last; i++)
         machine_on_bits(machine, noise_on_byte(noise, i, office->block[i]), 8);
     refusal = office_end_block(office, noise_on_reading(noise, machine->return_bit != 0));
@@ -218,21 +213,27 @@ static unsigned long event_count(const struct machine *machine, uint8_t event)
     return machine->events[event - ORDER_LINE_EVENT_NONE];
 }
 
-static void print_summary(const struct office *office, const struct machine *machine, unsigned long periods, size_t k)
+static void print_summary(const struct office *office, const struct machine *machine, const struct noise *noise,
+                          size_t k)
 {
     printf("%lu bytes, blocks of %lu data bits: %lu periods, %lu synchronising, %lu cancelled, %lu repeats\n",
-           (unsigned long)office->order_bytes, (unsigned long)k, periods, office->synchronising, office->cancelled,
-           office->repeats);
+           (unsigned long)office->order_bytes, (unsigned long)k, noise->periods, office->synchronising,
+           office->cancelled, office->repeats);
     printf("events: %lu sync, %lu bad (%lu with remainder 1), %lu accepted, %lu previous, %lu ended, %lu alarms\n",
            event_count(machine, ORDER_LINE_EVENT_SYNC), event_count(machine, ORDER_LINE_EVENT_BAD), machine->bad_with_1,
            event_count(machine, ORDER_LINE_EVENT_ACCEPTED), event_count(machine, ORDER_LINE_EVENT_PREVIOUS),
            event_count(machine, ORDER_LINE_EVENT_ENDED),
            event_count(machine, ORDER_LINE_EVENT_SEQUENCE_ALARM) + event_count(machine, ORDER_LINE_EVENT_LENGTH_ALARM));
+    printf("noise: %lu blocks damaged (%lu bits), %lu readings turned over\n", noise->damaged, noise->inverted,
+           noise->readings);
 }
 
 /* Whether the order arrived; prints why not. */
 static bool arrived_whole(const struct office *office, const struct machine *machine, uint8_t rest)
 {
+    bool same = machine->length == 8 * office->order_bytes &&
+                memcmp(machine->store, office->order, office->order_bytes) == 0;
+
     if (rest == ORDER_LINE_GAVE_UP)
         puts("the office gave up");
     if (machine->alarm == ORDER_LINE_EVENT_SEQUENCE_ALARM)
@@ -241,19 +242,25 @@ static bool arrived_whole(const struct office *office, const struct machine *mac
         puts("length alarm");
     if (machine->refusal != 0)
         printf("the machine refused %u\n", (unsigned)machine->refusal);
-    if (rest != ORDER_LINE_FINISHED || !machine->ended)
-        return false;
-    return machine->length == 8 * office->order_bytes && memcmp(machine->store, office->order, office->order_bytes) == 0;
+    if (!machine->ended)
+        puts("the machine reported no end");
+    else if (!same)
+        puts("the machine reported the end of another order");
+    return rest == ORDER_LINE_FINISHED && machine->ended && same;
 }
 
-int run_session(struct office *office, struct machine *machine, size_t k, const size_t *size)
+int run_session(struct office *office, struct machine *machine, size_t k, const size_t *size, struct words words)
 {
-    struct noise noise = {1968, 0, 0, 0};
+    struct noise noise;
     uint8_t rest = ORDER_LINE_GOING_ON;
     uint8_t refusal = office_open(office, k, size);
 
     if (refusal == 0)
         refusal = machine_open(machine, k, size);
+    if (refusal == 0)
+        printf("noise from the words %lu and %lu\n", (unsigned long)words.first, (unsigned long)words.second);
+    memset(&noise, 0, sizeof noise);
+    noise.words = words;
     while (refusal == 0 && rest == ORDER_LINE_GOING_ON) {
         refusal = run_period(office, machine, &noise, k);
         rest = order_line_sender_rest(office->state, ORDER_LINE_SENDER_BYTES);
@@ -262,8 +269,37 @@ int run_session(struct office *office, struct machine *machine, size_t k, const 
         fprintf(stderr, "refused %u\n", (unsigned)refusal);
         return 2;
     }
-    print_summary(office, machine, noise.period, k);
+    print_summary(office, machine, &noise, k);
     return arrived_whole(office, machine, rest) ? 0 : 1;
+}
+
+/* ---- what the programs are called with ---- */
+
+/* Reads a 32-bit number, decimal digits alone; returns whether it is one. */
+static bool read_word(const char *text, uint32_t *word)
+{
+    uint64_t number = 0;
+    size_t i;
+
+    for (i = 0; text[i] >= '0' && text[i] <= '9' && number <= UINT32_MAX; i++)
+        number = 10 * number + (uint64_t)(text[i] - '0');
+    *word = (uint32_t)number;
+    return i > 0 && text[i] == '\0' && number <= UINT32_MAX;
+}
+
+bool take_noise_option(int *argc, char ***argv, struct words *words)
+{
+    char **texts = *argv;
+
+    words->first = 1968;
+    words->second = 41;
+    if (*argc < 2 || strcmp(texts[1], "--noise") != 0)
+        return true;
+    if (*argc < 4 || !read_word(texts[2], &words->first) || !read_word(texts[3], &words->second))
+        return false;
+    *argc -= 3;
+    *argv += 3;
+    return true;
 }
 
 bool same_version(void)

@@ -41,14 +41,25 @@ struct machine {
     unsigned long bad_with_1;     /* bad blocks with remainder 1, as a block shows that was only cancelled */
 };
 
+/* The two words that the noise starts from; the same words, the same noise. */
+struct words {
+    uint32_t first, second;
+};
+
 /* Whether library and header are of one version; says so if not. */
 bool same_version(void);
 
 /*
- * Opens both ends at k data bits a block, with marks if size is not NULL, and brings office->order over. Prints the
- * periods, repeats and events, and why the order did not arrive. Returns 0 if it arrived whole, 1 if it did not, 2 if a
- * call was refused.
+ * Reads the option --noise FIRST SECOND, if it stands before all other arguments, and takes it away from them: the others
+ * are then *argv + 1 and on, as without it. Without it the words are 1968 and 41. Returns false if it cannot be read.
  */
-int run_session(struct office *office, struct machine *machine, size_t k, const size_t *size);
+bool take_noise_option(int *argc, char ***argv, struct words *words);
+
+/*
+ * Opens both ends at k data bits a block, with marks if size is not NULL, and brings office->order over. Prints the words
+ * of the noise, then the periods, repeats and events, and why the order did not arrive. Returns 0 if it arrived whole, 1
+ * if it did not, 2 if a call was refused.
+ */
+int run_session(struct office *office, struct machine *machine, size_t k, const size_t *size, struct words words);
 
 #endif

@@ -7,6 +7,7 @@ use crate::interface::{FINISHED, GAVE_UP, GOING_ON, RECEIVER_BYTES, SENDER_BYTES
 use crate::interface::{RETURN_0, RETURN_1};
 use crate::reference::block;
 use crate::reference::loop_time;
+use crate::reference::noise::Generator;
 use crate::reference::receiver;
 use crate::reference::refusal::{Refusal, SHORT, SPOILED};
 use crate::reference::sender;
@@ -85,6 +86,12 @@ pub trait Tints {
 
     /// 0 or the refusal's number. The number of doses is written beside it.
     fn read_tint(&self, order: &[u8], doses: &mut [u16], count: &mut usize) -> u8;
+}
+
+/// "The noise load": the generator's two words, and the block of one period.
+pub trait NoiseLoads {
+    /// The answer's word, or the refusal's number.
+    fn noise(&self, k: usize, first: &mut u32, second: &mut u32, block: &mut [u8]) -> u32;
 }
 
 /// The run program: standard input to standard output.
@@ -211,6 +218,21 @@ impl Tints for Reference {
     }
 }
 
+impl NoiseLoads for Reference {
+    fn noise(&self, k: usize, first: &mut u32, second: &mut u32, block: &mut [u8]) -> u32 {
+        let mut generator = Generator {
+            first: *first,
+            second: *second,
+        };
+        let loaded = generator.load(k, block);
+        if loaded.is_ok() {
+            *first = generator.first;
+            *second = generator.second;
+        }
+        interface::encode_noise(loaded)
+    }
+}
+
 impl RunProgram for Reference {
     fn run(&self, input: &[u8]) -> Vec<u8> {
         session::run(input)
@@ -286,5 +308,11 @@ impl Tints for TableDriven {
 
     fn read_tint(&self, order: &[u8], doses: &mut [u16], count: &mut usize) -> u8 {
         Reference.read_tint(order, doses, count)
+    }
+}
+
+impl NoiseLoads for TableDriven {
+    fn noise(&self, k: usize, first: &mut u32, second: &mut u32, block: &mut [u8]) -> u32 {
+        Reference.noise(k, first, second, block)
     }
 }

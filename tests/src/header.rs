@@ -70,6 +70,7 @@ fn parameter(text: &str) -> Vec<String> {
         "*mut u8" => vec![format!("uint8_t *{name}")],
         "*const u16" => vec![format!("const uint16_t *{name}")],
         "&mut u16" | "*mut u16" => vec![format!("uint16_t *{name}")],
+        "&mut u32" | "*mut u32" => vec![format!("uint32_t *{name}")],
         "&mut usize" | "*mut usize" => vec![format!("size_t *{name}")],
         "&[u8]" => vec![format!("const uint8_t *{name}"), bytes],
         "&mut [u8]" => vec![format!("uint8_t *{name}"), bytes],
@@ -115,7 +116,7 @@ fn header_functions() -> Vec<Function> {
 #[test]
 fn the_header_and_the_wrapper_have_the_same_numbers() {
     let header = header_numbers();
-    assert_eq!(header.len(), 39);
+    assert_eq!(header.len(), 42);
     assert_eq!(header, constants("examples/rust/src/numbers.rs"));
 }
 
@@ -151,7 +152,7 @@ fn the_header_has_the_numbers_that_are_compared_with_the_library() {
 #[test]
 fn the_header_the_wrapper_and_the_library_have_the_same_functions() {
     let header = header_functions();
-    assert_eq!(header.len(), 14);
+    assert_eq!(header.len(), 15);
     assert_eq!(header, functions("examples/rust/src/c.rs"));
     let files = [
         "version",
@@ -159,6 +160,7 @@ fn the_header_the_wrapper_and_the_library_have_the_same_functions() {
         "sender_calls",
         "receiver_calls",
         "tint_calls",
+        "noise_calls",
     ];
     let paths = files.map(|file| format!("crates/line_c/src/{file}.rt"));
     let library: Vec<Function> = paths.iter().flat_map(|path| functions(path)).collect();

@@ -3,6 +3,7 @@
 
 use crate::reference::block::Read;
 use crate::reference::marks::Marks;
+use crate::reference::noise::Load;
 use crate::reference::receiver::{Alarm, Event, Received, Receiver, HELD_BYTES};
 use crate::reference::refusal::{Refusal, SPOILED};
 use crate::reference::sender::{Next, Sender, Sent};
@@ -14,8 +15,8 @@ pub const MARKS_BYTES: usize = 2;
 pub const SENDER_BYTES: usize = HEAD_BYTES + MARKS_BYTES;
 pub const RECEIVER_BYTES: usize = HEAD_BYTES + HELD_BYTES + MARKS_BYTES;
 
-/// 5.0.1.
-pub const VERSION: u32 = 0x05_00_01;
+/// 5.1.0.
+pub const VERSION: u32 = 0x05_01_00;
 
 /// What `sender_rest` answers besides 7.
 pub const GOING_ON: u8 = 80;
@@ -48,6 +49,11 @@ const SENT_END: u32 = 0x400;
 const SENT_USED: u32 = 0x800;
 const SENT_CANCELLED: u32 = 0x1000;
 const NUMBER_SHIFT: u32 = 16;
+
+/// What the noise load answers; the number of bits inverted stands above them.
+const NOISE: u32 = 0x100;
+const NOISE_TURNED: u32 = 0x200;
+const INVERTED_SHIFT: u32 = 16;
 
 const NEXT: [Next; 3] = [Next::Synchronising, Next::Older, Next::Newer];
 
@@ -224,6 +230,28 @@ pub fn decode_sent(word: u32) -> Sent {
     }
 }
 
+/// The answer of the noise load.
+pub fn encode_noise(loaded: Result<Load, Refusal>) -> u32 {
+    match loaded {
+        Err(number) => u32::from(number),
+        Ok(Load { inverted, turned }) => {
+            let turned = if turned { NOISE_TURNED } else { 0 };
+            NOISE | turned | (inverted as u32) << INVERTED_SHIFT
+        }
+    }
+}
+
+/// What an answer of the noise load says.
+pub fn decode_noise(word: u32) -> Result<Load, Refusal> {
+    match word & NOISE {
+        0 => Err(word as Refusal),
+        _ => Ok(Load {
+            inverted: (word >> INVERTED_SHIFT) as usize,
+            turned: word & NOISE_TURNED != 0,
+        }),
+    }
+}
+
 /// An event's number; the L of *ended* and the remainder of *bad* are written beside it.
 fn event_number(event: Event) -> u8 {
     match event {
@@ -351,6 +379,10 @@ mod tests {
         let items = (0..8).flat_map(|flags| [item(0, flags), item(1094, flags)]);
         for answer in items.chain([Sent::Synchronising, Sent::Refused(8)]) {
             assert_eq!(decode_sent(encode_sent(answer)), answer);
+        }
+        let load = |inverted| [false, true].map(|turned| Ok(Load { inverted, turned }));
+        for answer in (0..=16).flat_map(load).chain([Err(1), Err(6), Err(13)]) {
+            assert_eq!(decode_noise(encode_noise(answer)), answer);
         }
         for number in EVENT_NONE..=EVENT_WAIT {
             let counts = Counts {

@@ -6,7 +6,8 @@
 #[path = "../../examples/rust/src/c.rs"]
 mod c;
 
-use crate::calls::{Blocks, Line, LoopTimes, Opening, ReceivingEnd, SendingEnd, Tints};
+use crate::calls::{Blocks, Line, LoopTimes, NoiseLoads, Opening, ReceivingEnd};
+use crate::calls::{SendingEnd, Tints};
 use crate::interface::Counts;
 
 /// The linked library. What the benchmark measures is inlined there, so that it is the call alone.
@@ -181,5 +182,11 @@ impl Tints for Library {
                 count,
             )
         }
+    }
+}
+
+impl NoiseLoads for Library {
+    fn noise(&self, k: usize, first: &mut u32, second: &mut u32, block: &mut [u8]) -> u32 {
+        unsafe { c::order_line_noise(k, first, second, block.as_mut_ptr(), block.len()) }
     }
 }

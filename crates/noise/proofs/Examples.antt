@@ -18,5 +18,5 @@ examples =
       cancelled-fails = refl;
       restored = refl;
       passes-changed = refl;
-      changed = refl
+      changed = refl;
     }

@@ -6,5 +6,6 @@ pub mod Ones
 pub mod Loads
 pub mod FirstWord
 pub mod EveryLoad
+pub mod OnePattern
 pub mod Examples
 pub mod Witness

@@ -1,16 +1,18 @@
 -- What is so of every load, and of the generator's first word. Assumes nothing.
 use mathlib.Core.Path.{_≡_}
 use mathlib.Core.Bool.{Bool, true, false}
+use mathlib.Core.Logic.{_↔_}
 use mathlib.Core.List.{List, [], _∷_, _++_}
-use Prim.Native.Nat.{ℕ, _^_, _≤_, _<_}
+use Prim.Native.Nat.{ℕ, _+_, _^_, _≤_, _<_}
 use lib.ListN.{length, take, drop}
 use Rattle.crc.specs.Bits.{Bits, zeros, xorBits, bitsOf}
 use Rattle.crc.specs.Check.{passes}
 use Rattle.crc.specs.Damage.{Damage}
 use Rattle.block.specs.Answer.{refused}
 use Rattle.block.specs.Lengths.{blockLength}
+use Rattle.block.specs.Block.{cancelled}
 use Rattle.noise.specs.Generator.{nextFirst}
-use Rattle.noise.specs.Load.{ones, generator, loadBlock, generatorAfter, LoadBlock}
+use Rattle.noise.specs.Load.{patternAt, ones, generator, loadBlock, generatorAfter, LoadBlock}
 use Rattle.noise.specs.declared.Generator.{Generator}
 use Rattle.noise.specs.declared.Noise.the-variants as N
 use Rattle.noise.specs.declared.Loaded.{Loaded}
@@ -73,3 +75,12 @@ unfoldable pub OnlyAtTheStart : Type 0
 OnlyAtTheStart =
     (g : Generator) → g .first < 2 ^ 32 → (g .first ≡ 0 → ⊥) → (calls : List Call) (k : ℕ) (slice : List ℕ)
     → loadBlock k (afterCalls g calls) slice ≡ refused generator → ⊥
+
+-- ---- a cancelled block
+
+-- What is not so: that a load on a cancelled block is always found. At each place one pattern of the 65,536 makes the block pass,
+-- and no other does.
+unfoldable pub OnePattern : Type 0
+OnePattern =
+    (row : Bits) (place : ℕ) → place + 16 ≤ length row → passes row ≡ true
+    → (p : ℕ) × (p < 2 ^ 16) × ((q : ℕ) → q < 2 ^ 16 → (passes (xorBits (cancelled row) (patternAt (length row) place q)) ≡ true) ↔ (q ≡ p))

@@ -109,14 +109,14 @@ impl Generator {
         ensures { λ r. ⌜ LoadedAs k self (now (block .entry)) (done (spanLoad (blockLength k) self)) r (now (block .exit)) ⌝ }
     {
         let drawn = self.draw();
-        let generator = drawn.generator;
+        let after = drawn.generator;
         let number = drawn.number;
         let pattern = (number % 65536) as u16;
         let places = k + block::OVERHEAD - (SPAN - 1);
         lay(pattern, (number / 65536) as usize % places, block);
         let inverted = u16::count_ones(pattern);
         Loaded {
-            generator: generator,
+            generator: after,
             answer: Noise::Done {
                 inverted: inverted,
                 turned: false,

@@ -103,4 +103,12 @@ unsafe extern "C" {
         doses_numbers: usize,
         count: *mut usize,
     ) -> u8;
+
+    pub fn order_line_noise(
+        k: usize,
+        first: *mut u32,
+        second: *mut u32,
+        block: *mut u8,
+        block_bytes: usize,
+    ) -> u32;
 }

@@ -3,11 +3,14 @@
 //!
 //! **A new order needs both ends opened anew**, also after a session that broke off: see [`Receiver::open`]. Both use
 //! start-of-message marks or neither does: see [`Receiver::open_with_marks`].
+//!
+//! [`Generator::noise`] is for a bench: it damages blocks, and no office and no machine in a shop makes this call.
 
 #![no_std]
 
 mod block;
 mod c;
+mod noise;
 mod numbers;
 mod receiver;
 mod refusal;
@@ -15,14 +18,16 @@ mod sender;
 mod tint;
 
 pub use block::{Read, build_block, loop_time, read_block};
+pub use noise::{Generator, Noise};
 pub use numbers::{LONGEST_ORDER, MOST_DOSES, MOST_ITEMS, RECEIVER_BYTES, SENDER_BYTES, VERSION};
 pub use receiver::{Event, Receiver};
 pub use refusal::Refusal;
 pub use sender::{Rest, Sender, Sent};
 pub use tint::{Dose, read_tint, write_tint};
 
-// SAFETY, of every call of a function of `c`: each pointer comes with the length of the slice that it was taken from, and
-// the borrows keep what is written apart from everything else that is lent. Doses pass as 16-bit numbers, two for each.
+// SAFETY, of every call of a function of `c`: each pointer comes with the length of the slice that it was taken from, or
+// is a borrow of one number, and the borrows keep what is written apart from everything else that is lent. Doses pass as
+// 16-bit numbers, two for each.
 
 /// The version of the linked library; [`VERSION`] is the one that this wrapper was written for. A later one with the same
 /// major number, the upper half, does as well.

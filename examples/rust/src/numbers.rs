@@ -1,7 +1,7 @@
 //! The numbers of `include/order_line.h`, by its names without `ORDER_LINE_`. The order line's tests compare the two files.
 
-/// 5.0.1: major * 65536 + minor * 256 + patch.
-pub const VERSION: u32 = 0x050001;
+/// 5.1.0: major * 65536 + minor * 256 + patch.
+pub const VERSION: u32 = 0x050100;
 
 pub const REFUSED_BLOCK: u32 = 1;
 pub const REFUSED_SPEED: u32 = 2;
@@ -15,6 +15,7 @@ pub const REFUSED_CODE_SIZE: u32 = 9;
 pub const REFUSED_FORMAT: u32 = 10;
 pub const REFUSED_ENTRY: u32 = 11;
 pub const REFUSED_STEPS: u32 = 12;
+pub const REFUSED_GENERATOR: u32 = 13;
 
 /// Bits of the longest order.
 pub const LONGEST_ORDER: usize = 262144;
@@ -52,3 +53,6 @@ pub const EVENT_WAIT: u8 = 72;
 
 pub const RETURN_0: u8 = 96;
 pub const RETURN_1: u8 = 97;
+
+pub const NOISE: u32 = 0x100;
+pub const NOISE_TURNED: u32 = 0x200;

@@ -31,6 +31,8 @@ pub enum Refusal {
     Entry,
     /// 12: a tint order of more than 20,000 pump steps in all.
     Steps,
+    /// 13: a noise generator whose first word is 0.
+    Generator,
     /// A number that [`VERSION`](crate::VERSION) does not have: the library is of another version.
     Unknown(u32),
 }
@@ -50,6 +52,7 @@ impl Refusal {
             REFUSED_FORMAT => Refusal::Format,
             REFUSED_ENTRY => Refusal::Entry,
             REFUSED_STEPS => Refusal::Steps,
+            REFUSED_GENERATOR => Refusal::Generator,
             _ => Refusal::Unknown(number),
         }
     }
@@ -69,6 +72,7 @@ impl Refusal {
             Refusal::Format => REFUSED_FORMAT,
             Refusal::Entry => REFUSED_ENTRY,
             Refusal::Steps => REFUSED_STEPS,
+            Refusal::Generator => REFUSED_GENERATOR,
             Refusal::Unknown(number) => number,
         }
     }
@@ -91,6 +95,7 @@ impl fmt::Display for Refusal {
                 "a dose has canister 1 to 12, 1 to 4,800 steps and a canister above the one before"
             }
             Refusal::Steps => "a tint order has 20,000 steps or fewer in all",
+            Refusal::Generator => "the first word of a noise generator is any number but 0",
             Refusal::Unknown(_) => "the library is of another version",
         };
         write!(f, "refused {}: {reason}", self.number())

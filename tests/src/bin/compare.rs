@@ -5,8 +5,9 @@
 //! library built, for `crc_hqx.py`. The last line is the verdict in words; a failure is one line
 //! that says what is wrong, and the case where there is one.
 
-use order_line_tests::comparison::{block, both_ends, busy, idle, loop_time, marks, receiver};
-use order_line_tests::comparison::{same, sender, session, tint, two_orders, Difference, Tally};
+use order_line_tests::comparison::{block, both_ends, busy, idle, loop_time, marks, noise};
+use order_line_tests::comparison::{receiver, same, sender, session, tint, two_orders};
+use order_line_tests::comparison::{Difference, Tally};
 use order_line_tests::interface::VERSION;
 use order_line_tests::link::{self, Library};
 use order_line_tests::program::Program;
@@ -20,13 +21,16 @@ const RECEIVER_CALLS: usize = 300_000;
 const SESSIONS: usize = 25_000;
 const TINT_CASES: usize = 400;
 const TINT_SESSIONS: usize = 4_000;
+/// At each k.
+const NOISE_BLOCKS: usize = 100_000;
+const NOISE_SESSIONS: usize = 4_000;
 const SCRIPTS: usize = 6_000;
 const BLOCKS_WRITTEN: usize = 800;
 
 /// A group's name and the run of all its cases.
 type Group = (&'static str, fn() -> Result<Tally, Difference>);
 
-const GROUPS: [Group; 10] = [
+const GROUPS: [Group; 11] = [
     ("loop_time", || loop_time::compare(&Library)),
     ("block", || block::compare(&Library, SEED, BLOCK_CASES)),
     ("sender", || {
@@ -44,6 +48,9 @@ const GROUPS: [Group; 10] = [
     ("marks", || marks::compare(&Library, &Library)),
     ("tint", || {
         tint::compare(&Library, SEED, TINT_CASES, TINT_SESSIONS)
+    }),
+    ("noise", || {
+        noise::compare(&Library, SEED, NOISE_BLOCKS, NOISE_SESSIONS)
     }),
 ];
 

@@ -1,14 +1,16 @@
 //! Cases out of arbitrary bytes, for a fuzzer: the first byte picks the call, the others give its
 //! arguments, and calls on a state follow while bytes are left and the state is not refused; after a
-//! tint order follow others.
+//! tint order or a period's noise follow others.
 
+mod noise;
 mod tint;
 
 use super::lockstep::{BufferPair, Lockstep, ReceivingCall};
 use super::receiver::received_name;
 use super::sender::refusal_name;
 use super::{block, loop_time, Difference, GuardedBuffer, Tally};
-use crate::calls::{Blocks, Line, LoopTimes, Opening, ReceivingEnd, SendingEnd, Tints};
+use crate::calls::{Blocks, Line, LoopTimes, NoiseLoads, Opening, ReceivingEnd};
+use crate::calls::{SendingEnd, Tints};
 use crate::damage::invert;
 use crate::interface::{store_receiver, store_sender};
 use crate::interface::{HEAD_BYTES, MARKS_BYTES, RECEIVER_BYTES, SENDER_BYTES};
@@ -25,29 +27,44 @@ use crate::rng::Rng;
 
 /// The most calls of one case.
 const CALLS: usize = 8;
+/// A first byte from here on picks the noise load.
+const NOISE_LOAD: u8 = 192;
 /// A first byte from here on picks tint orders.
 const TINT_ORDERS: u8 = 216;
 
 /// Compares one case.
 pub fn compare<T>(tested: &T, bytes: &[u8], tally: &mut Tally) -> Result<(), Difference>
 where
-    T: LoopTimes + Blocks + SendingEnd + ReceivingEnd + Tints,
+    T: LoopTimes + Blocks + SendingEnd + ReceivingEnd + Tints + NoiseLoads,
 {
     let mut input = Input { bytes };
-    let ends = Lockstep::new(tested, tested);
-    let call = input.byte();
-    if call >= TINT_ORDERS {
-        return tint::calls(tested, &mut input, tally);
+    match input.byte() {
+        TINT_ORDERS.. => tint::calls(tested, &mut input, tally),
+        NOISE_LOAD.. => noise::calls(tested, &mut input, tally),
+        call => one_of_the_line(tested, call, &mut input, tally),
     }
+}
+
+/// Loop times, blocks and the two ends.
+fn one_of_the_line<T>(
+    tested: &T,
+    call: u8,
+    input: &mut Input,
+    tally: &mut Tally,
+) -> Result<(), Difference>
+where
+    T: LoopTimes + Blocks + SendingEnd + ReceivingEnd,
+{
+    let ends = Lockstep::new(tested, tested);
     match call % 8 {
         0 => {
             let (k, speed, loop_ms) = input.loop_arguments();
             loop_time::compare_loop(tested, k, speed, loop_ms, tally)
         }
-        1 => build(tested, &mut input, tally),
-        2 => read(tested, &mut input, tally),
-        3 | 4 => send(&ends, &mut input, tally),
-        _ => receive(&ends, &mut input, tally),
+        1 => build(tested, input, tally),
+        2 => read(tested, input, tally),
+        3 | 4 => send(&ends, input, tally),
+        _ => receive(&ends, input, tally),
     }
 }
 
@@ -470,8 +487,7 @@ impl Input<'_> {
 mod tests {
     use super::super::block::{READ_FAILED_OTHERWISE, READ_FAILED_WITH_1};
     use super::super::lockstep::TRIED;
-    use super::super::tint::ANSWERS;
-    use super::super::EVENTS;
+    use super::super::{noise, tint, EVENTS};
     use super::*;
     use crate::calls::TableDriven;
 
@@ -510,6 +526,8 @@ mod tests {
             "refused 8",
         ];
         tally.assert_above(20, &kinds);
-        tally.assert_above(20, &ANSWERS);
+        tally.assert_above(20, &tint::ANSWERS);
+        tally.assert_above(20, &noise::ANSWERS);
+        tally.assert_above(20, &noise::SPANS);
     }
 }

@@ -4,6 +4,7 @@
 use super::channel::{ChannelModel, ErrorRates};
 use super::lockstep::{BufferPair, Lockstep, ReceivingCall};
 use super::marks::CodeSizes;
+use super::noise::sessions::NoisyLine;
 use super::orders::Order;
 use super::readiness::Readiness;
 use super::sender::refusal_name;
@@ -55,6 +56,8 @@ pub struct Session<'a, S, R> {
     delivery: Option<Delivery>,
     channel: ChannelModel,
     rates: ErrorRates,
+    /// A line of its own, in the place of these.
+    noise: Option<NoisyLine<'a>>,
     readiness: Readiness,
 }
 
@@ -90,12 +93,19 @@ impl<'a, S: SendingEnd, R: ReceivingEnd> Session<'a, S, R> {
             delivery: None,
             channel,
             rates,
+            noise: None,
             readiness,
         };
         if sizes.are_alike() {
             session.delivery = Some(session.new_delivery());
         }
         Ok(session)
+    }
+
+    /// On a line under the noise load.
+    pub fn on(mut self, line: NoisyLine<'a>) -> Session<'a, S, R> {
+        self.noise = Some(line);
+        self
     }
 
     fn new_delivery(&self) -> Delivery {
@@ -163,7 +173,7 @@ impl<'a, S: SendingEnd, R: ReceivingEnd> Session<'a, S, R> {
         load_sender(self.sender.slice()).expect("a state that a call handed back")
     }
 
-    fn receiver(&self) -> Receiver {
+    pub fn receiver(&self) -> Receiver {
         load_receiver(self.receiver.slice()).expect("a state that a call handed back")
     }
 
@@ -190,7 +200,7 @@ impl<'a, S: SendingEnd, R: ReceivingEnd> Session<'a, S, R> {
             self.tally.count(refusal_name(number));
         } else {
             block = unpack(place.slice(), 0, block_bits(self.order.k));
-            arrives = self.arriving(&block, sent);
+            arrives = self.arriving(&block, sent)?;
         }
         let (after, receiver) = (self.sender(), self.receiver());
         if let Some(delivery) = &mut self.delivery {
@@ -211,14 +221,26 @@ impl<'a, S: SendingEnd, R: ReceivingEnd> Session<'a, S, R> {
 
     /// The reading of the return bit, as the line lets it through.
     fn reading(&mut self) -> bool {
-        match self.receiver().return_bit {
+        let return_bit = self.receiver().return_bit;
+        if let Some(line) = &self.noise {
+            return line.reading(return_bit);
+        }
+        match return_bit {
             true => !self.rng.chance(self.rates.lost_requests),
             false => self.rng.chance(self.rates.false_requests),
         }
     }
 
     /// The copy of a sent block that arrives.
-    fn arriving(&mut self, block: &[bool], sent: Sent) -> Bits {
+    fn arriving(&mut self, block: &[bool], sent: Sent) -> Result<Bits, Difference> {
+        match &mut self.noise {
+            Some(line) => line.arriving(self.order.k, block, self.tally),
+            None => Ok(self.damaged(block, sent)),
+        }
+    }
+
+    /// The copy that the channel's errors leave.
+    fn damaged(&mut self, block: &[bool], sent: Sent) -> Bits {
         let mut bits = block.to_vec();
         let cancelled = sent.is_cancelled();
         if cancelled && self.rng.chance(self.rates.cancelled_whole) {

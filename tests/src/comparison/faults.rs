@@ -3,12 +3,14 @@
 mod busy;
 mod lengths;
 mod marks;
+mod noise;
 mod remainder;
 mod tint;
 
 use super::{any_bytes, block, both_ends, idle, loop_time, receiver, sender, two_orders};
 use super::{Difference, Tally};
-use crate::calls::{Blocks, Line, LoopTimes, Opening, ReceivingEnd, Reference, SendingEnd, Tints};
+use crate::calls::{Blocks, Line, LoopTimes, NoiseLoads, Opening, ReceivingEnd, Reference};
+use crate::calls::{SendingEnd, Tints};
 use crate::interface::{decode_sent, is_event, Counts, EVENT_ACCEPTED, EVENT_NONE};
 use crate::interface::{FINISHED, GAVE_UP, MARKS_BYTES, RECEIVER_BYTES, SENDER_BYTES};
 use crate::reference::bits::{unpack, Bits};
@@ -19,6 +21,7 @@ use crate::rng::Rng;
 use busy::{BusyFault, OfBusy, BUSY_FAULTS};
 use lengths::{LengthFault, Place, FURTHER_LENGTHS};
 use marks::OfMarks;
+use noise::{NoiseFault, OfNoise, NOISE_FAULTS};
 use remainder::{reading_faults, receiving_faults};
 use remainder::{OfRemainder, RemainderFault, FURTHER_RECEIVING_FAULTS};
 use std::cell::Cell;
@@ -71,6 +74,8 @@ enum Fault {
     Busy(BusyFault),
     /// One of a tint call.
     Tint(TintFault),
+    /// One of the noise load.
+    Noise(NoiseFault),
 }
 
 const FAULTS_OF_EITHER_END: [Fault; 9] = [
@@ -122,6 +127,13 @@ impl Faulty {
         match self.0 {
             Fault::Tint(fault) => OfTints(fault),
             _ => OfTints(TintFault::None),
+        }
+    }
+
+    fn noises(&self) -> OfNoise {
+        match self.0 {
+            Fault::Noise(fault) => OfNoise(fault),
+            _ => OfNoise(NoiseFault::None),
         }
     }
 
@@ -253,6 +265,13 @@ impl Tints for Faulty {
     }
 }
 
+impl NoiseLoads for Faulty {
+    fn noise(&self, k: usize, first: &mut u32, second: &mut u32, block: &mut [u8]) -> u32 {
+        let k = self.seen(Place::Noise, k);
+        self.noises().noise(k, first, second, block)
+    }
+}
+
 /// The bits that a receiver in step holds, and those of the line behind them.
 fn bits_so_far(receiver: &Receiver, line: Line) -> Bits {
     let mut bits = unpack(&receiver.array, 0, receiver.held);
@@ -289,6 +308,8 @@ fn faults_of_a_block_length_are_found() {
             let compared = block::compare(&faulty(place), 11, 0);
             assert!(is_different(compared), "{k}: {place:?}");
         }
+        let compared = super::noise::compare(&faulty(Place::Noise), 18, 0, 0);
+        assert!(is_different(compared), "{k}: noise load");
         for place in [Place::Opening, Place::State] {
             let compared = sender::compare(&faulty(place), 5, 0);
             assert!(is_different(compared), "{k}: {place:?}, sender");
@@ -339,6 +360,7 @@ fn faults_of_the_remainder_are_found_where_a_case_says_what_comes() {
             ("idle", idle::compare(&Reference, &faulty)),
             ("marks", super::marks::compare(&Reference, &faulty)),
             ("tint", super::tint::compare(&faulty, 17, 0, 200)),
+            ("noise", super::noise::compare(&faulty, 18, 0, 200)),
         ];
         for (name, compared) in groups {
             assert!(is_different(compared), "{fault:?} in {name}");
@@ -360,6 +382,15 @@ fn faults_of_tint_calls_are_found() {
     assert!(super::tint::compare(&Faulty::with(Fault::None), 17, 20, 20).is_ok());
 }
 
+#[test]
+fn faults_of_the_noise_load_are_found() {
+    for fault in NOISE_FAULTS {
+        let compared = super::noise::compare(&Faulty::with(Fault::Noise(fault)), 18, 1_000, 0);
+        assert!(is_different(compared), "{fault:?}");
+    }
+    assert!(super::noise::compare(&Faulty::with(Fault::None), 18, 1_000, 100).is_ok());
+}
+
 /// Random bytes are what the fuzzer begins with.
 #[test]
 fn faults_are_found_by_random_bytes() {
@@ -376,7 +407,9 @@ fn faults_are_found_by_random_bytes() {
     let reading = reading_faults().map(Fault::Reading);
     let of_remainders = receiving.map(Fault::Receiving).chain(reading);
     let of_tints = TINT_FAULTS.map(Fault::Tint);
-    for fault in of_the_ends.chain(of_remainders).chain(of_tints) {
+    let of_noise = NOISE_FAULTS.map(Fault::Noise);
+    let of_the_line = of_the_ends.chain(of_remainders);
+    for fault in of_the_line.chain(of_tints).chain(of_noise) {
         assert!(found(fault, 20_000), "{fault:?}");
     }
     assert!(!found(Fault::None, 500));

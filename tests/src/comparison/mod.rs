@@ -13,6 +13,7 @@ pub mod idle;
 pub mod lockstep;
 pub mod loop_time;
 pub mod marks;
+pub mod noise;
 mod openings;
 pub mod orders;
 mod readiness;
@@ -87,7 +88,7 @@ impl fmt::Display for Tally {
     }
 }
 
-/// Bytes to lend, or 16-bit numbers, between guards that no call may write.
+/// Bytes to lend, or numbers, between guards that no call may write.
 #[derive(Clone, Debug, PartialEq, Eq)]
 pub struct GuardedBuffer<T = u8> {
     values: Vec<T>,

@@ -8,6 +8,7 @@ pub mod bits;
 pub mod block;
 pub mod loop_time;
 pub mod marks;
+pub mod noise;
 pub mod order;
 pub mod receiver;
 pub mod refusal;

@@ -26,3 +26,5 @@ pub const FORMAT: Refusal = 10;
 pub const ENTRY: Refusal = 11;
 /// More pump steps than a tint order may have.
 pub const STEPS: Refusal = 12;
+/// A noise generator whose first word is 0.
+pub const GENERATOR: Refusal = 13;

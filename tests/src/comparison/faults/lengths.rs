@@ -13,6 +13,7 @@ pub enum Place {
     LoopTime,
     Building,
     Reading,
+    Noise,
     Opening,
     State,
 }

@@ -1,11 +1,19 @@
 //! What the programs share: an office and a machine, with a noisy line between them. The two meet only in the bits of the
 //! line and in the return bit; the noise and the session stand for the modems and the clock.
 
-use order_line::{Event, Receiver, Refusal, Rest, Sender, Sent, block_bytes, store_bytes};
+use order_line::{Event, Receiver, Refusal, Rest, Sender, Sent};
+use order_line::{Generator, block_bytes, store_bytes};
+use std::env;
 use std::process::ExitCode;
 
 const SPEED: u32 = 1200;
 const LOOP_MS: u32 = 100;
+
+/// The words that the noise starts from where the arguments give no others.
+const WORDS: Generator = Generator {
+    first: 1968,
+    second: 41,
+};
 
 // ---- the office: the sending end
 
@@ -162,61 +170,58 @@ impl Machine {
     }
 }
 
-// ---- the noise: the same at each run
+// ---- the noise: the library's noise load, for a bench; no office and no machine has it
 
-/// One block in eight is damaged, and all ten of an outage in each 64, so that a search and resynchronising are seen.
-/// The damage is an even number of bits within 16 adjacent places; with a cancelled block's inverted last bit that makes
-/// an odd number. Either is damage that the check finds. A return reading of 0 is turned into 1 in one block of 32, which
-/// costs a repeat. A reading of 1 is never turned: no repeat request is lost.
 struct Noise {
-    /// The state of the random numbers (xorshift).
-    random: u32,
-    period: usize,
-    /// The first damaged bit.
-    first: usize,
-    /// The damage from there on, the first bit on top; 0 in a block that stays whole.
-    burst: u16,
+    generator: Generator,
+    /// Ones where this period's block is inverted.
+    damage: Vec<u8>,
+    /// This period's reading is turned over.
+    turned: bool,
+    /// The next period's is.
+    turned_next: bool,
+    periods: usize,
+    /// Blocks with inverted bits.
+    damaged: usize,
+    /// Bits inverted in all.
+    inverted: u32,
+    /// Readings turned over.
+    readings: usize,
 }
 
 impl Noise {
-    fn new() -> Noise {
+    fn new(generator: Generator, k: usize) -> Noise {
         Noise {
-            random: 1968,
-            period: 0,
-            first: 0,
-            burst: 0,
+            generator,
+            damage: vec![0; block_bytes(k)],
+            turned: false,
+            turned_next: false,
+            periods: 0,
+            damaged: 0,
+            inverted: 0,
+            readings: 0,
         }
     }
 
-    fn below(&mut self, limit: u32) -> u32 {
-        self.random ^= self.random << 13;
-        self.random ^= self.random >> 17;
-        self.random ^= self.random << 5;
-        self.random % limit
+    /// At the start of a block period, once in each: draws its noise. The load is meant for a block as it was sent, but
+    /// here the first bits are taken before the last one is decided. What is inverted does not depend on the block's
+    /// bits, so the load is laid over zeros, and the ones that it leaves are the inverted places.
+    fn begin_block(&mut self, k: usize) -> Result<(), Refusal> {
+        self.damage.fill(0);
+        let noise = self.generator.noise(k, &mut self.damage)?;
+        // What was drawn in the period before.
+        self.turned = self.turned_next;
+        self.turned_next = noise.turned;
+        self.periods += 1;
+        self.damaged += usize::from(noise.inverted > 0);
+        self.inverted += noise.inverted;
+        Ok(())
     }
 
-    fn begin_block(&mut self, n: usize) {
-        let in_outage = (20..30).contains(&(self.period % 64));
-        self.period += 1;
-        self.burst = 0;
-        if self.below(8) != 0 && !in_outage {
-            return;
-        }
-        self.first = self.below(n as u32 - 15) as usize;
-        self.burst = 0x8000 | self.below(0x8000) as u16;
-        self.burst ^= (self.burst.count_ones() % 2) as u16;
-    }
-
-    /// The block's byte at this place as it arrives.
-    fn on_byte(&self, place: usize, byte: u8) -> u8 {
-        (self.first..self.first + 16)
-            .enumerate()
-            .filter(|&(i, bit)| self.burst >> (15 - i) & 1 == 1 && bit / 8 == place)
-            .fold(byte, |byte, (_, bit)| byte ^ 0x80 >> (bit % 8))
-    }
-
+    /// The return bit as it is read at the sending call that counts.
     fn on_reading(&mut self, return_bit: bool) -> bool {
-        self.below(32) == 0 || return_bit
+        self.readings += usize::from(self.turned);
+        return_bit != self.turned
     }
 }
 
@@ -225,37 +230,36 @@ impl Noise {
 /// The bytes of a block from a place on, as they arrive: up to eight, the earliest bit on top.
 fn arriving(noise: &Noise, block: &[u8], from: usize) -> u64 {
     let mut piece = [0; 8];
-    for (i, (to, byte)) in piece.iter_mut().zip(&block[from..]).enumerate() {
-        *to = noise.on_byte(from + i, *byte);
+    for (i, to) in piece.iter_mut().enumerate().take(block.len() - from) {
+        *to = block[from + i] ^ noise.damage[from + i];
     }
     u64::from_be_bytes(piece)
 }
 
-/// One block period: the block goes out in pieces of up to 64 bits and is taken as it comes. The last four bits of its
-/// bytes are spare, and the last piece goes out when the reading was taken.
+/// One block period: the block goes out in pieces of up to 64 bits and is taken as it comes. Its last four bits, which
+/// stand in a byte of their own, go out when the reading was taken.
 fn run_period(
     office: &mut Office,
     machine: &mut Machine,
     noise: &mut Noise,
     k: usize,
 ) -> Result<(), Refusal> {
-    let n = k + 20;
+    let last = block_bytes(k) - 1;
     office.begin_block()?;
-    noise.begin_block(n);
-    let mut sent = 0;
-    while n - sent > 64 {
-        machine.on_bits(arriving(noise, &office.block, sent / 8), 64)?;
-        sent += 64;
+    noise.begin_block(k)?;
+    for from in (0..last).step_by(8) {
+        let bits = 8 * 8.min(last - from);
+        machine.on_bits(arriving(noise, &office.block, from), bits)?;
     }
     office.end_block(noise.on_reading(machine.return_bit))?;
-    machine.on_bits(arriving(noise, &office.block, sent / 8), n - sent)
+    machine.on_bits(arriving(noise, &office.block, last), 4)
 }
 
 fn print_summary(office: &Office, machine: &Machine, noise: &Noise, k: usize) {
     println!(
         "{} bytes, blocks of {k} data bits: {} periods, {} synchronising, {} cancelled, {} repeats",
         office.order.len(),
-        noise.period,
+        noise.periods,
         office.synchronising,
         office.cancelled,
         office.repeats,
@@ -271,22 +275,16 @@ fn print_summary(office: &Office, machine: &Machine, noise: &Noise, k: usize) {
         counts.ended,
         counts.alarms,
     );
+    println!(
+        "noise: {} blocks damaged ({} bits), {} readings turned over",
+        noise.damaged, noise.inverted, noise.readings,
+    );
 }
 
-/// Brings an order over; the order as it arrived, if it arrived whole.
-pub fn run_session(
-    k: usize,
-    size: Option<usize>,
-    order: Vec<u8>,
-) -> Result<Option<Vec<u8>>, Refusal> {
-    let mut office = Office::open(k, size, order)?;
-    let mut machine = Machine::open(k, size)?;
-    let mut noise = Noise::new();
-    while office.sender.rest()? == Rest::GoingOn {
-        run_period(&mut office, &mut machine, &mut noise, k)?;
-    }
-    print_summary(&office, &machine, &noise, k);
-    if office.sender.rest()? == Rest::GaveUp {
+/// The order as it arrived, if it arrived whole; prints why not.
+fn arrived_whole(office: &Office, machine: &Machine) -> Result<Option<Vec<u8>>, Refusal> {
+    let rest = office.sender.rest()?;
+    if rest == Rest::GaveUp {
         println!("the office gave up");
     }
     match machine.alarm {
@@ -294,12 +292,59 @@ pub fn run_session(
         Some(_) => println!("length alarm"),
         None => {}
     }
-    if office.sender.rest()? != Rest::Finished {
+    let Some(order) = machine.order() else {
+        println!("the machine reported no end");
         return Ok(None);
+    };
+    let same = machine.length == Some(8 * office.order.len()) && order == office.order;
+    if !same {
+        println!("the machine reported the end of another order");
     }
-    let whole = machine.length == Some(8 * office.order.len());
-    let order = machine.order();
-    Ok(order.filter(|order| whole && *order == office.order))
+    Ok(Some(order).filter(|_| same && rest == Rest::Finished))
+}
+
+/// Brings an order over, under the noise of these words; the order as it arrived, if it arrived whole.
+pub fn run_session(
+    k: usize,
+    size: Option<usize>,
+    order: Vec<u8>,
+    words: Generator,
+) -> Result<Option<Vec<u8>>, Refusal> {
+    let mut office = Office::open(k, size, order)?;
+    let mut machine = Machine::open(k, size)?;
+    let mut noise = Noise::new(words, k);
+    println!("noise from the words {} and {}", words.first, words.second);
+    while office.sender.rest()? == Rest::GoingOn {
+        run_period(&mut office, &mut machine, &mut noise, k)?;
+    }
+    print_summary(&office, &machine, &noise, k);
+    arrived_whole(&office, &machine)
+}
+
+// ---- what the programs are called with
+
+/// A 32-bit number, decimal digits alone.
+fn word(text: Option<String>) -> Option<u32> {
+    let digits = text.filter(|text| text.bytes().all(|byte| byte.is_ascii_digit()));
+    digits?.parse().ok()
+}
+
+/// The words of the option `--noise FIRST SECOND`, if it stands before all other arguments, and the others; nothing if
+/// it cannot be read.
+pub fn arguments() -> Option<(Generator, impl Iterator<Item = String>)> {
+    let mut arguments = env::args().skip(1).peekable();
+    let mut words = WORDS;
+    if arguments.next_if_eq("--noise").is_some() {
+        words.first = word(arguments.next())?;
+        words.second = word(arguments.next())?;
+    }
+    Some((words, arguments))
+}
+
+/// The exit status of a call that cannot be read.
+pub fn usage(text: &str) -> ExitCode {
+    eprintln!("usage: {text}");
+    ExitCode::from(2)
 }
 
 /// The exit status, after the last line: whether what arrived is what was sent.
