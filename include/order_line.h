@@ -69,7 +69,7 @@ uint32_t order_line_version(void);
 #define ORDER_LINE_REFUSED_FORMAT 10   /* no tint order: its version or its length; or no doses to write */
 #define ORDER_LINE_REFUSED_ENTRY 11    /* a dose out of range or order, or more than ORDER_LINE_MOST_DOSES to write */
 #define ORDER_LINE_REFUSED_STEPS 12    /* a tint order of more than 20,000 pump steps in all */
-#define ORDER_LINE_REFUSED_GENERATOR 13 /* a noise generator whose first word is 0 */
+#define ORDER_LINE_REFUSED_GENERATOR 13 /* a noise generator's first word is 0 */
 
 /* ---- sizes ---- */
 
@@ -322,34 +322,38 @@ uint8_t order_line_read_tint(const uint8_t *order, size_t order_bytes, uint16_t 
 /* ---- the noise load ---- */
 
 /*
- * For a bench: the same rough line on every visit. A NOISE LOAD DAMAGES BLOCKS: no office and no machine in a shop makes
- * this call.
+ * For a bench: the same rough line on every visit. IT DAMAGES BLOCKS: no office and no machine in a shop makes this
+ * call.
  *
  * The generator is two words, which the caller keeps. A draw changes both. The first becomes x xor (x shifted left by
- * 13); this, x xor (x shifted right by 17); and this, x xor (x shifted left by 5); kept to 32 bits each time. The second
+ * 13); that, x xor (x shifted right by 17); and that, x xor (x shifted left by 5); kept to 32 bits each time. The second
  * grows by 362,437, the carry above 32 bits dropped. The number drawn is the sum of both, the carry dropped. The same
  * two words give the same noise, call for call: write down those that a session starts from. The first is any number but
  * 0, and is then never 0 again; the second is any number.
  */
 
 /*
- * The noise of one block period: call it once for each block that is sent, with the block as it was sent. One number is
+ * The noise of one block period: call it once for each block that is sent, on the block as it was sent. One number is
  * drawn. Its low two bits choose: 0 or 1, nothing; 2, one damaged span; 3, a turned-over reading. For a span a second
- * number is drawn: its low 16 bits are the pattern, whose ones are laid over the block and invert it, the top bit first,
- * from bit (the number divided by 65,536, rounded down) modulo (n - 15) on. So what is inverted lies within 16 adjacent
- * bits of the n; the spare bits and all other bytes stay. *first and *second become the words after the draws. Returns
- * ORDER_LINE_NOISE with the number of bits inverted, 0 to 16, and the flag below; a pattern without ones inverts none.
+ * number is drawn. Its low 16 bits are a pattern, which is laid over the block, the top bit first, from bit (the number
+ * divided by 65,536, rounded down) modulo (n - 15) on; each of its ones inverts a bit. So what is inverted lies within
+ * 16 adjacent bits of the n. The spare bits and all other bytes stay. Which bits are inverted does not depend on the
+ * block's: of zero bytes it leaves just those.
  *
- * SESSIONS UNDER THE LOAD MAY GO WRONG, as on a rough line: a turned-over reading may lose a repeat request, and damage
- * to a cancelled block may restore it. Compare what arrived with what was sent (docs/INTEGRATION.md, "A rough line on
- * the bench").
+ * *first and *second become the words after the draws; the second number is used up even if its pattern is 0. Returns
+ * ORDER_LINE_NOISE with the flag below and the number of bits inverted, 0 to 16.
+ *
+ * SESSIONS UNDER THE LOAD MAY GO WRONG, as on a rough line, and nothing is guaranteed of them: a turned-over reading may
+ * lose a repeat request, and damage to a cancelled block may make it pass the check, whole or with other data. THE
+ * MACHINE MAY THEN STORE AND REPORT A WRONG ORDER WITHOUT AN ALARM: compare what arrived with what was sent, and never
+ * pump it (docs/INTEGRATION.md, "A rough line on the bench").
  *
  * Refused: BLOCK, GENERATOR (*first is 0), SHORT (block cannot hold a block, whatever would be drawn), in this order.
  */
 uint32_t order_line_noise(size_t k, uint32_t *first, uint32_t *second, uint8_t *block, size_t block_bytes);
 
 #define ORDER_LINE_NOISE 0x100u        /* the period's noise was drawn; set in every word that is no refusal */
-#define ORDER_LINE_NOISE_TURNED 0x200u /* the reading given to the next period's sending call is to be turned over */
+#define ORDER_LINE_NOISE_TURNED 0x200u /* turn over the reading of the next order_line_send that is not refused */
 
 #define ORDER_LINE_NOISE_INVERTED(word) ((word) >> 16) /* the number of bits inverted in this block */
 

@@ -27,7 +27,7 @@ use Rattle.line.specs.declared.receiving.Event.the-variants as E
 use Rattle.tint.specs.Refusals as Tint
 use Rattle.tint.specs.Format.{Dose, orderBytes, dosesIn, isFormat, canisters, mostTotal, inRangeAndOrder, total, judgeDoses}
 use Rattle.tint.specs.Calls.{judgeCounted, read}
-use Rattle.noise.specs.Load as Noise
+use Rattle.noise.specs.Refusals as Noise
 use Rattle.noise.specs.Load.{Load, load, ones, loadBlock, reportOf}
 use Rattle.line_c.specs.State.{senderSize, holdsSender, senderIn, senderOf, receiverSize, holdsReceiver, receiverIn, receiverOf}
 use Rattle.line_c.specs.BlockCalls.{refusal, readNumber}

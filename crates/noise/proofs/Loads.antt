@@ -18,8 +18,9 @@ use Rattle.block.specs.Answer.{Answer, done, refused}
 use Rattle.block.specs.Lengths.{isLength, blockLength}
 use Rattle.block.specs.Calls.{tooShort}
 use Rattle.block.proofs.Truth.{cond-case}
+use Rattle.noise.specs.Refusals as Refusals
 use Rattle.noise.specs.Generator.{next, drawn}
-use Rattle.noise.specs.Load.{Load, spanLoad, wholeLoad, load, places, ones, generator, loadBlock, reportOf, generatorAfter, loadedBytes, LoadedAs, LoadBlock}
+use Rattle.noise.specs.Load.{Load, spanLoad, wholeLoad, load, places, ones, loadBlock, reportOf, generatorAfter, loadedBytes, LoadedAs, LoadBlock}
 use Rattle.noise.specs.Code.{laid}
 use Rattle.noise.specs.declared.Generator.{Generator}
 use Rattle.noise.specs.declared.Noise.the-variants as N
@@ -124,9 +125,9 @@ module _ (k : ℕ) (g : Generator) (s : List ℕ) where
   refuses-length l = refuses A.block (rw l)
 
   module _ (l : isLength k ≡ true) where
-    pub refuses-generator : eqb (g .first) 0 ≡ true → LoadBlock k g s (record { generator = g; answer = N.Refused generator }) s
+    pub refuses-generator : eqb (g .first) 0 ≡ true → LoadBlock k g s (record { generator = g; answer = N.Refused Refusals.generator }) s
     unfolding loadBlock
-    refuses-generator z = refuses generator (rw (l, z))
+    refuses-generator z = refuses Refusals.generator (rw (l, z))
 
     module _ (z : eqb (g .first) 0 ≡ false) where
       pub refuses-slice : tooShort s (blockLength k) ≡ true → LoadBlock k g s (record { generator = g; answer = N.Refused A.short }) s
@@ -141,17 +142,17 @@ module _ (k : ℕ) (g : Generator) (s : List ℕ) where
 -- ---- cases of the answer
 
 -- what holds of each refusal, and of the load on a slice that holds a block, holds of the answer
-pub load-cases : (k : ℕ) (g : Generator) (s : List ℕ) (P : Answer Load → Type 0) → ((n : ℕ) → (n ≡ generator → g .first ≡ 0) → P (refused n))
+pub load-cases : (k : ℕ) (g : Generator) (s : List ℕ) (P : Answer Load → Type 0) → ((n : ℕ) → (n ≡ Refusals.generator → g .first ≡ 0) → P (refused n))
     → (tooShort s (blockLength k) ≡ false → P (done (load (blockLength k) g))) → P (loadBlock k g s)
 unfolding loadBlock
 load-cases k g s P turned-away loaded =
     cond-case P (not (isLength k)) (λ e. turned-away A.block (λ z. absurd (omega arith)))
-    (λ e. cond-case P (eqb (g .first) 0) (λ f. turned-away generator (λ z. eqb-true (g .first) 0 f))
+    (λ e. cond-case P (eqb (g .first) 0) (λ f. turned-away Refusals.generator (λ z. eqb-true (g .first) 0 f))
     (λ f. cond-case P (tooShort s (blockLength k)) (λ t. turned-away A.short (λ z. absurd (omega arith))) loaded))
 
 -- only a first word of 0 is refused by 13
-pub not-13 : (k : ℕ) (g : Generator) (s : List ℕ) → (g .first ≡ 0 → ⊥) → loadBlock k g s ≡ refused generator → ⊥
-not-13 k g s n = load-cases k g s (λ (a : Answer Load). a ≡ refused generator → ⊥) (λ m z e. n (z (ap number e))) (λ t e. absurd (omega (arith, ap number e)))
+pub not-13 : (k : ℕ) (g : Generator) (s : List ℕ) → (g .first ≡ 0 → ⊥) → loadBlock k g s ≡ refused Refusals.generator → ⊥
+not-13 k g s n = load-cases k g s (λ (a : Answer Load). a ≡ refused Refusals.generator → ⊥) (λ m z e. n (z (ap number e))) (λ t e. absurd (omega (arith, ap number e)))
   where
     number : Answer Load → ℕ
     number (refused m) = m

@@ -14,7 +14,7 @@ use Rattle.crc.specs.Bits.{Bits, zeros, binary, xorBits, bitsOf, bytesOf}
 use Rattle.crc.proofs.Rows.{length-binary, binary-zero, binary-mod, binary-join, binary-split, binary-xor, xorBits-append, xorBits-zeros}
 use Rattle.crc.proofs.Bytes.{length-bitsOf, bitsOf-append}
 use Rattle.block.proofs.Packing.{drop-three}
-use Rattle.noise.specs.Code.{inverted, laid}
+use Rattle.noise.specs.Code.{xorThree}
 
 -- ---- the pattern in three bytes
 
@@ -38,7 +38,7 @@ pub span-bytes : (s j p x : ℕ) → s + j ≡ 8 → p < 2 ^ 16 → x ≡ p * 2 
     → binary 8 (x / 65536) ++ (binary 8 (x / 256 % 256) ++ binary 8 (x % 256)) ≡ zeros s ++ (binary 16 p ++ zeros j)
 span-bytes s j p x e h d = three-bytes x ∙ ap (binary 24) d ∙ span-row s j p e h
 
--- ---- three bytes of a slice inverted
+-- ---- three bytes of a slice, each xor another
 
 zeros-add : (a b : ℕ) → zeros (a + b) ≡ zeros a ++ zeros b
 zeros-add a b = sym (replicate-append-replicate a b false)
@@ -87,10 +87,10 @@ module _ (at a b c : ℕ) (s : List ℕ) (h : at + 3 ≤ length s) where
       ∙ sym (xorBits-append (binary 8 y) (binary 8 b) (binary 8 z) (binary 8 c) (length-binary 8 y ∙ sym (length-binary 8 b))))
       ∙ sym (xorBits-append (binary 8 x) (binary 8 a) (binary 8 y ++ binary 8 z) (binary 8 b ++ binary 8 c) (length-binary 8 x ∙ sym (length-binary 8 a)))
 
-  -- the row of the slice with the three bytes inverted
-  pub inverted-row : bitsOf (inverted at a b c s) ≡ xorBits (bitsOf s) (zeros (8 * at) ++ (masks ++ zeros (8 * (length s - (at + 3)))))
-  unfolding inverted
-  inverted-row =
+  -- the row of the slice with the three bytes
+  pub xored-row : bitsOf (xorThree at a b c s) ≡ xorBits (bitsOf s) (zeros (8 * at) ++ (masks ++ zeros (8 * (length s - (at + 3)))))
+  unfolding xorThree
+  xored-row =
       let x : ℕ = getD s at 0 in
       let y : ℕ = getD s (at + 1) 0 in
       let z : ℕ = getD s (at + 2) 0 in
@@ -118,14 +118,14 @@ around at s j rest row =
 -- ---- a pattern laid over a slice, as the code does it
 
 pub laid-row : (place p x : ℕ) (s : List ℕ) → place / 8 + 3 ≤ length s → p < 2 ^ 16 → x ≡ p * 2 ^ (8 - place % 8)
-    → bitsOf (inverted (place / 8) (x / 65536) (x / 256 % 256) (x % 256) s)
+    → bitsOf (xorThree (place / 8) (x / 65536) (x / 256 % 256) (x % 256) s)
     ≡ xorBits (bitsOf s) (zeros place ++ (binary 16 p ++ zeros (8 * length s - (place + 16))))
 laid-row place p x s h b d =
     let at : ℕ = place / 8 in
     let e : place % 8 + (8 - place % 8) ≡ 8 = omega arith in
     let f : 8 * at + place % 8 ≡ place = omega arith in
     let g : (8 - place % 8) + 8 * (length s - (at + 3)) ≡ 8 * length s - (place + 16) = omega arith in
-    inverted-row at (x / 65536) (x / 256 % 256) (x % 256) s h
+    xored-row at (x / 65536) (x / 256 % 256) (x % 256) s h
     ∙ ap (λ (l : Bits). xorBits (bitsOf s) (zeros (8 * at) ++ (l ++ zeros (8 * (length s - (at + 3))))))
     (span-bytes (place % 8) (8 - place % 8) p x e b d)
     ∙ ap (xorBits (bitsOf s))

@@ -9,8 +9,9 @@ use lib.ListN.{replicate}
 use Rattle.crc.specs.Bits.{binary, number, xorBits, bitsOf, bytesOf}
 use Rattle.block.specs.Answer.{refused}
 use Rattle.block.specs.Lengths.{isLength}
+use Rattle.noise.specs.Refusals as Refusals
 use Rattle.noise.specs.Generator.{xorLeft, xorRight, nextFirst, next, drawn}
-use Rattle.noise.specs.Load.{spanLoad, load, places, generator, loadBlock, LoadBlock}
+use Rattle.noise.specs.Load.{spanLoad, load, places, loadBlock, LoadBlock}
 use Rattle.noise.specs.Facts.{BlockLoaded, EveryLoad, Call, afterCalls, OnlyAtTheStart}
 use Rattle.noise.specs.Examples.{words}
 use Rattle.noise.specs.declared.Noise.the-variants as N
@@ -37,6 +38,6 @@ unfolding EveryLoad
 loaded-witness = every-load 240 (words 1 0) blank damaged answered 7 false load-witness refl
 
 -- the words 1 and 0 may be started from
-pub start-witness : (calls : List Call) (k : ℕ) (slice : List ℕ) → loadBlock k (afterCalls (words 1 0) calls) slice ≡ refused generator → ⊥
+pub start-witness : (calls : List Call) (k : ℕ) (slice : List ℕ) → loadBlock k (afterCalls (words 1 0) calls) slice ≡ refused Refusals.generator → ⊥
 unfolding OnlyAtTheStart
 start-witness = only-at-the-start (words 1 0) (lit< tt) (λ (e : _≡_ {A = ℕ} 1 0). omega arith)

@@ -6,8 +6,8 @@ use lib.ListN.{length, take, drop, getD}
 use Rattle.crc.specs.Bits.{zeros, binary, xorBits, bitsOf, bytesOf}
 
 -- three bytes of a slice, each xor another
-unfoldable pub inverted : ℕ → ℕ → ℕ → ℕ → List ℕ → List ℕ
-inverted at a b c s =
+unfoldable pub xorThree : ℕ → ℕ → ℕ → ℕ → List ℕ → List ℕ
+xorThree at a b c s =
     take at s
     ++ ((bitXor (getD s at 0) a ∷ bitXor (getD s (at + 1) 0) b ∷ bitXor (getD s (at + 2) 0) c ∷ []) ++ drop (at + 3) s)
 

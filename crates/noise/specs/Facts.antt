@@ -11,8 +11,9 @@ use Rattle.crc.specs.Damage.{Damage}
 use Rattle.block.specs.Answer.{refused}
 use Rattle.block.specs.Lengths.{blockLength}
 use Rattle.block.specs.Block.{cancelled}
+use Rattle.noise.specs.Refusals as Refusals
 use Rattle.noise.specs.Generator.{nextFirst}
-use Rattle.noise.specs.Load.{patternAt, ones, generator, loadBlock, generatorAfter, LoadBlock}
+use Rattle.noise.specs.Load.{patternAt, ones, loadBlock, generatorAfter, LoadBlock}
 use Rattle.noise.specs.declared.Generator.{Generator}
 use Rattle.noise.specs.declared.Noise.the-variants as N
 use Rattle.noise.specs.declared.Loaded.{Loaded}
@@ -74,7 +75,7 @@ afterCalls g (c ∷ cs) = afterCalls (generatorAfter g (loadBlock (c .k) g (c .s
 unfoldable pub OnlyAtTheStart : Type 0
 OnlyAtTheStart =
     (g : Generator) → g .first < 2 ^ 32 → (g .first ≡ 0 → ⊥) → (calls : List Call) (k : ℕ) (slice : List ℕ)
-    → loadBlock k (afterCalls g calls) slice ≡ refused generator → ⊥
+    → loadBlock k (afterCalls g calls) slice ≡ refused Refusals.generator → ⊥
 
 -- ---- a cancelled block
 

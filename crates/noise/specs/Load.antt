@@ -11,6 +11,7 @@ use Rattle.block.specs.Answer as A
 use Rattle.block.specs.Answer.{Answer, refused, done, refuseIf}
 use Rattle.block.specs.Lengths.{isLength, blockLength}
 use Rattle.block.specs.Calls.{tooShort}
+use Rattle.noise.specs.Refusals as Refusals
 use Rattle.noise.specs.Generator.{next, drawn}
 use Rattle.noise.specs.declared.Generator.{Generator}
 use Rattle.noise.specs.declared.Noise.{Noise}
@@ -57,14 +58,10 @@ ones (b ∷ bs) = bit b + ones bs
 
 -- ---- the call: 1, 13, 6
 
--- the number that a first word of 0 is refused by; the others are the block's
-abbrev pub generator : ℕ
-generator = 13
-
 unfoldable pub loadBlock : ℕ → Generator → List ℕ → Answer Load
 loadBlock k g slice =
     refuseIf (not (isLength k)) A.block
-    (refuseIf (eqb (g .first) 0) generator
+    (refuseIf (eqb (g .first) 0) Refusals.generator
     (refuseIf (tooShort slice (blockLength k)) A.short (done (load (blockLength k) g))))
 
 -- what is answered: how many bits are inverted, and whether the reading is turned over

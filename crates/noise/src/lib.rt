@@ -8,7 +8,7 @@ ghost use Rattle.block.specs.Lengths.{isLength, blockLength};
 ghost use Rattle.block.specs.Calls.{tooShort};
 ghost use Rattle.noise.specs.Generator.{nextFirst, Draw};
 ghost use Rattle.noise.specs.Load.{load, spanLoad, LoadedAs, LoadBlock};
-ghost use Rattle.noise.specs.Code.{inverted, laid};
+ghost use Rattle.noise.specs.Code.{xorThree, laid};
 use block::known_length;
 use block::too_short;
 
@@ -78,9 +78,9 @@ impl Generator {
 // ---- the load
 
 // Three bytes of a slice, each xor another.
-fn invert(at: usize, a: u8, b: u8, c: u8, block: &mut [u8])
+fn xor_three(at: usize, a: u8, b: u8, c: u8, block: &mut [u8])
     requires { ⌜ at + 3 ≤ length (now block) ⌝ }
-    ensures { λ _. ⌜ now (block .exit) ≡ inverted at a b c (now (block .entry)) ⌝ }
+    ensures { λ _. ⌜ now (block .exit) ≡ xorThree at a b c (now (block .entry)) ⌝ }
 {
     block[at] = block[at] ^ a;
     block[at + 1] = block[at + 1] ^ b;
@@ -93,7 +93,7 @@ fn lay(pattern: u16, place: usize, block: &mut [u8])
     ensures { λ _. ⌜ now (block .exit) ≡ laid place pattern (now (block .entry)) ⌝ }
 {
     let span = (pattern as u32) << (8 - place % 8);
-    invert(
+    xor_three(
         place / 8,
         (span / 65536) as u8,
         (span / 256 % 256) as u8,
@@ -112,8 +112,8 @@ impl Generator {
         let after = drawn.generator;
         let number = drawn.number;
         let pattern = (number % 65536) as u16;
-        let places = k + block::OVERHEAD - (SPAN - 1);
-        lay(pattern, (number / 65536) as usize % places, block);
+        let n = k + block::OVERHEAD;
+        lay(pattern, (number / 65536) as usize % (n - (SPAN - 1)), block);
         let inverted = u16::count_ones(pattern);
         Loaded {
             generator: after,

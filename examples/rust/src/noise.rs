@@ -22,7 +22,7 @@ pub struct Generator {
 pub struct Noise {
     /// The bits inverted in this block, 0 to 16.
     pub inverted: u32,
-    /// The reading given to the next period's [`Sender::send`](crate::Sender::send) is to be turned over.
+    /// The reading given to the next [`Sender::send`](crate::Sender::send) that is not refused is to be turned over.
     pub turned: bool,
 }
 
@@ -32,7 +32,9 @@ impl Generator {
     /// In one period of four, on average, bits within 16 adjacent ones of the block are inverted, and in another one the
     /// next reading is turned over. Which bits are inverted depends on the words and on k alone, not on the block's bits.
     ///
-    /// **Sessions under the load may go wrong**, as on a rough line: compare what arrived with what was sent.
+    /// **Sessions under the load may go wrong**, as on a rough line, and nothing is guaranteed of them: a turned-over reading
+    /// may lose a repeat request, and damage to a cancelled block may make it pass, whole or with other data. The machine
+    /// may then store and report a wrong order without an alarm: compare what arrived with what was sent.
     pub fn noise(&mut self, k: usize, block: &mut [u8]) -> Result<Noise, Refusal> {
         let word = unsafe {
             c::order_line_noise(

@@ -8,7 +8,7 @@ use lib.ListN.{length, getD}
 use lib.Pow.{shl-exact, shl-lt, pow-mono}
 use Rattle.crc.specs.Bits.{bitsOf}
 use Rattle.crc.proofs.Bytes.{packed}
-use Rattle.noise.specs.Code.{inverted, laid}
+use Rattle.noise.specs.Code.{xorThree, laid}
 use Rattle.noise.proofs.Spans.{laid-row}
 use Rattle.noise.proofs.lay.Statement.{statement}
 use Rattle.noise.proofs.lay.Tie as tie
@@ -27,7 +27,7 @@ module _ (p j : ℕ) (h : p < 2 ^ 16) (k : j ≤ 8) where
 
 -- what the three bytes make of the slice
 lays : (place p x : ℕ) (s s′ : List ℕ) → place / 8 + 3 ≤ length s → p < 2 ^ 16 → x ≡ p * 2 ^ (8 - place % 8)
-    → s′ ≡ inverted (place / 8) (x / 65536) (x / 256 % 256) (x % 256) s → length s′ ≡ length s → ((i : ℕ) → getD s′ i 0 < 256)
+    → s′ ≡ xorThree (place / 8) (x / 65536) (x / 256 % 256) (x % 256) s → length s′ ≡ length s → ((i : ℕ) → getD s′ i 0 < 256)
     → s′ ≡ laid place p s
 unfolding laid
 lays place p x s s′ h b d e n bytes = packed s′ (length s) _ n bytes (ap bitsOf e ∙ laid-row place p x s h b d)
@@ -41,20 +41,20 @@ cast-span c = search needs
 shl-span : tie.Need-shl-span
 shl-span c = search needs
 
-cast-invert : tie.Need-cast-invert
-cast-invert c =
+cast-xor-three : tie.Need-cast-xor-three
+cast-xor-three c =
     let a = c .before .args in
     let b : a .pattern < 2 ^ 16 = search needs in
     record { fits = first-byte (a .pattern) (8 - a .place % 8) b (omega arith) }
 
-cast-invert-2 : tie.Need-cast-invert-2
-cast-invert-2 c = search needs
+cast-xor-three-2 : tie.Need-cast-xor-three-2
+cast-xor-three-2 c = search needs
 
-cast-invert-3 : tie.Need-cast-invert-3
-cast-invert-3 c = search needs
+cast-xor-three-3 : tie.Need-cast-xor-three-3
+cast-xor-three-3 c = search needs
 
-invert-requires : tie.Need-invert-requires
-invert-requires c κs = search needs
+xor-three-requires : tie.Need-xor-three-requires
+xor-three-requires c κs = search needs
 
 same-length : tie.Need-same-length
 same-length c = search needs
@@ -65,9 +65,9 @@ returns c =
     let a = i .before .before .before .args in
     let b : a .pattern < 2 ^ 16 = search needs in
     lays (a .place) (a .pattern) _ (a .block .now) _ (search needs) b (exact (a .pattern) (8 - a .place % 8) b (omega arith))
-    (i .invert .ensures) (search needs) (λ i. c .slice-known2 .given i .fits)
+    (i .xor-three .ensures) (search needs) (λ i. c .slice-known2 .given i .fits)
 
 pub lay-spec : {M : Type 1} → statement M
 lay-spec =
     tie.close
-    (tie.spec sub-span cast-span shl-span cast-invert cast-invert-2 cast-invert-3 invert-requires same-length returns)
+    (tie.spec sub-span cast-span shl-span cast-xor-three cast-xor-three-2 cast-xor-three-3 xor-three-requires same-length returns)

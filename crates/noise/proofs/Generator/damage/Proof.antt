@@ -13,20 +13,20 @@ draw-requires c κs = search needs
 cast-pattern : tie.Need-cast-pattern
 cast-pattern c = search needs
 
-add-places : tie.Need-add-places
-add-places c =
+add-n : tie.Need-add-n
+add-n c =
     let s = c .before .before .before in
     let f = length-facts (s .args .k) (s .pre .0) in
     search needs
 
-sub-places : tie.Need-sub-places
-sub-places c = search needs
-
-sub-places-2 : tie.Need-sub-places-2
-sub-places-2 c = search needs
-
 cast-lay : tie.Need-cast-lay
 cast-lay c = search needs
+
+sub-lay : tie.Need-sub-lay
+sub-lay c = search needs
+
+sub-lay-2 : tie.Need-sub-lay-2
+sub-lay-2 c = search needs
 
 rem-lay : tie.Need-rem-lay
 rem-lay c = search needs
@@ -56,10 +56,10 @@ damage-spec =
     (tie.spec
     draw-requires
     cast-pattern
-    add-places
-    sub-places
-    sub-places-2
+    add-n
     cast-lay
+    sub-lay
+    sub-lay-2
     rem-lay
     lay-requires
     same-length

@@ -1,4 +1,4 @@
--- `invert` keeps its promise: three stores. Assumes nothing.
+-- `xor_three` keeps its promise: three stores. Assumes nothing.
 use borrow.Author.Needs.{needs}
 use mathlib.Core.List.{List}
 use mathlib.Core.Path.{_≡_, ap, ap₂, _∙_}
@@ -8,9 +8,9 @@ use lib.Bits.{bitXor}
 use lib.ListN.{length, getD, set, length-set}
 use lib.Seq.{getD-set-other}
 use Rattle.block.proofs.Packing.{three-stores}
-use Rattle.noise.specs.Code.{inverted}
-use Rattle.noise.proofs.invert.Statement.{statement}
-use Rattle.noise.proofs.invert.Tie as tie
+use Rattle.noise.specs.Code.{xorThree}
+use Rattle.noise.proofs.xor_three.Statement.{statement}
+use Rattle.noise.proofs.xor_three.Tie as tie
 
 -- a store changes no other byte
 module _ (at a b c : ℕ) (s : List ℕ) (h : at + 3 ≤ length s) where
@@ -28,8 +28,8 @@ module _ (at a b c : ℕ) (s : List ℕ) (h : at + 3 ≤ length s) where
       getD-set-other first (at + 1) (at + 2) _ 0 (λ (e : at + 2 ≡ at + 1). omega arith)
       ∙ getD-set-other s at (at + 2) _ 0 (λ (e : at + 2 ≡ at). omega arith)
 
-  stores : set second (at + 2) (bitXor (getD second (at + 2) 0) c) ≡ inverted at a b c s
-  unfolding inverted
+  stores : set second (at + 2) (bitXor (getD second (at + 2) 0) c) ≡ xorThree at a b c s
+  unfolding xorThree
   stores =
       ap₂ (λ (y z : ℕ). set (set first (at + 1) (bitXor y b)) (at + 2) (bitXor z c)) next-byte last-byte
       ∙ three-stores s at _ _ _ h
@@ -72,8 +72,8 @@ returns c =
     let a = c .before .before .before .args in
     stores (a .at) (a .a) (a .b) (a .c) (a .block .now) (search needs)
 
-pub invert-spec : {M : Type 1} → statement M
-invert-spec =
+pub xor-three-spec : {M : Type 1} → statement M
+xor-three-spec =
     tie.close
     (tie.spec
     slice-read-block
