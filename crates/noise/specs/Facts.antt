@@ -37,7 +37,7 @@ pub record Within16 (row : Bits) : Type 0 where
   pub is : row ≡ zeros before ++ (span ++ zeros behind)
 
 pub record BlockLoaded (k : ℕ) (slice slice′ : List ℕ) (inverted : ℕ) : Type 0 where
-  -- what is inverted lies within 16 adjacent places of the n, and is damage that demand 3 admits
+  -- what is inverted lies within 16 adjacent places of the n, as `Damage`; the last bit of a cancelled block is not counted in
   pub within-16 : Within16 (differences k slice slice′)
   pub damage : Damage (differences k slice slice′)
   -- the number reported is the number of places that differ
