@@ -3,9 +3,9 @@ use mathlib.Core.Path.{_≡_, refl, sym, ap, ap₂, _∙_, subst}
 use mathlib.Core.Bool.{true, false}
 use mathlib.Core.Logic.{⊎-elim}
 use mathlib.Core.List.{List, _++_}
-use Prim.Native.Nat.{ℕ, _+_, _-_, _*_, _/_, _%_, _^_, _≤_, _<_}
+use Prim.Native.Nat.{ℕ, _+_, _-_, _/_, _%_, _^_, _≤_}
 use native.Mathlib.Omega.{arith}
-use lib.Dec.{eqb, lit≤}
+use lib.Dec.{eqb}
 use lib.ListN.{length, take, drop, length-append, length-drop}
 use lib.Seq.{take-at, drop-at, length-take-le}
 use Rattle.crc.specs.Bits.{Bits, zeros, binary, xorBits, bitsOf, bytesOf}
@@ -19,11 +19,10 @@ use Rattle.block.specs.Lengths.{blockLength}
 use Rattle.block.specs.Calls.{tooShort}
 use Rattle.block.proofs.Truth.{either, cond-case}
 use Rattle.noise.specs.Generator.{next, drawn}
-use Rattle.noise.specs.Load.{Load, spanLoad, load, places, ones, Report, noiseAnswer, loadBlock, LoadedAs}
+use Rattle.noise.specs.Load.{Load, spanLoad, load, places, ones, Report, noiseAnswer, LoadedAs}
 use Rattle.noise.specs.Facts.{blockOf, differences, Within16, BlockLoaded, EveryLoad}
 use Rattle.noise.specs.declared.Generator.{Generator}
 use Rattle.noise.specs.declared.Noise.the-variants as N
-use Rattle.noise.specs.declared.Loaded.{Loaded}
 use Rattle.noise.proofs.Ones.{ones-append, ones-zeros}
 use Rattle.noise.proofs.Spans.{length-pattern}
 use Rattle.noise.proofs.Loads.{holds, place-room, load-cases}

@@ -1,5 +1,5 @@
 -- What the load does, as the code does it: a damaged span, no damage, and each refusal. Assumes nothing.
-use mathlib.Core.Path.{_≡_, refl, sym, ap, ap₂, _∙_}
+use mathlib.Core.Path.{_≡_, refl, sym, ap, _∙_}
 use mathlib.Core.Bool.{Bool, true, false, not}
 use mathlib.Core.List.{List, _++_}
 use Prim.Native.Nat.{ℕ, _+_, _-_, _*_, _/_, _%_, _^_, _≤_, _<_}
@@ -8,7 +8,7 @@ use native.Mathlib.Omega.{arith}
 use borrow.Author.Tests.{ltb-false, eqb-true}
 use lib.Count as Count
 use lib.Dec.{eqb}
-use lib.ListN.{length, take, drop, getD, length-replicate, replicate-append-replicate, take-append-drop}
+use lib.ListN.{length, take, drop, getD, replicate-append-replicate, take-append-drop}
 use lib.Seq.{length-take-le}
 use Rattle.crc.specs.Bits.{Bits, zeros, binary, xorBits, bitsOf, bytesOf}
 use Rattle.crc.proofs.Rows.{binary-zero, xorBits-zeros}

@@ -3,7 +3,7 @@
 use mathlib.Core.Path.{_≡_, refl, sym, ap, ap₂, _∙_}
 use mathlib.Core.Bool.{true, false}
 use mathlib.Core.List.{_++_}
-use Prim.Native.Nat.{ℕ, zero, suc, _+_, _-_, _*_, _/_, _%_, _^_, _≤_, _<_}
+use Prim.Native.Nat.{ℕ, zero, suc, _+_, _-_, _/_, _^_, _≤_, _<_}
 use native.Mathlib.Omega.{arith}
 use lib.Bits.{bitXor, xor-lt, xor-zero-r, xor-self}
 use lib.Dec.{lit<}
@@ -11,8 +11,8 @@ use lib.ListN.{length, length-replicate}
 use Rattle.crc.specs.Bits.{Bits, zeros, binary, number, xorBits}
 use Rattle.crc.specs.Check.{divideBit, divide, remainder, passes}
 use Rattle.crc.proofs.Xor.{xor-cancel}
-use Rattle.crc.proofs.Rows.{length-xorBits, number-binary, xorBits-zeros}
-use Rattle.crc.proofs.Linear.{divideBit-lt, divideBit-xor, divide-append, divide-xor, divide-zeros, divide-short, remainder-xor}
+use Rattle.crc.proofs.Rows.{number-binary, xorBits-zeros}
+use Rattle.crc.proofs.Linear.{divideBit-xor, divide-append, divide-xor, divide-zeros, divide-short, remainder-xor}
 use Rattle.crc.proofs.Division.{passes-remainder}
 use Rattle.crc.proofs.Codeword.{divide-zeros-zero}
 use Rattle.crc.proofs.Basis.{Term, reg, low, _>>_, shl, _⊕_, eval, eval-xor, by-basis}

@@ -10,7 +10,7 @@ use lib.Bits.{bitXor}
 use lib.ListN.{length, take, drop, getD, length-append, length-drop, length-replicate, replicate-append-replicate, take-append-drop}
 use lib.Pow.{pow-pos}
 use lib.Seq.{length-take-le}
-use Rattle.crc.specs.Bits.{Bits, zeros, binary, xorBits, bitsOf, bytesOf}
+use Rattle.crc.specs.Bits.{Bits, zeros, binary, xorBits, bitsOf}
 use Rattle.crc.proofs.Rows.{length-binary, binary-zero, binary-mod, binary-join, binary-split, binary-xor, xorBits-append, xorBits-zeros}
 use Rattle.crc.proofs.Bytes.{length-bitsOf, bitsOf-append}
 use Rattle.block.proofs.Packing.{drop-three}

@@ -8,7 +8,7 @@ use Rattle.crc.specs.Bits.{Bits, zeros, binary, xorBits}
 use Rattle.crc.specs.Check.{passes}
 use Rattle.block.specs.Block.{blockBits, payloadOf, cancelled}
 use Rattle.noise.specs.Generator.{next, drawn}
-use Rattle.noise.specs.Load.{Load, wholeLoad, load, places, ones}
+use Rattle.noise.specs.Load.{wholeLoad, load, places, ones}
 use Rattle.noise.specs.declared.Generator.{Generator}
 
 abbrev pub words : ℕ → ℕ → Generator

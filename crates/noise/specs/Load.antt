@@ -1,9 +1,9 @@
 -- The load: what it does to a lent block in one block period, what it answers and hands back, and its promise.
 -- docs/PROTOCOL.md, "The noise load". Assumes nothing.
 use mathlib.Core.Path.{_≡_}
-use mathlib.Core.Bool.{Bool, true, false, not, cond}
+use mathlib.Core.Bool.{Bool, false, not, cond}
 use mathlib.Core.List.{List, [], _∷_, _++_}
-use Prim.Native.Nat.{ℕ, _+_, _-_, _*_, _/_, _%_, _^_}
+use Prim.Native.Nat.{ℕ, _+_, _-_, _/_, _%_, _^_}
 use lib.Dec.{eqb}
 use lib.ListN.{length, take, drop}
 use Rattle.crc.specs.Bits.{Bits, zeros, bit, binary, xorBits, bitsOf, bytesOf}
