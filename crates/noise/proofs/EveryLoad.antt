@@ -127,12 +127,12 @@ module _ (k : ℕ) (s s′ : List ℕ) (l : Load) (room : l .place + 16 ≤ bloc
 
 -- ---- by the answer
 
--- how many bits an answer says are inverted, and whether it is none
-abbrev invertedOf : Answer Report → ℕ
+-- how many bits an answer reports, and 1 for one that is not refused; 0 for a refusal
+abbrev pub invertedOf : Answer Report → ℕ
 invertedOf (refused n) = 0
 invertedOf (done r) = r .inverted
 
-abbrev isDone : Answer Report → ℕ
+abbrev pub isDone : Answer Report → ℕ
 isDone (refused n) = 0
 isDone (done r) = 1
 

@@ -28,6 +28,7 @@ pub mod two_orders;
 #[cfg(test)]
 mod faults;
 
+use crate::reference::refusal::Refusal;
 use crate::rng::Rng;
 use std::collections::BTreeMap;
 use std::fmt;
@@ -153,6 +154,15 @@ pub fn same<T: PartialEq + fmt::Debug>(
 #[cfg(test)]
 fn agreed(compared: Result<Tally, Difference>) -> Tally {
     compared.unwrap_or_else(|difference| panic!("{difference}"))
+}
+
+/// Every choice of some of these refusals, in their order.
+pub fn choices(refusals: &[Refusal]) -> impl Iterator<Item = Vec<Refusal>> + '_ {
+    let chosen = |choice: usize| {
+        let places = (0..refusals.len()).filter(move |place| choice >> place & 1 == 1);
+        places.map(|place| refusals[place]).collect()
+    };
+    (0..1 << refusals.len()).map(chosen)
 }
 
 pub fn hex(bytes: &[u8]) -> String {

@@ -8,7 +8,7 @@ mod sessions;
 mod writing;
 
 use super::lockstep::Lockstep;
-use super::{hex, same, Difference, GuardedBuffer, Tally};
+use super::{choices, hex, same, Difference, GuardedBuffer, Tally};
 use crate::calls::{ReceivingEnd, Reference, SendingEnd, Tints};
 use crate::reference::refusal::{Refusal, ENTRY, FORMAT, SHORT, STEPS};
 use crate::reference::tint::{tint_bytes, to_numbers, DOSE_NUMBERS, MOST_DOSES};
@@ -211,14 +211,10 @@ fn first_of(refusals: &[Refusal]) -> Option<Refusal> {
 }
 
 /// Every choice of the refusals that so many doses can be about.
-fn choices(count: usize) -> impl Iterator<Item = Vec<Refusal>> {
-    let chosen = |choice: usize| {
-        let places = (0..REFUSALS.len()).filter(move |place| choice >> place & 1 == 1);
-        places.map(|place| REFUSALS[place]).collect()
-    };
+fn possible_choices(count: usize) -> impl Iterator<Item = Vec<Refusal>> {
     let possible =
         move |refusals: &Vec<Refusal>| count >= FEWEST_ABOVE || !refusals.contains(&STEPS);
-    (0..1 << REFUSALS.len()).map(chosen).filter(possible)
+    choices(&REFUSALS).filter(possible)
 }
 
 #[cfg(test)]

@@ -3,7 +3,7 @@
 use super::{expect, words, Group};
 use crate::calls::NoiseLoads;
 use crate::comparison::block::{multiple_name, multiples_of_8, REFUSED_LENGTHS};
-use crate::comparison::Difference;
+use crate::comparison::{choices, Difference};
 use crate::reference::block::{block_bytes, is_length, LENGTHS};
 use crate::reference::noise::Generator;
 use crate::reference::refusal::{Refusal, BLOCK, GENERATOR, SHORT};
@@ -14,22 +14,13 @@ const REFUSALS: [Refusal; 3] = [BLOCK, GENERATOR, SHORT];
 /// The low two bits of a draw.
 const KINDS: [u32; 4] = [0, 1, 2, 3];
 
-/// Every choice of the refusals.
-fn choices() -> impl Iterator<Item = Vec<Refusal>> {
-    let chosen = |choice: usize| {
-        let places = (0..REFUSALS.len()).filter(move |place| choice >> place & 1 == 1);
-        places.map(|place| REFUSALS[place]).collect()
-    };
-    (0..1 << REFUSALS.len()).map(chosen)
-}
-
 impl<T: NoiseLoads> Group<'_, T> {
     pub(super) fn refusals(&mut self) -> Result<(), Difference> {
         self.lengths()?;
         for k in LENGTHS {
             self.first_word_0(k)?;
             self.short_blocks(k)?;
-            for refusals in choices() {
+            for refusals in choices(&REFUSALS) {
                 for kind in KINDS {
                     self.refused(k, kind, &refusals)?;
                 }

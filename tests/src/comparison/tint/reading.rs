@@ -1,7 +1,7 @@
 //! Reading tint orders.
 
 use super::doses::{refused, valid, with_total, EDGES, FEWEST_ABOVE, MOST_STEPS};
-use super::{choices, first_of, Group, NUMBERS};
+use super::{first_of, possible_choices, Group, NUMBERS};
 use crate::calls::Tints;
 use crate::comparison::{hex, Difference};
 use crate::reference::refusal::{ENTRY, FORMAT, SHORT, STEPS};
@@ -169,7 +169,7 @@ impl<T: Tints> Group<'_, T> {
     /// Orders that each choice of the refusals is about: the first of them comes. Then each order
     /// with every byte changed, a byte less and a byte more.
     pub(super) fn refused_reading(&mut self, count: usize) -> Result<(), Difference> {
-        for refusals in choices(count) {
+        for refusals in possible_choices(count) {
             let has = |refusal| refusals.contains(&refusal);
             let mut order = pack(&refused(&mut self.rng, count, &refusals));
             if has(FORMAT) {

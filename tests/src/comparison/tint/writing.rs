@@ -1,7 +1,7 @@
 //! Writing tint orders.
 
 use super::doses::{above, refused, spoil, valid, with_total, EDGES, FEWEST_ABOVE, MOST_STEPS};
-use super::{choices, first_of, Group};
+use super::{first_of, possible_choices, Group};
 use crate::calls::Tints;
 use crate::comparison::{same, Difference};
 use crate::reference::refusal::{Refusal, ENTRY, FORMAT, SHORT, STEPS};
@@ -146,7 +146,7 @@ impl<T: Tints> Group<'_, T> {
 
     /// Doses that each choice of the refusals is about: the first of them comes.
     pub(super) fn refused_writing(&mut self, count: usize) -> Result<(), Difference> {
-        for refusals in choices(count) {
+        for refusals in possible_choices(count) {
             let has = |refusal| refusals.contains(&refusal);
             let doses = to_numbers(&refused(&mut self.rng, count, &refusals));
             let mut given = count;

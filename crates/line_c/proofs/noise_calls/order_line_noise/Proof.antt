@@ -13,19 +13,11 @@ use Rattle.noise.specs.declared.Noise.{Noise}
 use Rattle.noise.specs.declared.Noise.the-variants as N
 use Rattle.noise.specs.declared.Loaded.{Loaded}
 use Rattle.noise.proofs.Ones.{ones-le}
+use Rattle.noise.proofs.EveryLoad.{invertedOf, isDone}
 use Rattle.line_c.specs.NoiseCalls.{generatorOf, noiseWord, reportWord, NoiseCall}
 use borrow.Author.Needs.{needs}
 use Rattle.line_c.proofs.noise_calls.order_line_noise.Statement.{statement}
 use Rattle.line_c.proofs.noise_calls.order_line_noise.Tie as tie
-
--- what an answer that is not refused reports; 17 stands for a refusal
-abbrev invertedOf : Answer Report → ℕ
-invertedOf (refused n) = 17
-invertedOf (done r) = r .inverted
-
-abbrev isDone : Answer Report → ℕ
-isDone (refused n) = 0
-isDone (done r) = 1
 
 -- 16 bits have at most 16 ones
 at-most-16 : (a : Answer Load) (r : Report) → done r ≡ reportOf a → r .inverted ≤ 16
