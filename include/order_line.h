@@ -8,8 +8,14 @@
  *     to the given number of 16-bit numbers, and used, length, remainder, bytes, count, first and second to one number
  *     each, aligned as their types are;
  *   - what a call may write overlaps nothing else that is lent to the same call;
- *   - no other thread touches what is lent while the call runs.
- * Nothing else is asked: any bytes, any numbers. The library keeps nothing between calls and allocates nothing.
+ *   - nobody else touches what is lent while the call runs: no other thread, no interrupt handler, no DMA;
+ *   - a bool argument is 0 or 1;
+ *   - there is stack enough. No proof bounds it: tests/stack.c found 1,416 bytes for order_line_send, 696 for
+ *     order_line_receive and less than 600 for every other call (docs/SPEED.md). Allow 1,500.
+ * Nothing else is asked: any bytes, any numbers. What a call only writes may be uninitialised before it: a state before
+ * its opening; the block, the data, the tint order or the doses that it makes; the store; every number but *first and
+ * *second. A refused call leaves it so. The library keeps nothing between calls and allocates nothing. Of the C library
+ * it needs memcpy and memset.
  *
  * A number of bytes is the size of what the pointer points to. Of an array that was passed on as a pointer, sizeof gives
  * the pointer's own size: write ORDER_LINE_RECEIVER_BYTES, ORDER_LINE_STORE_BYTES(k) and so on instead, or hand the size
@@ -91,13 +97,19 @@ uint32_t order_line_version(void);
  * calls, since they hold no state. A version with another major number may put new fields at the end, and these sizes
  * then grow.
  *
- * A sender, numbers little-endian: k, 4 bytes; the order's length in bits, 4; the newer item, 4; the run of cancels, 1;
- * opening, 1 (0 or 1); what goes out next, 1 (0 a synchronising block, 1 the older item, 2 the newer); finished, 1;
- * marks in use, 1 (0 or 1); the code size, 1.
- * A receiver: k, 4 bytes; held bits, 4; items taken, 4; bad blocks in a row, 1; the return bit, 1; the end was taken, 1;
- * the phase, 1 (0 search, 1 in step, 2 sequence alarm, 3 length alarm); then the held bits, 483; marks in use, 1; the
- * code size, 1.
- * With marks in use, a code size other than 5 to 8 is SPOILED. Without, an opening writes 0, and no call judges it.
+ * A sender, numbers little-endian, each with its range; N is length / k rounded up, the number of data items:
+ *   k, 4 bytes; the order's length in bits, 4 (1 to ORDER_LINE_LONGEST_ORDER); the newer item, 4 (1 to N + 1); the run
+ *   of cancels, 1 (0 to 63; 64 if it gave up); opening, 1 (0 or 1); what goes out next, 1 (0 a synchronising block, 1
+ *   the older item, 2 the newer); finished, 1 (0 or 1); marks in use, 1 (0 or 1); the code size, 1 (with marks 5 to 8).
+ * A receiver:
+ *   k, 4 bytes; held bits, 4 (below n; in search at most 15); items taken, 4 (0 to ORDER_LINE_MOST_ITEMS); bad blocks in
+ *   a row, 1 (0 to 7); the return bit, 1 (0 or 1); the end was taken, 1 (0 or 1); the phase, 1 (0 search, 1 in step,
+ *   2 sequence alarm, 3 length alarm); then the held bits, 483; marks in use, 1 (0 or 1); the code size, 1 (with marks 5
+ *   to 8).
+ * A field outside its range is SPOILED. No combination of fields in range is: a sender that is finished with a run of 64
+ * counts as finished. The code size without marks and the bits behind the held ones are not judged and change no answer.
+ * In a state that was opened they are 0; in bytes from elsewhere they may be anything. So compare the fields of two
+ * states, not all of their bytes by memcmp.
  */
 #define ORDER_LINE_SENDER_BYTES 18
 #define ORDER_LINE_RECEIVER_BYTES 501
@@ -144,13 +156,14 @@ uint16_t order_line_read_block(size_t k, const uint8_t *block, size_t block_byte
  * B, C and so on; without marks the letters begin with item 0. Nothing else in the blocks changes, and every other call
  * is the same.
  *
- * OPEN BOTH ENDS ALIKE: both with marks, or both without. Their code sizes may differ: the receiver takes any of the
- * four marks, and order_line_receive does not tell which one came. If one end alone uses marks, the order does not
- * arrive:
- *   - The sender alone: item 0 is BAD, and the receiver is back in search, each time it comes. Nothing is stored, and
- *     the sender gives up after 64 cancels. If a repeat request is lost meanwhile, item 1 may be stored in the place of
- *     item 0; the end then brings LENGTH_ALARM.
- *   - The receiver alone: item 0 brings SEQUENCE_ALARM. Nothing is stored, and the sender gives up.
+ * OPEN BOTH ENDS ALIKE: with the same k, and both with marks or both without. Their code sizes may differ: the receiver
+ * takes any of the four marks, and order_line_receive does not tell which one came. Otherwise nothing is guaranteed. In
+ * what was run (docs/INTEGRATION.md, "Before a session: both ends alike") the order did not arrive:
+ *   - Marks at the sender alone: item 0 is BAD, the receiver is back in search, and the sender gives up. But if a repeat
+ *     request is lost, or a search finds the synchronising sequence in the order itself, item 1 may be stored in the
+ *     place of item 0; the end, if it comes, then brings LENGTH_ALARM.
+ *   - Marks at the receiver alone: item 0 brings SEQUENCE_ALARM, and the sender gives up.
+ *   - Different k: nothing is accepted and no alarm comes. THE SENDER MAY BE FINISHED all the same.
  */
 
 /* ---- the sending end ---- */
@@ -161,7 +174,9 @@ uint16_t order_line_read_block(size_t k, const uint8_t *block, size_t block_byte
  *
  * A NEW ORDER NEEDS BOTH ENDS OPENED ANEW, the machine's receiver too. Nothing in the blocks tells one order from the
  * next: A MACHINE THAT IS NOT OPENED ANEW MAY JOIN THE NEW ORDER'S ITEMS TO THE OLD ONES AND REPORT THE END (see
- * order_line_open_receiver).
+ * order_line_open_receiver). AN OFFICE THAT STARTS, OR THAT STOPPED FOR ANY REASON, DOES NOT KNOW WHERE THE MACHINE
+ * STANDS: before its first block it has the machine opened, by its line signal or by 4n idle bits (docs/INTEGRATION.md,
+ * "Sessions").
  *
  * Refused: BLOCK, SPEED, LOOP, EMPTY, LONG, SHORT (order has fewer than length bits; state is too short), in this order.
  */
@@ -178,8 +193,20 @@ uint8_t order_line_open_sender_with_marks(size_t k, uint32_t speed, uint32_t loo
 
 /*
  * Sends one block: writes it over the first ORDER_LINE_BLOCK_BYTES(k) bytes of block, and the sender's next state over
- * state. The order is lent whole at each call. reading is the return channel's reading for this block period: true asks
- * for a repeat. Returns ORDER_LINE_SENT with the flags below.
+ * state. The order is lent whole, the same and unchanged at each call of a session.
+ *
+ * reading is the return channel as it is JUST BEFORE THIS BLOCK'S LAST BIT GOES OUT: true if it asked for a repeat (1)
+ * at any time in the 45 to 50 ms before that bit. The machine's verdict on the block before comes back while this block
+ * goes out. A READING TAKEN WHEN THE BLOCK BEGINS IS ONE BLOCK OLD: the request for a damaged item is lost, and an
+ * alarm follows. The reading decides about the block's last bit, and about what is sent next. So an office calls twice
+ * in each block period:
+ *   - when the block begins, on a copy of the state with reading false; the copy is dropped, and the block's bits but
+ *     the last may go out;
+ *   - just before the last bit, on the state itself with the reading: the block is the same, its last bit inverted if it
+ *     is cancelled.
+ *
+ * Returns ORDER_LINE_SENT with the flags below. ORDER_LINE_SENT_NUMBER of it is the item's number: 0 to N - 1 of data, N
+ * and N + 1 of the two end blocks, N being length / k rounded up. Of a synchronising block it is 0.
  * Refused: SPOILED (also a state that is too short), REST, SHORT (order or block), in this order.
  */
 uint32_t order_line_send(uint8_t *state, size_t state_bytes, const uint8_t *order, size_t order_bytes, bool reading,
@@ -195,7 +222,8 @@ uint32_t order_line_send(uint8_t *state, size_t state_bytes, const uint8_t *orde
 
 /*
  * Whether a sender sends on: ORDER_LINE_GOING_ON, ORDER_LINE_FINISHED (all items are confirmed) or ORDER_LINE_GAVE_UP
- * (64 cancels in a row). Refused: SPOILED (also a state that is too short).
+ * (64 cancels in a row). FINISHED ALONE IS NO DELIVERY: a lost request, or ends that were not opened alike, bring it
+ * too. What counts is ORDER_LINE_EVENT_ENDED at the machine. Refused: SPOILED (also a state that is too short).
  */
 uint8_t order_line_sender_rest(const uint8_t *state, size_t state_bytes);
 
@@ -207,7 +235,7 @@ uint8_t order_line_sender_rest(const uint8_t *state, size_t state_bytes);
 
 /*
  * Opens a receiver without marks, in search with return bit 1, over the first ORDER_LINE_RECEIVER_BYTES bytes of state.
- * Returns 0.
+ * k is the sender's. Returns 0.
  *
  * A NEW ORDER NEEDS BOTH ENDS OPENED ANEW, the office's sender too, also after a session that broke off. Nothing in the
  * blocks tells one order from the next. A MACHINE THAT IS NOT OPENED ANEW MAY JOIN THE NEW ORDER'S ITEMS TO THE OLD ONES
@@ -226,11 +254,14 @@ uint8_t order_line_open_receiver_with_marks(size_t k, size_t size, uint8_t *stat
 
 /*
  * Takes bits from the line, the first `bits` bits of line, up to the next event or to the last, and returns the event.
- * *used becomes the number of bits taken; the rest is to be lent again. An accepted block's k bits go to the store at
- * bit k times the items taken before; *length becomes the order's length in bits with ORDER_LINE_EVENT_ENDED, and stays
- * as it is otherwise. The store is the same at each call; for an order of L bits it wants L bits rounded up to a
- * multiple of k, at most ORDER_LINE_STORE_BYTES(k) bytes. bits may be 0: nothing changes, and a standing alarm is
- * reported.
+ * *used becomes the number of bits taken; the rest is to be lent again. A call with bits above 0 that is not refused
+ * takes at least one, so that a loop over the rest ends. Under a standing alarm it takes all of them, returns the alarm
+ * again, and the return bit is 1. With bits 0 nothing changes but *used, which becomes 0, and a standing alarm is
+ * returned. (How many are taken is proved: BitsUsed, crates/line/specs/BitsUsed.antt.)
+ *
+ * An accepted block's k bits go to the store at bit k times the items taken before; *length becomes the order's length
+ * in bits with ORDER_LINE_EVENT_ENDED, and stays as it is otherwise. The store is the same at each call; for an order of
+ * L bits it wants L bits rounded up to a multiple of k, at most ORDER_LINE_STORE_BYTES(k) bytes.
  *
  * ready says whether the machine can take a block now: false while it is busy. The call that brings a block's last bit
  * decides, whatever the calls before it said. If ready is false there, a block that would be accepted, or the end that
@@ -248,8 +279,13 @@ uint8_t order_line_open_receiver_with_marks(size_t k, size_t size, uint8_t *stat
  * cancelled blocks", says what such a count does not tell.
  *
  * Refused: SPOILED (also a state that is too short), SHORT (line has fewer than `bits` bits; or ready is true, a block
- * would be accepted and the store cannot hold it: then no bit is used, and the call may be made again with a longer
- * store).
+ * would be accepted and the store cannot hold it).
+ *
+ * A REFUSED CALL USES NO BIT: A LOOP THAT LENDS THE SAME BITS AGAIN DOES NOT END. Where the store was shorter than
+ * ORDER_LINE_STORE_BYTES(k), the call may be made again with a longer one that begins with the same bytes. Where it was
+ * not, the machine was not opened anew: up to ORDER_LINE_MOST_ITEMS items are accepted at every k. Then lend no further
+ * bit of this session, hold the return channel at 1 (order_line_return_bit may still say 0), and open the receiver anew
+ * before the next one; nothing in the store is an order.
  */
 uint8_t order_line_receive(uint8_t *state, size_t state_bytes, const uint8_t *line, size_t line_bytes, size_t bits,
                            bool ready, uint8_t *store, size_t store_bytes, size_t *used, size_t *length,
@@ -257,13 +293,13 @@ uint8_t order_line_receive(uint8_t *state, size_t state_bytes, const uint8_t *li
 
 /* The events; their numbers are this library's own. */
 #define ORDER_LINE_EVENT_NONE 64           /* all bits were used without an event */
-#define ORDER_LINE_EVENT_SYNC 65           /* a synchronising block, or its last 16 bits in search */
+#define ORDER_LINE_EVENT_SYNC 65           /* a synchronising block; in search, its sequence of 16 bits anywhere */
 #define ORDER_LINE_EVENT_BAD 66            /* the check failed, or the block fits nowhere; the remainder is reported */
 #define ORDER_LINE_EVENT_ACCEPTED 67       /* the next data item: its data are in the store */
 #define ORDER_LINE_EVENT_PREVIOUS 68       /* the item before, or the end again: nothing stored */
-#define ORDER_LINE_EVENT_SEQUENCE_ALARM 69 /* an item was missed; stands until a receiver is opened anew */
+#define ORDER_LINE_EVENT_SEQUENCE_ALARM 69 /* an item was missed, or comes after the end; stands until a new opening */
 #define ORDER_LINE_EVENT_LENGTH_ALARM 70   /* an end block with another length; stands likewise */
-#define ORDER_LINE_EVENT_ENDED 71          /* the end: the whole order is in the store, and its length is reported */
+#define ORDER_LINE_EVENT_ENDED 71          /* the end, with its length: the whole order, if both ends were opened anew */
 #define ORDER_LINE_EVENT_WAIT 72           /* the machine is not ready for the next item or the end: nothing taken */
 
 #define ORDER_LINE_IS_EVENT(answer) ((answer) - 64u < 16u) /* what order_line_receive returned is an event, no refusal */
@@ -333,15 +369,16 @@ uint8_t order_line_read_tint(const uint8_t *order, size_t order_bytes, uint16_t 
  */
 
 /*
- * The noise of one block period: call it once for each block that is sent, on the block as it was sent. One number is
- * drawn. Its low two bits choose: 0 or 1, nothing; 2, one damaged span; 3, a turned-over reading. For a span a second
- * number is drawn. Its low 16 bits are a pattern, which is laid over the block, the top bit first, from bit (the number
- * divided by 65,536, rounded down) modulo (n - 15) on; each of its ones inverts a bit. So what is inverted lies within
- * 16 adjacent bits of the n. The spare bits and all other bytes stay. Which bits are inverted does not depend on the
- * block's: of zero bytes it leaves just those.
+ * The noise of one block period: call it once for each block that is sent, on the block as it was sent, and not for the
+ * sending call on a copy of the state. One number is drawn. Its low two bits choose: 0 or 1, nothing; 2, one damaged
+ * span; 3, a turned-over reading. For a span a second number is drawn. Its low 16 bits are a pattern, which is laid
+ * over the block, the top bit first, from bit (the number divided by 65,536, rounded down) modulo (n - 15) on; each of
+ * its ones inverts a bit. So what is inverted lies within 16 adjacent bits of the n. The spare bits and all other bytes
+ * stay. Which bits are inverted does not depend on the block's: of zero bytes it leaves just those.
  *
  * *first and *second become the words after the draws; the second number is used up even if its pattern is 0. Returns
- * ORDER_LINE_NOISE with the flag below and the number of bits inverted, 0 to 16.
+ * ORDER_LINE_NOISE with the flag below and the number of bits inverted, 0 to 16. A turned-over reading is that of the
+ * next order_line_send on the state itself that is not refused; a call on a copy keeps reading false.
  *
  * SESSIONS UNDER THE LOAD MAY GO WRONG, as on a rough line, and nothing is guaranteed of them: a turned-over reading may
  * lose a repeat request, and damage to a cancelled block may make it pass the check, whole or with other data. THE
@@ -353,7 +390,7 @@ uint8_t order_line_read_tint(const uint8_t *order, size_t order_bytes, uint16_t 
 uint32_t order_line_noise(size_t k, uint32_t *first, uint32_t *second, uint8_t *block, size_t block_bytes);
 
 #define ORDER_LINE_NOISE 0x100u        /* the period's noise was drawn; set in every word that is no refusal */
-#define ORDER_LINE_NOISE_TURNED 0x200u /* turn over the reading of the next order_line_send that is not refused */
+#define ORDER_LINE_NOISE_TURNED 0x200u /* turn over the reading of the next block period */
 
 #define ORDER_LINE_NOISE_INVERTED(word) ((word) >> 16) /* the number of bits inverted in this block */
 
