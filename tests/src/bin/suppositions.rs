@@ -27,6 +27,7 @@ fn main() {
     row("two random blocks hold the sequence, at most", |n, _| {
         found_in_search(2 * n)
     });
+    row("both, at most, once in an order", false_start);
     println!("\nIn the longest order, each block sent once and one cancelled for each damaged:\n");
     heading("Number to expect");
     row("damaged blocks", |n, p| in_order(n, p, damaged, |_, _| 0.0));
@@ -40,6 +41,12 @@ fn main() {
         "blocks with four damaged bits that pass the check",
         |n, p| in_order(n, p, four_pass, three_pass),
     );
+    row("of them blocks that were not cancelled", |n, p| {
+        in_order(n, p, four_pass, |_, _| 0.0)
+    });
+    row("of them cancelled blocks", |n, p| {
+        in_order(n, p, |_, _| 0.0, three_pass)
+    });
     print_counts();
 }
 
@@ -61,6 +68,12 @@ fn print_counts() {
     println!(
         "A random order of {LONGEST} bits holds the sequence {sequences:.1} times on average."
     );
+}
+
+/// The first synchronising block's sequence is damaged, and the search finds it in the two blocks
+/// behind.
+fn false_start(n: usize, p: f64) -> f64 {
+    damaged(CHECK_BITS, p) * found_in_search(2 * n)
 }
 
 /// Exactly four bits are inverted, and the check passes.
