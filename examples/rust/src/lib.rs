@@ -1,8 +1,8 @@
 //! The order line's library (`include/order_line.h`) as Rust calls it, without `std` and without allocation: every call
 //! of the header. It wants `libline_c.a`, which is for x86-64 and the System V calling convention; `build.rs` links it.
 //!
-//! **A new order needs both ends opened anew**, also after a session that broke off: see [`Receiver::open`]. Both use
-//! start-of-message marks or neither does: see [`Receiver::open_with_marks`].
+//! **A new order needs both ends opened anew**, also after a session that broke off: see [`Receiver::open`]. Both have
+//! the same k, and both use start-of-message marks or neither does: see [`Receiver::open_with_marks`].
 //!
 //! [`Generator::noise`] is for a bench: it damages blocks, and no office and no machine in a shop makes this call.
 

@@ -9,7 +9,7 @@ use crate::refusal::{Refusal, done};
 pub enum Event {
     /// All bits were used without an event.
     None,
-    /// A synchronising block, or its last 16 bits in search.
+    /// A synchronising block; in search, its sequence of 16 bits anywhere.
     Sync,
     /// The check failed, or the block fits nowhere; the remainder of the bits that were read as a block.
     ///
@@ -21,11 +21,11 @@ pub enum Event {
     Accepted,
     /// The item before, or the end again: nothing stored.
     Previous,
-    /// An item was missed; stands until a receiver is opened anew.
+    /// An item was missed, or comes after the end; stands until a receiver is opened anew.
     SequenceAlarm,
     /// An end block with another length; stands likewise.
     LengthAlarm,
-    /// The whole order is in the store; its length in bits.
+    /// The end, with its length in bits: the whole order is in the store, if both ends were opened anew.
     Ended(usize),
     /// The machine is not ready for the next item or the end: nothing taken.
     Wait,
@@ -50,8 +50,8 @@ impl Receiver {
 
     /// With start-of-message marks: item 0 carries the mark of the sender's code size, 5 to 8.
     ///
-    /// **Open both ends alike**, both with marks or both without: otherwise the order does not arrive. The sizes may
-    /// differ: a receiver takes any mark.
+    /// **Open both ends alike**, with the same k and both with marks or both without: otherwise nothing is guaranteed. The
+    /// sizes may differ: a receiver takes any mark.
     pub fn open_with_marks(k: usize, size: usize) -> Result<Receiver, Refusal> {
         let mut state = [0; RECEIVER_BYTES];
         done(unsafe {
@@ -60,8 +60,13 @@ impl Receiver {
         Ok(Receiver { state })
     }
 
-    /// Takes the first `bits` bits of `line`, up to the next event; the event, and the number of bits taken. The store is
-    /// the same at each call; [`store_bytes`](crate::store_bytes) of them hold any order.
+    /// Takes the first `bits` bits of `line`, up to the next event; the event, and the number of bits taken: at least one
+    /// if `bits` is above 0, and all under a standing alarm, which is reported again. The store is the same at each call;
+    /// [`store_bytes`](crate::store_bytes) of them hold any order.
+    ///
+    /// A refused call takes no bit: do not lend the same bits again. [`Refusal::Short`] with a store for any order means
+    /// that this receiver was not opened anew: hold the return channel at 1 whatever [`return_bit`](Receiver::return_bit)
+    /// says, and open it before the next order. Nothing in the store is an order.
     ///
     /// `ready` says whether the machine can take a block now: false while it is busy. The call that brings a block's last
     /// bit decides, whatever the calls before it said. If it is false there, a block that would be accepted, or the end

@@ -11,7 +11,7 @@ pub enum Sent {
     Synchronising,
     /// An item of the order, or an end block.
     Item {
-        /// The item's number.
+        /// The item's number; the two end blocks come after the data.
         number: usize,
         /// It is an end block.
         end: bool,
@@ -27,7 +27,7 @@ pub enum Sent {
 pub enum Rest {
     /// It has a block to send.
     GoingOn,
-    /// All items are confirmed.
+    /// All items are confirmed. That alone is no delivery: [`Event::Ended`](crate::Event::Ended) at the machine is.
     Finished,
     /// It gave up, after 64 cancels in a row.
     GaveUp,
@@ -41,7 +41,8 @@ pub struct Sender {
 
 impl Sender {
     /// Without marks, for an order of `length` bits. **A new order needs both ends opened anew**: see
-    /// [`Receiver::open`](crate::Receiver::open).
+    /// [`Receiver::open`](crate::Receiver::open). An office that starts, or that stopped for any reason, has the machine
+    /// opened before its first block.
     pub fn open(
         k: usize,
         speed: u32,
@@ -92,7 +93,12 @@ impl Sender {
         Ok(Sender { state })
     }
 
-    /// Sends one block: the order whole, and the reading of this block period.
+    /// Sends one block. The order is whole, and the same at each call of a session.
+    ///
+    /// The reading is taken **just before this block's last bit** goes out, in the 45 to 50 ms before it: the verdict on
+    /// the block before comes back while this block goes out. Taken when the block begins it is one block old, and the
+    /// request for a damaged item is lost. It decides this block's last bit and what is sent next. Until it is there, the
+    /// call on a clone with reading false gives the block's other bits; the clone is dropped.
     pub fn send(&mut self, order: &[u8], reading: bool, block: &mut [u8]) -> Result<Sent, Refusal> {
         let word = unsafe {
             c::order_line_send(
