@@ -163,7 +163,7 @@ uint16_t order_line_read_block(size_t k, const uint8_t *block, size_t block_byte
  *     request is lost, or a search finds the synchronising sequence in the order itself, item 1 may be stored in the
  *     place of item 0; the end, if it comes, then brings LENGTH_ALARM.
  *   - Marks at the receiver alone: item 0 brings SEQUENCE_ALARM, and the sender gives up.
- *   - Different k: nothing is accepted and no alarm comes. THE SENDER MAY BE FINISHED all the same.
+ *   - Different k: as a rule nothing is accepted and no alarm comes. THE SENDER MAY BE FINISHED all the same.
  */
 
 /* ---- the sending end ---- */

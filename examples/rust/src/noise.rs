@@ -22,14 +22,14 @@ pub struct Generator {
 pub struct Noise {
     /// The bits inverted in this block, 0 to 16.
     pub inverted: u32,
-    /// The reading given to the next [`Sender::send`](crate::Sender::send) that is not refused is to be turned over: on the
-    /// sender itself, not on a clone.
+    /// The reading given to the next [`Sender::send`](crate::Sender::send) that is not refused is to be turned over: the
+    /// next one on the sender itself, not on a copy.
     pub turned: bool,
 }
 
 impl Generator {
     /// Draws the noise of one block period and lays it over the block: once for each block that is sent, and not for the
-    /// sending call on a clone.
+    /// sending call on a copy.
     ///
     /// In one period of four, on average, bits within 16 adjacent ones of the block are inverted, and in another one the
     /// next reading is turned over. Which bits are inverted depends on the words and on k alone, not on the block's bits.

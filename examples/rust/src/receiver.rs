@@ -64,15 +64,15 @@ impl Receiver {
     /// if `bits` is above 0, and all under a standing alarm, which is reported again. The store is the same at each call;
     /// [`store_bytes`](crate::store_bytes) of them hold any order.
     ///
-    /// A refused call takes no bit: do not lend the same bits again. [`Refusal::Short`] with a store for any order means
-    /// that this receiver was not opened anew: hold the return channel at 1 whatever [`return_bit`](Receiver::return_bit)
-    /// says, and open it before the next order. Nothing in the store is an order.
-    ///
     /// `ready` says whether the machine can take a block now: false while it is busy. The call that brings a block's last
     /// bit decides, whatever the calls before it said. If it is false there, a block that would be accepted, or the end
     /// that would be reported, is [`Event::Wait`] instead: nothing is stored, nothing is taken, the return bit is 1, and
     /// the store is not judged. The sender repeats a block that waits; if the machine stays busy, it gives up after 64
     /// cancels.
+    ///
+    /// **A refused call uses no bit**: a loop that lends the same bits again does not end. A receiver that was not opened
+    /// anew may be refused [`Refusal::Short`] even with a store of [`store_bytes`](crate::store_bytes). Then lend it no
+    /// more bits, hold the return channel at 1, and open a new one before the next order.
     pub fn receive(
         &mut self,
         line: &[u8],

@@ -93,12 +93,11 @@ impl Sender {
         Ok(Sender { state })
     }
 
-    /// Sends one block. The order is whole, and the same at each call of a session.
+    /// Sends one block: the order whole, the same at each call of a session, and the reading of the return channel.
     ///
-    /// The reading is taken **just before this block's last bit** goes out, in the 45 to 50 ms before it: the verdict on
-    /// the block before comes back while this block goes out. Taken when the block begins it is one block old, and the
-    /// request for a damaged item is lost. It decides this block's last bit and what is sent next. Until it is there, the
-    /// call on a clone with reading false gives the block's other bits; the clone is dropped.
+    /// **The reading is taken just before this block's last bit goes out**: true if a repeat was asked for. One that is
+    /// taken when the block begins is one block old, and the request for a damaged item is lost. The bits before the last
+    /// do not depend on it: until then they are had from a call on a copy of the sender, which is dropped.
     pub fn send(&mut self, order: &[u8], reading: bool, block: &mut [u8]) -> Result<Sent, Refusal> {
         let word = unsafe {
             c::order_line_send(
