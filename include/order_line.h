@@ -267,7 +267,7 @@ uint8_t order_line_open_receiver_with_marks(size_t k, size_t size, uint8_t *stat
  * decides, whatever the calls before it said. If ready is false there, a block that would be accepted, or the end that
  * would be reported, is ORDER_LINE_EVENT_WAIT instead: nothing is stored, nothing is taken, the return bit is 1, and the
  * store is not judged. Every other event is the same whether ready is true or false. The sender repeats a block that
- * waits; if the machine stays busy, it gives up after 64 cancels.
+ * waits, unless it reads the request as 0; if the machine stays busy, it gives up after 64 cancels.
  *
  * With ORDER_LINE_EVENT_BAD, *remainder becomes the remainder of the n bits that were read as a block, divided by V.41's
  * polynomial; it stays as it is otherwise. It is for service staff, who may count bad blocks by it:
