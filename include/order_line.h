@@ -157,8 +157,8 @@ uint16_t order_line_read_block(size_t k, const uint8_t *block, size_t block_byte
  * is the same.
  *
  * OPEN BOTH ENDS ALIKE: with the same k, and both with marks or both without. Their code sizes may differ: the receiver
- * takes any of the four marks, and order_line_receive does not tell which one came. Otherwise nothing is guaranteed. In
- * what was run (docs/INTEGRATION.md, "Before a session: both ends alike") the order did not arrive:
+ * takes any of the four marks, and order_line_receive does not tell which one came. Otherwise nothing is guaranteed. The
+ * order did not arrive in what was run, on undisturbed lines (docs/INTEGRATION.md, "Before a session: both ends alike"):
  *   - Marks at the sender alone: item 0 is BAD, the receiver is back in search, and the sender gives up. But if a repeat
  *     request is lost, or a search finds the synchronising sequence in the order itself, item 1 may be stored in the
  *     place of item 0; the end, if it comes, then brings LENGTH_ALARM.
@@ -283,9 +283,10 @@ uint8_t order_line_open_receiver_with_marks(size_t k, size_t size, uint8_t *stat
  *
  * A REFUSED CALL USES NO BIT: A LOOP THAT LENDS THE SAME BITS AGAIN DOES NOT END. Where the store was shorter than
  * ORDER_LINE_STORE_BYTES(k), the call may be made again with a longer one that begins with the same bytes. Where it was
- * not, the machine was not opened anew: up to ORDER_LINE_MOST_ITEMS items are accepted at every k. Then lend no further
- * bit of this session, hold the return channel at 1 (order_line_return_bit may still say 0), and open the receiver anew
- * before the next one; nothing in the store is an order.
+ * not, more items came than an order has, since up to ORDER_LINE_MOST_ITEMS are accepted at every k: the machine was not
+ * opened anew, or read what was not sent. Then lend no further bit of this session, hold the return channel at 1
+ * (order_line_return_bit may still say 0), and open the receiver anew before the next one; nothing in the store is an
+ * order.
  */
 uint8_t order_line_receive(uint8_t *state, size_t state_bytes, const uint8_t *line, size_t line_bytes, size_t bits,
                            bool ready, uint8_t *store, size_t store_bytes, size_t *used, size_t *length,
