@@ -59,8 +59,12 @@ uint32_t order_line_version(void);
  *
  * A refused call writes no byte and no number, and leaves the state's bytes as they were. ORDER_LINE_IS_REFUSED says
  * whether a call was refused, whichever call it was.
+ *
+ * An answer may be held in any integer type that can hold it, but not in a bool. In each, ORDER_LINE_IS_REFUSED and the
+ * other macros that take an answer or a word are right, and they evaluate it once. (They add and divide, because whether
+ * 0 - 1u is less than 63 depends on the type of the 0.)
  */
-#define ORDER_LINE_IS_REFUSED(answer) ((answer) - 1u < 63u)
+#define ORDER_LINE_IS_REFUSED(answer) (((answer) + 62) / 63 == 1)
 
 /* The refusals: the numbers of docs/PROTOCOL.md, "What the ends turn away". */
 #define ORDER_LINE_REFUSED_BLOCK 1     /* k is not one of the four */
@@ -303,7 +307,7 @@ uint8_t order_line_receive(uint8_t *state, size_t state_bytes, const uint8_t *li
 #define ORDER_LINE_EVENT_ENDED 71          /* the end, with its length: the whole order, if both ends were opened anew */
 #define ORDER_LINE_EVENT_WAIT 72           /* the machine is not ready for the next item or the end: nothing taken */
 
-#define ORDER_LINE_IS_EVENT(answer) ((answer) - 64u < 16u) /* what order_line_receive returned is an event, no refusal */
+#define ORDER_LINE_IS_EVENT(answer) ((answer) / 16 == 4) /* what order_line_receive returned is an event, no refusal */
 
 /*
  * The return bit that the machine now sends back: ORDER_LINE_RETURN_0, or ORDER_LINE_RETURN_1 to ask for a repeat.
