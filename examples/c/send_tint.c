@@ -6,36 +6,49 @@
  *
  * FIRST and SECOND are the words that the noise starts from; it is the same from the same words. K is 240 (as without
  * it), 480, 960 or 3840 data bits a block. A dose is a CANISTER, 1 to 12, and its pump STEPS, 1 to 4,800; canisters rise,
- * and all steps together are 20,000 or fewer. Where none is given, four are sent. Exit status 0 means that the same doses
- * were read, 1 that they were not, 2 that the doses, the line or the words were refused. The office and the machine are
- * in session.c.
+ * and all steps together are 20,000 or fewer. Where none is given, four are sent. Numbers are decimal digits alone. Exit
+ * status 0 means that the same doses were read, 1 that they were not, 2 that the arguments could not be read, or the
+ * doses, the line or the words were refused. The office and the machine are in session.c.
  */
 #include <stdio.h>
-#include <stdlib.h>
 #include <string.h>
 
+#include "arguments.h"
+#include "refusal.h"
 #include "session.h"
+
+#define USAGE "send_tint [--noise FIRST SECOND] [K [CANISTER STEPS]...]"
 
 #define DOSE_NUMBERS (2 * ORDER_LINE_MOST_DOSES) /* canister and steps of each dose */
 #define TINT_BYTES ORDER_LINE_TINT_BYTES(ORDER_LINE_MOST_DOSES)
 
-/* A 16-bit number; 0, which is refused, for what is none. */
-static uint16_t number_of(const char *text)
-{
-    char *end;
-    unsigned long number = strtoul(text, &end, 10);
+struct request {
+    uint32_t k;
+    size_t count; /* of doses */
+    uint16_t doses[DOSE_NUMBERS];
+};
 
-    return end != text && *end == '\0' && number <= 65535 ? (uint16_t)number : 0;
-}
-
-/* The doses of so many arguments; returns how many. Those above the most are not kept, and writing them is refused. */
-static size_t doses_of(int arguments, char **texts, uint16_t *doses)
+/*
+ * Reads K and the doses, as far as they are there; returns whether they can be read. What the library refuses is left to
+ * it: 65535 stands for a greater number, and doses above the most are counted and not kept.
+ */
+static bool read_arguments(int argc, char **argv, struct request *request)
 {
     int i;
 
-    for (i = 0; i < arguments && i < DOSE_NUMBERS; i++)
-        doses[i] = number_of(texts[i]);
-    return (size_t)arguments / 2;
+    if (argc > 1 && !read_number(argv[1], &request->k))
+        return false;
+    for (i = 2; i < argc; i++) {
+        uint32_t number;
+
+        if (!read_number(argv[i], &number))
+            return false;
+        if (i - 2 < DOSE_NUMBERS)
+            request->doses[i - 2] = (uint16_t)(number < UINT16_MAX ? number : UINT16_MAX);
+    }
+    if (argc > 2)
+        request->count = (size_t)(argc - 2) / 2;
+    return argc <= 2 || argc % 2 == 0;
 }
 
 /*
@@ -51,7 +64,7 @@ static bool machine_reads(const struct machine *machine, const uint16_t *doses, 
     if (machine->length % 8 == 0)
         answer = order_line_read_tint(machine->store, machine->length / 8, read, DOSE_NUMBERS, &read_count);
     if (answer != 0) {
-        printf("the machine refused %u\n", (unsigned)answer);
+        print_refusal(stdout, "the machine ", answer);
         return false;
     }
     for (i = 0; i < read_count; i++)
@@ -61,34 +74,29 @@ static bool machine_reads(const struct machine *machine, const uint16_t *doses, 
 
 int main(int argc, char **argv)
 {
-    static uint16_t doses[DOSE_NUMBERS] = {1, 120, 4, 1500, 7, 36, 11, 4800};
     static uint8_t order[TINT_BYTES];
     static struct office office;
     static struct machine machine;
+    struct request request = {240, 4, {1, 120, 4, 1500, 7, 36, 11, 4800}};
     struct words words;
-    size_t k, count = 4;
+    bool help = asks_for_help(argc, argv);
     uint8_t refusal;
     int status;
 
+    if (help || !take_noise_option(&argc, &argv, &words) || !read_arguments(argc, argv, &request))
+        return print_usage(USAGE, help);
     if (!same_version())
         return 2;
-    if (!take_noise_option(&argc, &argv, &words) || (argc > 2 && argc % 2 != 0)) {
-        fputs("usage: send_tint [--noise FIRST SECOND] [K [CANISTER STEPS]...]\n", stderr);
-        return 2;
-    }
-    if (argc > 2)
-        count = doses_of(argc - 2, argv + 2, doses);
-    refusal = order_line_write_tint(doses, DOSE_NUMBERS, count, order, TINT_BYTES, &office.order_bytes);
+    refusal = order_line_write_tint(request.doses, DOSE_NUMBERS, request.count, order, TINT_BYTES, &office.order_bytes);
     if (refusal != 0) {
-        fprintf(stderr, "refused %u\n", (unsigned)refusal);
+        print_refusal(stderr, "", refusal);
         return 2;
     }
     office.order = order; /* its length is 8 times its bytes: see office_open in session.c */
-    k = argc > 1 ? (size_t)strtoul(argv[1], NULL, 10) : 240;
-    status = run_session(&office, &machine, k, NULL, words);
+    status = run_session(&office, &machine, request.k, NULL, words);
     if (status == 2)
         return 2;
-    if (status == 0 && !machine_reads(&machine, doses, count))
+    if (status == 0 && !machine_reads(&machine, request.doses, request.count))
         status = 1;
     puts(status == 0 ? "arrived whole" : "did not arrive whole");
     return status;

@@ -4,6 +4,8 @@
 #include <stdio.h>
 #include <string.h>
 
+#include "refusal.h"
+
 #define SPEED 1200u /* bit/s */
 #define LOOP_MS 100u
 
@@ -113,6 +115,18 @@ static void machine_on_event(struct machine *machine, uint8_t event)
 }
 
 /*
+ * A refused call used no bit: a machine that lent the same bits again would do so for ever. It stops. It takes no more
+ * bits, holds the return channel at 1, so that an office that reads it gives up, and is opened anew before the next order.
+ * The refusal may be SPOILED (7), if something else wrote over the state; or SHORT (6), if more items come than the store
+ * holds: a machine that was not opened anew may take the items of a second order behind those of the first.
+ */
+static void machine_stop(struct machine *machine, uint8_t refusal)
+{
+    machine->refusal = refusal;
+    machine->return_bit = 1;
+}
+
+/*
  * The serial line's interrupt: up to eight bits, the earliest in the top bit. A block may end within them; a call stops
  * there, and the bits it left are lent again. This machine is always ready.
  */
@@ -124,12 +138,10 @@ static void machine_on_bits(struct machine *machine, uint8_t byte, size_t bits)
                                             machine->store, STORE_BYTES, &used, &machine->length,
                                             &machine->remainder);
 
-        if (ORDER_LINE_IS_REFUSED(answer)) { /* with these buffers it means that the state's bytes were spoiled */
-            machine->refusal = answer;
-            machine->return_bit = 1;
-        } else {
+        if (ORDER_LINE_IS_REFUSED(answer))
+            machine_stop(machine, answer);
+        else
             machine_on_event(machine, answer);
-        }
         byte = (uint8_t)(byte << used);
         bits -= used;
     }
@@ -241,7 +253,7 @@ static bool arrived_whole(const struct office *office, const struct machine *mac
     if (machine->alarm == ORDER_LINE_EVENT_LENGTH_ALARM)
         puts("length alarm");
     if (machine->refusal != 0)
-        printf("the machine refused %u\n", (unsigned)machine->refusal);
+        print_refusal(stdout, "the machine ", machine->refusal);
     if (!machine->ended)
         puts("the machine reported no end");
     else if (!same)
@@ -264,42 +276,15 @@ int run_session(struct office *office, struct machine *machine, size_t k, const 
     while (refusal == 0 && rest == ORDER_LINE_GOING_ON) {
         refusal = run_period(office, machine, &noise, k);
         rest = order_line_sender_rest(office->state, ORDER_LINE_SENDER_BYTES);
+        if (refusal == 0 && ORDER_LINE_IS_REFUSED(rest))
+            refusal = rest;
     }
     if (refusal != 0) {
-        fprintf(stderr, "refused %u\n", (unsigned)refusal);
+        print_refusal(stderr, "", refusal);
         return 2;
     }
     print_summary(office, machine, &noise, k);
     return arrived_whole(office, machine, rest) ? 0 : 1;
-}
-
-/* ---- what the programs are called with ---- */
-
-/* Reads a 32-bit number, decimal digits alone; returns whether it is one. */
-static bool read_word(const char *text, uint32_t *word)
-{
-    uint64_t number = 0;
-    size_t i;
-
-    for (i = 0; text[i] >= '0' && text[i] <= '9' && number <= UINT32_MAX; i++)
-        number = 10 * number + (uint64_t)(text[i] - '0');
-    *word = (uint32_t)number;
-    return i > 0 && text[i] == '\0' && number <= UINT32_MAX;
-}
-
-bool take_noise_option(int *argc, char ***argv, struct words *words)
-{
-    char **texts = *argv;
-
-    words->first = 1968;
-    words->second = 41;
-    if (*argc < 2 || strcmp(texts[1], "--noise") != 0)
-        return true;
-    if (*argc < 4 || !read_word(texts[2], &words->first) || !read_word(texts[3], &words->second))
-        return false;
-    *argc -= 3;
-    *argv += 3;
-    return true;
 }
 
 bool same_version(void)

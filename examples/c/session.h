@@ -50,12 +50,6 @@ struct words {
 bool same_version(void);
 
 /*
- * Reads the option --noise FIRST SECOND, if it stands before all other arguments, and takes it away from them: the others
- * are then *argv + 1 and on, as without it. Without it the words are 1968 and 41. Returns false if it cannot be read.
- */
-bool take_noise_option(int *argc, char ***argv, struct words *words);
-
-/*
  * Opens both ends at k data bits a block, with marks if size is not NULL, and brings office->order over. Prints the words
  * of the noise, then the periods, repeats and events, and why the order did not arrive. Returns 0 if it arrived whole, 1
  * if it did not, 2 if a call was refused.

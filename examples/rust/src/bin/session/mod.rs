@@ -1,19 +1,15 @@
 //! What the programs share: an office and a machine, with a noisy line between them. The two meet only in the bits of the
 //! line and in the return bit; the noise and the session stand for the modems and the clock.
 
+mod arguments;
+
+pub use arguments::{arguments, numbers};
 use order_line::{Event, Receiver, Refusal, Rest, Sender, Sent};
 use order_line::{Generator, block_bytes, store_bytes};
-use std::env;
 use std::process::ExitCode;
 
 const SPEED: u32 = 1200;
 const LOOP_MS: u32 = 100;
-
-/// The words that the noise starts from where the arguments give no others.
-const WORDS: Generator = Generator {
-    first: 1968,
-    second: 41,
-};
 
 // ---- the office: the sending end
 
@@ -92,6 +88,8 @@ struct Machine {
     /// Bits of the order, once its end was reported.
     length: Option<usize>,
     alarm: Option<Event>,
+    /// The refusal that stopped the machine.
+    refusal: Option<Refusal>,
     return_bit: bool,
     counts: Counts,
 }
@@ -110,6 +108,7 @@ impl Machine {
             store: vec![0; store_bytes(k)],
             length: None,
             alarm: None,
+            refusal: None,
             return_bit,
             counts: Counts::default(),
         })
@@ -117,16 +116,27 @@ impl Machine {
 
     /// What a serial line's interrupt has gathered: up to 64 bits, the earliest in the top bit. A block may end within
     /// them; a call stops there, and the bits it left are lent again. This machine is always ready.
-    fn on_bits(&mut self, mut piece: u64, mut bits: usize) -> Result<(), Refusal> {
-        while bits > 0 {
-            let (event, used) =
-                self.receiver
-                    .receive(&piece.to_be_bytes(), bits, true, &mut self.store)?;
-            self.on_event(event)?;
-            piece = piece.checked_shl(used as u32).unwrap_or(0);
-            bits -= used;
+    fn on_bits(&mut self, mut piece: u64, mut bits: usize) {
+        while bits > 0 && self.refusal.is_none() {
+            let line = piece.to_be_bytes();
+            match self.receiver.receive(&line, bits, true, &mut self.store) {
+                Ok((event, used)) => {
+                    self.on_event(event);
+                    piece = piece.checked_shl(used as u32).unwrap_or(0);
+                    bits -= used;
+                }
+                Err(refusal) => self.stop(refusal),
+            }
         }
-        Ok(())
+    }
+
+    /// A refused call used no bit: a machine that lent the same bits again would do so for ever. It stops. It takes no
+    /// more bits, holds the return channel at 1, so that an office that reads it gives up, and is opened anew before the
+    /// next order. The refusal may be `Short`, if more items come than the store holds: a machine that was not opened anew
+    /// may take the items of a second order behind those of the first.
+    fn stop(&mut self, refusal: Refusal) {
+        self.refusal = Some(refusal);
+        self.return_bit = true;
     }
 
     /// The order, once its end was reported: the first bytes of the store, an eighth as many as its length has bits.
@@ -134,10 +144,10 @@ impl Machine {
         self.length.map(|length| self.store[..length / 8].to_vec())
     }
 
-    fn on_event(&mut self, event: Event) -> Result<(), Refusal> {
+    fn on_event(&mut self, event: Event) {
         match event {
             // More bits are wanted.
-            Event::None => return Ok(()),
+            Event::None => return,
             // In step with the blocks from here on.
             Event::Sync => self.counts.sync += 1,
             // The return bit asks for a repeat. The remainder is for service staff alone.
@@ -159,14 +169,13 @@ impl Machine {
             // Drop the order and call someone; only a new session helps. It is reported again at each call.
             Event::SequenceAlarm | Event::LengthAlarm => {
                 if self.alarm.is_some() {
-                    return Ok(());
+                    return;
                 }
                 self.counts.alarms += 1;
                 self.alarm = Some(event);
             }
         }
-        self.return_bit = self.receiver.return_bit()?;
-        Ok(())
+        self.return_bit = self.receiver.return_bit().unwrap_or(true);
     }
 }
 
@@ -249,10 +258,11 @@ fn run_period(
     noise.begin_block(k)?;
     for from in (0..last).step_by(8) {
         let bits = 8 * 8.min(last - from);
-        machine.on_bits(arriving(noise, &office.block, from), bits)?;
+        machine.on_bits(arriving(noise, &office.block, from), bits);
     }
     office.end_block(noise.on_reading(machine.return_bit))?;
-    machine.on_bits(arriving(noise, &office.block, last), 4)
+    machine.on_bits(arriving(noise, &office.block, last), 4);
+    Ok(())
 }
 
 fn print_summary(office: &Office, machine: &Machine, noise: &Noise, k: usize) {
@@ -292,6 +302,9 @@ fn arrived_whole(office: &Office, machine: &Machine) -> Result<Option<Vec<u8>>, 
         Some(_) => println!("length alarm"),
         None => {}
     }
+    if let Some(refusal) = machine.refusal {
+        println!("the machine {refusal}");
+    }
     let Some(order) = machine.order() else {
         println!("the machine reported no end");
         return Ok(None);
@@ -321,31 +334,7 @@ pub fn run_session(
     arrived_whole(&office, &machine)
 }
 
-// ---- what the programs are called with
-
-/// A 32-bit number, decimal digits alone.
-fn word(text: Option<String>) -> Option<u32> {
-    let digits = text.filter(|text| text.bytes().all(|byte| byte.is_ascii_digit()));
-    digits?.parse().ok()
-}
-
-/// The words of the option `--noise FIRST SECOND`, if it stands before all other arguments, and the others; nothing if
-/// it cannot be read.
-pub fn arguments() -> Option<(Generator, impl Iterator<Item = String>)> {
-    let mut arguments = env::args().skip(1).peekable();
-    let mut words = WORDS;
-    if arguments.next_if_eq("--noise").is_some() {
-        words.first = word(arguments.next())?;
-        words.second = word(arguments.next())?;
-    }
-    Some((words, arguments))
-}
-
-/// The exit status of a call that cannot be read.
-pub fn usage(text: &str) -> ExitCode {
-    eprintln!("usage: {text}");
-    ExitCode::from(2)
-}
+// ---- what the programs end with
 
 /// The exit status, after the last line: whether what arrived is what was sent.
 pub fn exit_status(arrived: Result<bool, Refusal>) -> ExitCode {
