@@ -13,7 +13,6 @@ use crate::reference::refusal::{Refusal, SHORT, SPOILED};
 use crate::reference::sender;
 use crate::reference::session;
 use crate::reference::tint;
-use crate::table;
 
 /// "The block".
 pub trait Blocks {
@@ -236,83 +235,5 @@ impl NoiseLoads for Reference {
 impl RunProgram for Reference {
     fn run(&self, input: &[u8]) -> Vec<u8> {
         session::run(input)
-    }
-}
-
-/// The table-driven sibling, which is compared too: the speed of a wrong answer is worth nothing.
-/// What it lacks, and the benchmark does not measure, is the second implementation's.
-pub struct TableDriven;
-
-impl LoopTimes for TableDriven {
-    fn loop_time(&self, k: usize, speed: u32, loop_ms: u32) -> u8 {
-        Reference.loop_time(k, speed, loop_ms)
-    }
-}
-
-impl Blocks for TableDriven {
-    fn build_block(&self, k: usize, service: u8, payload: &[u8], block: &mut [u8]) -> u8 {
-        let built = table::build_block(k, service, payload, block);
-        built.err().unwrap_or(0)
-    }
-
-    fn read_block(&self, k: usize, block: &[u8], payload: &mut [u8], remainder: &mut u16) -> u16 {
-        interface::encode_read(table::read_block(k, block, payload), remainder)
-    }
-}
-
-impl SendingEnd for TableDriven {
-    fn open_sender(&self, opening: Opening, order: &[u8], state: &mut [u8]) -> u8 {
-        Reference.open_sender(opening, order, state)
-    }
-
-    fn send(&self, state: &mut [u8], order: &[u8], reading: bool, block: &mut [u8]) -> u32 {
-        interface::send(state, |sender| {
-            table::sender::send(sender, order, reading, block)
-        })
-    }
-
-    fn sender_rest(&self, state: &[u8]) -> u8 {
-        Reference.sender_rest(state)
-    }
-}
-
-impl ReceivingEnd for TableDriven {
-    fn open_receiver(&self, k: usize, code_size: Option<usize>, state: &mut [u8]) -> u8 {
-        Reference.open_receiver(k, code_size, state)
-    }
-
-    fn receive(
-        &self,
-        state: &mut [u8],
-        line: Line,
-        ready: bool,
-        store: &mut [u8],
-        counts: &mut Counts,
-    ) -> u8 {
-        interface::receive(state, counts, |receiver| {
-            let receiver = table::receiver::Receiver::from(receiver);
-            let (receiver, received) = receiver.receive(line.bytes, line.bits, ready, store);
-            (receiver.into(), received)
-        })
-    }
-
-    fn return_bit(&self, state: &[u8]) -> u8 {
-        Reference.return_bit(state)
-    }
-}
-
-impl Tints for TableDriven {
-    fn write_tint(&self, doses: &[u16], count: usize, order: &mut [u8], bytes: &mut usize) -> u8 {
-        Reference.write_tint(doses, count, order, bytes)
-    }
-
-    fn read_tint(&self, order: &[u8], doses: &mut [u16], count: &mut usize) -> u8 {
-        Reference.read_tint(order, doses, count)
-    }
-}
-
-impl NoiseLoads for TableDriven {
-    fn noise(&self, k: usize, first: &mut u32, second: &mut u32, block: &mut [u8]) -> u32 {
-        Reference.noise(k, first, second, block)
     }
 }

@@ -285,6 +285,7 @@ impl Delivery {
             }
             Event::SequenceAlarm | Event::LengthAlarm => {
                 self.alarmed = true;
+                claim(!self.ended, "once the end is reported no alarm follows")?;
                 claim(
                     self.lost_requests > 0,
                     "an alarm only if a request was lost",

@@ -130,8 +130,9 @@ mod ready_again;
 #[cfg(test)]
 mod tests {
     use super::*;
-    use crate::calls::{Reference, TableDriven};
+    use crate::calls::Reference;
     use crate::reference::block::LENGTHS;
+    use crate::table::TableDriven;
 
     /// 64 times three blocks; in mid-session the first four cancels come without synchronising,
     /// and the first without a repeat before it.

@@ -1,8 +1,11 @@
-//! The table-driven sibling: the same calls written for speed in the usual way, with the
-//! 256-entry table of the cyclic check. The benchmark measures the library against it.
+//! The table-driven sibling: building, reading, sending and receiving, written for speed in the usual
+//! way, with the 256-entry table of the cyclic check. The benchmark measures the library against it.
 
+mod calls;
 pub mod receiver;
 pub mod sender;
+
+pub use calls::TableDriven;
 
 use crate::reference::block::Read;
 use crate::reference::marks::Marks;

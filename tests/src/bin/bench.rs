@@ -11,7 +11,7 @@
 //! It prints the number of calls of a pass. With write_tint or read_tint for CALL, K is a number of
 //! doses; there is no sibling to measure these against, so IMPLEMENTATION is 0.
 
-use order_line_tests::calls::{Blocks, Line, Reference, TableDriven};
+use order_line_tests::calls::{Blocks, Line, Reference};
 use order_line_tests::calls::{ReceivingEnd, SendingEnd, Tints};
 use order_line_tests::interface::{decode_read, decode_sent, is_event, Counts};
 use order_line_tests::interface::{store_receiver, store_sender, RECEIVER_BYTES, SENDER_BYTES};
@@ -23,7 +23,7 @@ use order_line_tests::reference::receiver::{self, Received, Receiver};
 use order_line_tests::reference::sender::{self, Next, Sender, Sent};
 use order_line_tests::reference::tint::{tint_bytes, MOST_DOSES, MOST_STEPS_IN_ALL};
 use order_line_tests::rng::Rng;
-use order_line_tests::table;
+use order_line_tests::table::{self, TableDriven};
 use std::env;
 use std::hint::black_box;
 use std::time::{Duration, Instant};

@@ -7,7 +7,7 @@
 
 use order_line_tests::comparison::{block, both_ends, busy, idle, loop_time, marks, noise};
 use order_line_tests::comparison::{receiver, same, sender, session, tint, two_orders};
-use order_line_tests::comparison::{Difference, Tally};
+use order_line_tests::comparison::{GroupFailure, Tally};
 use order_line_tests::interface::VERSION;
 use order_line_tests::link::{self, Library};
 use order_line_tests::program::Program;
@@ -28,7 +28,7 @@ const SCRIPTS: usize = 6_000;
 const BLOCKS_WRITTEN: usize = 800;
 
 /// A group's name and the run of all its cases.
-type Group = (&'static str, fn() -> Result<Tally, Difference>);
+type Group = (&'static str, fn() -> Result<Tally, GroupFailure>);
 
 const GROUPS: [Group; 11] = [
     ("loop_time", || loop_time::compare(&Library)),
@@ -114,10 +114,8 @@ fn run_program(path: &str) -> Verdict {
 }
 
 /// Prints what a group counted.
-fn report(name: &str, result: Result<Tally, Difference>) -> Result<(), String> {
-    let tally = result.map_err(|difference| {
-        format!("{name}: DIFFERENT from the second implementation\n{difference}")
-    })?;
+fn report(name: &str, result: Result<Tally, GroupFailure>) -> Result<(), String> {
+    let tally = result.map_err(|failure| format!("{name}: {failure}"))?;
     println!("{name}: {tally}");
     Ok(())
 }

@@ -489,16 +489,15 @@ mod tests {
     use super::super::lockstep::TRIED;
     use super::super::{noise, tint, EVENTS};
     use super::*;
-    use crate::calls::TableDriven;
+    use crate::calls::Reference;
 
-    /// Random bytes bring every kind of answer.
     #[test]
-    fn the_table_driven_sibling_agrees() {
+    fn random_bytes_bring_every_kind_of_answer() {
         let mut tally = Tally::default();
         for case in 0..20_000 {
             let mut rng = Rng::for_case(14, case);
             let count = rng.below(600);
-            if let Err(difference) = compare(&TableDriven, &rng.bytes(count), &mut tally) {
+            if let Err(difference) = compare(&Reference, &rng.bytes(count), &mut tally) {
                 panic!("{difference}");
             }
         }

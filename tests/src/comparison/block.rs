@@ -1,7 +1,7 @@
 //! Building and reading blocks: every k, good and refused, every service value, slices of every
 //! kind, and blocks with every kind of damage.
 
-use super::{hex, same, Difference, GuardedBuffer, Tally};
+use super::{hex, same, Difference, GroupFailure, GuardedBuffer, Tally};
 use crate::calls::{Blocks, Reference};
 use crate::damage::{at_powers, burst, invert, times_x};
 use crate::damage::{Damage, ADMITTED_KINDS, OTHER_KINDS};
@@ -46,20 +46,28 @@ pub fn multiple_name(refused: bool) -> &'static str {
     }
 }
 
-/// A group tried each of them this often, and was refused with all but the four.
-#[cfg(test)]
-pub fn assert_multiples(tally: &Tally, times: usize) {
-    let number_of = |refused| tally.number_of(multiple_name(refused));
-    assert_eq!(number_of(true), 497 * times);
-    assert_eq!(number_of(false), 4 * times);
+/// An error unless a group tried each of them this often, and was refused with all but the four.
+pub fn require_multiples(tally: &Tally, times: usize) -> Result<(), GroupFailure> {
+    tally.require_number(multiple_name(true), 497 * times)?;
+    tally.require_number(multiple_name(false), 4 * times)
 }
 
 /// The names under which blocks that fail are counted.
 pub const READ_FAILED_WITH_1: &str = "read failed with 1";
 pub const READ_FAILED_OTHERWISE: &str = "read failed with another remainder";
 
+/// What the group must have met.
+const KINDS: [&str; 6] = [
+    "built",
+    "build refused",
+    "read passed",
+    READ_FAILED_WITH_1,
+    READ_FAILED_OTHERWISE,
+    "read refused",
+];
+
 /// Runs the whole group.
-pub fn compare(tested: &impl Blocks, seed: u64, cases: usize) -> Result<Tally, Difference> {
+pub fn compare(tested: &impl Blocks, seed: u64, cases: usize) -> Result<Tally, GroupFailure> {
     let mut group = Group {
         tested,
         rng: Rng::new(seed),
@@ -73,6 +81,8 @@ pub fn compare(tested: &impl Blocks, seed: u64, cases: usize) -> Result<Tally, D
     for _ in 0..cases {
         group.random_case()?;
     }
+    group.tally.require(&KINDS)?;
+    require_multiples(&group.tally, 1)?;
     Ok(group.tally)
 }
 
@@ -364,24 +374,13 @@ fn read_into(
 
 #[cfg(test)]
 mod tests {
-    use super::super::agreed;
+    use super::super::{agreed, assert_different};
     use super::*;
-    use crate::calls::TableDriven;
     use crate::interface::encode_read;
 
     #[test]
-    fn the_table_driven_sibling_agrees() {
-        let tally = agreed(compare(&TableDriven, 11, 20_000));
-        let kinds = [
-            "built",
-            "build refused",
-            "read passed",
-            READ_FAILED_WITH_1,
-            READ_FAILED_OTHERWISE,
-            "read refused",
-        ];
-        tally.assert_above(500, &kinds);
-        assert_multiples(&tally, 1);
+    fn every_kind_of_answer_comes() {
+        agreed(compare(&Reference, 11, 20_000)).assert_above(500, &KINDS);
     }
 
     /// A reader that takes a spare bit for a check bit is found.
@@ -390,7 +389,7 @@ mod tests {
         struct Spare;
         impl Blocks for Spare {
             fn build_block(&self, k: usize, service: u8, payload: &[u8], block: &mut [u8]) -> u8 {
-                TableDriven.build_block(k, service, payload, block)
+                Reference.build_block(k, service, payload, block)
             }
             fn read_block(
                 &self,
@@ -401,10 +400,10 @@ mod tests {
             ) -> u16 {
                 match block.get(k.min(4000) / 8 + 2) {
                     Some(last) if last & 1 == 1 => encode_read(Read::Failed(1), remainder),
-                    _ => TableDriven.read_block(k, block, payload, remainder),
+                    _ => Reference.read_block(k, block, payload, remainder),
                 }
             }
         }
-        assert!(compare(&Spare, 11, 100).is_err());
+        assert_different(compare(&Spare, 11, 100), "a spare bit");
     }
 }

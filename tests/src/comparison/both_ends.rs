@@ -8,7 +8,7 @@ use super::noise::sessions::NoisyLine;
 use super::orders::Order;
 use super::readiness::Readiness;
 use super::sender::refusal_name;
-use super::{same, spoil, Difference, GuardedBuffer, Tally};
+use super::{same, spoil, Difference, GroupFailure, GuardedBuffer, Tally, EVENTS};
 use crate::calls::{Line, Opening, ReceivingEnd, SendingEnd};
 use crate::damage::{invert, Damage, ADMITTED_KINDS, OTHER_KINDS};
 use crate::delivery::{Delivery, Receiving, Sending};
@@ -20,13 +20,24 @@ use crate::reference::receiver::{Event, Received, Receiver};
 use crate::reference::sender::{Sender, Sent};
 use crate::rng::Rng;
 
+/// What the group must have met besides the events, the sessions of either kind and what every group
+/// with receiving calls must.
+const KINDS: [&str; 6] = [
+    "finished",
+    "gave up",
+    "sessions not opened alike",
+    "refused 6",
+    "refused 7",
+    "never ready, gave up",
+];
+
 /// Runs this many sessions, one in a thousand with the longest order.
 pub fn compare<S: SendingEnd, R: ReceivingEnd>(
     sending: &S,
     receiving: &R,
     seed: u64,
     sessions: usize,
-) -> Result<Tally, Difference> {
+) -> Result<Tally, GroupFailure> {
     let ends = Lockstep::new(sending, receiving);
     let mut tally = Tally::default();
     for number in 0..sessions {
@@ -38,6 +49,9 @@ pub fn compare<S: SendingEnd, R: ReceivingEnd>(
         let session = Session::open(&ends, rng, order, &mut tally);
         let run = session.and_then(|mut session| session.run());
         run.map_err(|difference| format!("session {number}: {difference}"))?;
+    }
+    for kinds in [&EVENTS[..], &KINDS, &WITHOUT_MARKS, &WITH_MARKS] {
+        tally.require(kinds)?;
     }
     ends.with_tried(tally)
 }
@@ -514,31 +528,16 @@ fn count_delivery(delivery: &Delivery, names: &Names, tally: &mut Tally) {
 
 #[cfg(test)]
 mod tests {
+    use super::super::agreed;
     use super::super::lockstep::TRIED;
-    use super::super::{agreed, EVENTS};
     use super::*;
-    use crate::calls::{Reference, TableDriven};
+    use crate::calls::Reference;
 
     #[test]
     fn demand_3_holds_along_random_sessions_of_the_reference() {
         let tally = agreed(compare(&Reference, &Reference, 6, 3_000));
-        tally.assert_above(20, &EVENTS);
-        tally.assert_above(20, &TRIED);
-        let kinds = [
-            "finished",
-            "gave up",
-            "sessions not opened alike",
-            "refused 6",
-            "refused 7",
-            "never ready, gave up",
-        ];
-        tally.assert_above(20, &kinds);
-        tally.assert_above(20, &WITHOUT_MARKS);
-        tally.assert_above(20, &WITH_MARKS);
-    }
-
-    #[test]
-    fn the_table_driven_ends_agree() {
-        agreed(compare(&TableDriven, &TableDriven, 7, 500));
+        for kinds in [&EVENTS[..], &TRIED, &KINDS, &WITHOUT_MARKS, &WITH_MARKS] {
+            tally.assert_above(20, kinds);
+        }
     }
 }

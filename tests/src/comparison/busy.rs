@@ -4,7 +4,7 @@
 use super::ends::{cases, run_cases, Ends, Office, Outcome, Period};
 use super::lockstep::{Lockstep, BAD_WITH_0, BAD_WITH_1, BAD_WITH_ANOTHER};
 use super::marks::KINDS;
-use super::{same, Difference, Tally};
+use super::{same, GroupFailure, Tally};
 use crate::calls::{ReceivingEnd, SendingEnd};
 use crate::reference::block::{block_bits, LENGTHS};
 use crate::reference::receiver::BAD_ROW_LIMIT;
@@ -18,7 +18,7 @@ const ITEMS: [u8; 3] = [0xA0, 0xA1, 0xA2];
 pub fn compare<S: SendingEnd, R: ReceivingEnd>(
     sending: &S,
     receiving: &R,
-) -> Result<Tally, Difference> {
+) -> Result<Tally, GroupFailure> {
     let calls = Lockstep::new(sending, receiving);
     let mut tally = Tally::default();
     let cases = cases![
@@ -195,15 +195,10 @@ impl<S: SendingEnd, R: ReceivingEnd> Ends<'_, S, R> {
 mod tests {
     use super::super::agreed;
     use super::*;
-    use crate::calls::{Reference, TableDriven};
+    use crate::calls::Reference;
 
     #[test]
     fn each_case_ends_as_its_name_says() {
         agreed(compare(&Reference, &Reference));
-    }
-
-    #[test]
-    fn the_table_driven_ends_agree() {
-        agreed(compare(&TableDriven, &TableDriven));
     }
 }

@@ -14,6 +14,7 @@ use crate::reference::block::{block_bits, block_bytes, CHECK_BITS};
 use crate::reference::receiver::{Event, Received, Receiver};
 use crate::reference::sender::{Sender, Sent};
 use crate::rng::Rng;
+use std::mem;
 
 /// What the store's bytes are before anything is stored.
 const EMPTY: u8 = 0xEE;
@@ -75,7 +76,9 @@ pub enum Period {
 pub struct Ends<'a, S, R> {
     calls: &'a Lockstep<'a, S, R>,
     rng: Rng,
+    /// The office's, and the machine's unless `machine_k` says otherwise.
     pub k: usize,
+    machine_k: usize,
     /// The office is the sender, the machine the receiver.
     sizes: CodeSizes,
     order: Vec<u8>,
@@ -100,6 +103,7 @@ impl<'a, S: SendingEnd, R: ReceivingEnd> Ends<'a, S, R> {
             calls,
             rng: Rng::new(k as u64),
             k,
+            machine_k: k,
             sizes,
             order: Vec::new(),
             sender: bytes(SENDER_BYTES),
@@ -110,6 +114,13 @@ impl<'a, S: SendingEnd, R: ReceivingEnd> Ends<'a, S, R> {
         };
         ends.open_machine()?;
         Ok(ends)
+    }
+
+    /// The machine is opened with a k of its own, and has a store of so many of its items.
+    pub fn open_machine_with(&mut self, k: usize, items: usize) -> Outcome {
+        self.machine_k = k;
+        self.store = BufferPair::new(GuardedBuffer::filled(EMPTY, items * k / 8));
+        self.open_machine()
     }
 
     /// The office is opened with an order of these items.
@@ -138,7 +149,8 @@ impl<'a, S: SendingEnd, R: ReceivingEnd> Ends<'a, S, R> {
     /// The machine is opened, the store stays as it is.
     pub fn open_machine(&mut self) -> Outcome {
         let size = self.sizes.receiver;
-        let refused = self.calls.open_receiver(self.k, size, &mut self.receiver)?;
+        let k = self.machine_k;
+        let refused = self.calls.open_receiver(k, size, &mut self.receiver)?;
         same(&|| String::from("opening the machine"), &0, &refused)
     }
 
@@ -157,15 +169,20 @@ impl<'a, S: SendingEnd, R: ReceivingEnd> Ends<'a, S, R> {
             Period::Reads1 => true,
             Period::Undisturbed | Period::Damaged => self.receiver().return_bit,
         };
+        let mut bits = self.send(reading)?;
+        let first_check_bit = bits.len() - CHECK_BITS;
+        bits[first_check_bit] ^= period == Period::Damaged;
+        self.receive_all(bits)
+    }
+
+    /// A sending call; the bits of its block.
+    pub fn send(&mut self, reading: bool) -> Result<Bits, Difference> {
         let mut place = BufferPair::new(GuardedBuffer::filled(EMPTY, block_bytes(self.k)));
         let sent = self
             .calls
             .send(&mut self.sender, &self.order, reading, &mut place)?;
         assert!(!matches!(sent, Sent::Refused(_)), "{sent:?}");
-        let mut bits = unpack(place.slice(), 0, block_bits(self.k));
-        let first_check_bit = bits.len() - CHECK_BITS;
-        bits[first_check_bit] ^= period == Period::Damaged;
-        self.receive_all(bits)
+        Ok(unpack(place.slice(), 0, block_bits(self.k)))
     }
 
     /// Receiving calls until all these bits are used.
@@ -197,10 +214,18 @@ impl<'a, S: SendingEnd, R: ReceivingEnd> Ends<'a, S, R> {
         Ok(used)
     }
 
-    /// One receiving call with the whole store or, if the machine is busy, with any part of it.
+    /// One receiving call that is not refused.
     fn call(&mut self, bits: &[bool], ready: bool) -> Result<(Event, usize), Difference> {
+        match self.lend(bits, ready)? {
+            Received::Reported { event, used } => Ok((event, used)),
+            received @ Received::Refused(_) => panic!("{received:?}"),
+        }
+    }
+
+    /// One receiving call with the whole store or, if the machine is busy, with any part of it.
+    pub fn lend(&mut self, bits: &[bool], ready: bool) -> Result<Received, Difference> {
         let whole = self.store.slice().len();
-        let short = (self.receiver().taken + 1) * self.k / 8 - 1;
+        let short = (self.receiver().taken + 1) * self.machine_k / 8 - 1;
         let lent = match ready {
             true => whole,
             false => self.rng.pick(&[whole, short.min(whole), 0]),
@@ -214,13 +239,8 @@ impl<'a, S: SendingEnd, R: ReceivingEnd> Ends<'a, S, R> {
             lent,
             remainder: self.rng.number(),
         };
-        let received = self
-            .calls
-            .receive(&mut self.receiver, &mut self.store, call)?;
-        match received {
-            Received::Reported { event, used } => Ok((event, used)),
-            Received::Refused(_) => panic!("{received:?}"),
-        }
+        self.calls
+            .receive(&mut self.receiver, &mut self.store, call)
     }
 
     /// Undisturbed periods until this event has come.
@@ -246,21 +266,33 @@ impl<'a, S: SendingEnd, R: ReceivingEnd> Ends<'a, S, R> {
         Err(format!("no rest in {MOST_PERIODS} periods"))
     }
 
-    /// What came since the last time: the events, how the office stands, the items stored.
-    pub fn expect(&mut self, events: &[&str], office: Office, items: &[u8]) -> Outcome {
-        let case = || String::from("what came of it");
-        same(&case, &events, &&self.events[..])?;
+    /// How the office stands.
+    pub fn office(&self) -> Office {
         let sender = self.sender();
-        let now = match (sender.finished, sender.gave_up()) {
+        match (sender.finished, sender.gave_up()) {
             (true, _) => Office::Finished,
             (_, true) => Office::GaveUp,
             _ => Office::GoingOn,
-        };
-        same(&case, &office, &now)?;
+        }
+    }
+
+    /// The events since the last time.
+    pub fn take_events(&mut self) -> Vec<&'static str> {
+        mem::take(&mut self.events)
+    }
+
+    pub fn store(&self) -> &[u8] {
+        self.store.slice()
+    }
+
+    /// What came since the last time: the events, how the office stands, the items stored.
+    pub fn expect(&mut self, events: &[&str], office: Office, items: &[u8]) -> Outcome {
+        let case = || String::from("what came of it");
+        let came = self.take_events();
+        same(&case, &events, &&came[..])?;
+        same(&case, &office, &self.office())?;
         let mut bytes: Vec<u8> = items.iter().flat_map(|&b| vec![b; self.k / 8]).collect();
         bytes.resize(self.store.slice().len(), EMPTY);
-        same(&case, &&bytes[..], &self.store.slice())?;
-        self.events.clear();
-        Ok(())
+        same(&case, &&bytes[..], &self.store())
     }
 }

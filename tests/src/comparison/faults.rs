@@ -7,8 +7,8 @@ mod noise;
 mod remainder;
 mod tint;
 
+use super::{agreed, assert_different, Difference, Tally};
 use super::{any_bytes, block, both_ends, idle, loop_time, receiver, sender, two_orders};
-use super::{Difference, Tally};
 use crate::calls::{Blocks, Line, LoopTimes, NoiseLoads, Opening, ReceivingEnd, Reference};
 use crate::calls::{SendingEnd, Tints};
 use crate::interface::{decode_sent, is_event, Counts, EVENT_ACCEPTED, EVENT_NONE};
@@ -283,18 +283,18 @@ fn bits_so_far(receiver: &Receiver, line: Line) -> Bits {
 fn faults_of_a_sender_are_found() {
     for fault in FAULTS_OF_EITHER_END.into_iter().chain(FAULTS_OF_A_SENDER) {
         let compared = sender::compare(&Faulty::with(fault), 5, 2_000);
-        assert!(compared.is_err(), "{fault:?}");
+        assert_different(compared, &format!("{fault:?}"));
     }
-    assert!(sender::compare(&Faulty::with(Fault::None), 5, 200).is_ok());
+    agreed(sender::compare(&Faulty::with(Fault::None), 5, 200));
 }
 
 #[test]
 fn faults_of_a_receiver_are_found() {
     for fault in FAULTS_OF_EITHER_END.into_iter().chain(FAULTS_OF_A_RECEIVER) {
         let compared = receiver::compare(&Faulty::with(fault), 8, 5_000);
-        assert!(compared.is_err(), "{fault:?}");
+        assert_different(compared, &format!("{fault:?}"));
     }
-    assert!(receiver::compare(&Faulty::with(Fault::None), 8, 500).is_ok());
+    agreed(receiver::compare(&Faulty::with(Fault::None), 8, 500));
 }
 
 /// By the cases before the random ones.
@@ -303,18 +303,18 @@ fn faults_of_a_block_length_are_found() {
     for k in FURTHER_LENGTHS {
         let faulty = |place| Faulty::with(Fault::Length(LengthFault(place, k)));
         let compared = loop_time::compare(&faulty(Place::LoopTime));
-        assert!(is_different(compared), "{k}: loop time");
+        assert_different(compared, &format!("{k}: loop time"));
         for place in [Place::Building, Place::Reading] {
             let compared = block::compare(&faulty(place), 11, 0);
-            assert!(is_different(compared), "{k}: {place:?}");
+            assert_different(compared, &format!("{k}: {place:?}"));
         }
         let compared = super::noise::compare(&faulty(Place::Noise), 18, 0, 0);
-        assert!(is_different(compared), "{k}: noise load");
+        assert_different(compared, &format!("{k}: noise load"));
         for place in [Place::Opening, Place::State] {
             let compared = sender::compare(&faulty(place), 5, 0);
-            assert!(is_different(compared), "{k}: {place:?}, sender");
+            assert_different(compared, &format!("{k}: {place:?}, sender"));
             let compared = receiver::compare(&faulty(place), 8, 0);
-            assert!(is_different(compared), "{k}: {place:?}, receiver");
+            assert_different(compared, &format!("{k}: {place:?}, receiver"));
         }
     }
 }
@@ -323,20 +323,25 @@ fn faults_of_a_block_length_are_found() {
 fn faults_of_a_busy_machine_are_found() {
     for fault in BUSY_FAULTS.map(Fault::Busy) {
         let compared = receiver::compare(&Faulty::with(fault), 8, 5_000);
-        assert!(compared.is_err(), "{fault:?}");
+        assert_different(compared, &format!("{fault:?}"));
         let compared = both_ends::compare(&Reference, &Faulty::with(fault), 6, 500);
-        assert!(compared.is_err(), "{fault:?} in sessions");
+        assert_different(compared, &format!("{fault:?} in sessions"));
     }
-    assert!(both_ends::compare(&Reference, &Faulty::with(Fault::None), 6, 100).is_ok());
+    agreed(both_ends::compare(
+        &Reference,
+        &Faulty::with(Fault::None),
+        6,
+        1_000,
+    ));
 }
 
 #[test]
 fn faults_of_the_remainder_in_reading_are_found() {
     for fault in reading_faults().map(Fault::Reading) {
         let compared = block::compare(&Faulty::with(fault), 11, 0);
-        assert!(compared.is_err(), "{fault:?}");
+        assert_different(compared, &format!("{fault:?}"));
     }
-    assert!(block::compare(&Faulty::with(Fault::None), 11, 0).is_ok());
+    agreed(block::compare(&Faulty::with(Fault::None), 11, 0));
 }
 
 #[test]
@@ -344,9 +349,9 @@ fn faults_of_the_remainder_in_receiving_are_found() {
     let faults = receiving_faults().chain(FURTHER_RECEIVING_FAULTS);
     for fault in faults.map(Fault::Receiving) {
         let compared = receiver::compare(&Faulty::with(fault), 8, 5_000);
-        assert!(is_different(compared), "{fault:?}");
+        assert_different(compared, &format!("{fault:?}"));
         let compared = both_ends::compare(&Reference, &Faulty::with(fault), 6, 500);
-        assert!(is_different(compared), "{fault:?} in sessions");
+        assert_different(compared, &format!("{fault:?} in sessions"));
     }
 }
 
@@ -363,32 +368,37 @@ fn faults_of_the_remainder_are_found_where_a_case_says_what_comes() {
             ("noise", super::noise::compare(&faulty, 18, 0, 200)),
         ];
         for (name, compared) in groups {
-            assert!(is_different(compared), "{fault:?} in {name}");
+            assert_different(compared, &format!("{fault:?} in {name}"));
         }
     }
-}
-
-/// A difference, and not a group that has not tried all that it must.
-fn is_different(compared: Result<Tally, Difference>) -> bool {
-    compared.is_err_and(|difference| !difference.starts_with("untried"))
 }
 
 #[test]
 fn faults_of_tint_calls_are_found() {
     for fault in TINT_FAULTS {
         let compared = super::tint::compare(&Faulty::with(Fault::Tint(fault)), 17, 20, 0);
-        assert!(compared.is_err(), "{fault:?}");
+        assert_different(compared, &format!("{fault:?}"));
     }
-    assert!(super::tint::compare(&Faulty::with(Fault::None), 17, 20, 20).is_ok());
+    agreed(super::tint::compare(
+        &Faulty::with(Fault::None),
+        17,
+        20,
+        100,
+    ));
 }
 
 #[test]
 fn faults_of_the_noise_load_are_found() {
     for fault in NOISE_FAULTS {
         let compared = super::noise::compare(&Faulty::with(Fault::Noise(fault)), 18, 1_000, 0);
-        assert!(is_different(compared), "{fault:?}");
+        assert_different(compared, &format!("{fault:?}"));
     }
-    assert!(super::noise::compare(&Faulty::with(Fault::None), 18, 1_000, 100).is_ok());
+    agreed(super::noise::compare(
+        &Faulty::with(Fault::None),
+        18,
+        1_000,
+        100,
+    ));
 }
 
 /// Random bytes are what the fuzzer begins with.
@@ -397,7 +407,9 @@ fn faults_are_found_by_random_bytes() {
     let found = |fault, cases| {
         (0..cases).any(|case| {
             let bytes = Rng::for_case(14, case).bytes(400);
-            any_bytes::compare(&Faulty::with(fault), &bytes, &mut Tally::default()).is_err()
+            let compared: Result<(), Difference> =
+                any_bytes::compare(&Faulty::with(fault), &bytes, &mut Tally::default());
+            compared.is_err()
         })
     };
     let of_one_end = FAULTS_OF_A_SENDER.into_iter().chain(FAULTS_OF_A_RECEIVER);

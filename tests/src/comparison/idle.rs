@@ -4,7 +4,7 @@
 use super::ends::{run_cases, Case, Ends, Office, Outcome, Period};
 use super::lockstep::{Lockstep, BAD_WITH_0, BAD_WITH_1, BAD_WITH_ANOTHER};
 use super::marks::KINDS;
-use super::{same, Difference, Tally};
+use super::{same, Difference, GroupFailure, Tally};
 use crate::calls::{ReceivingEnd, SendingEnd};
 use crate::reference::bits::{bits_of, Bits};
 use crate::reference::block::{block_bits, cancel, CHECK_BITS, LENGTHS, SEQUENCE};
@@ -60,7 +60,7 @@ type IdleCase<'a, S, R> = fn(&mut Ends<'a, S, R>, Idle) -> Outcome;
 pub fn compare<S: SendingEnd, R: ReceivingEnd>(
     sending: &S,
     receiving: &R,
-) -> Result<Tally, Difference> {
+) -> Result<Tally, GroupFailure> {
     let calls = Lockstep::new(sending, receiving);
     let mut tally = Tally::default();
     let idle_cases: [(&str, IdleCase<S, R>); 7] = [
@@ -284,18 +284,13 @@ impl<S: SendingEnd, R: ReceivingEnd> Ends<'_, S, R> {
 mod tests {
     use super::super::agreed;
     use super::*;
-    use crate::calls::{Reference, TableDriven};
+    use crate::calls::Reference;
     use crate::reference::block::synchronising_block;
     use crate::reference::marks::{Marks, CODE_SIZES};
 
     #[test]
     fn each_case_ends_as_it_says() {
         agreed(compare(&Reference, &Reference));
-    }
-
-    #[test]
-    fn the_table_driven_ends_agree() {
-        agreed(compare(&TableDriven, &TableDriven));
     }
     /// Every n + 3 bits in a row hold the service bits of a block, which are never all the same.
     #[test]

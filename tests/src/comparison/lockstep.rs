@@ -1,7 +1,7 @@
 //! Both implementations call by call: every answer and every lent byte, those of the states too,
 //! of one is compared with that of the other.
 
-use super::{hex, same, Difference, GuardedBuffer, Tally};
+use super::{hex, same, Difference, GroupFailure, GuardedBuffer, Tally};
 use crate::calls::{Line, Opening, ReceivingEnd, Reference, SendingEnd};
 use crate::interface::{decode_received, decode_sent, store_word, Counts};
 use crate::reference::receiver::{Event, Received};
@@ -12,7 +12,7 @@ use std::cell::RefCell;
 
 /// The names under which waiting blocks are counted.
 const WAIT_WITH_ROOM: &str = "wait with room in the store";
-const WAIT_WITHOUT_ROOM: &str = "wait with too short a store";
+pub const WAIT_WITHOUT_ROOM: &str = "wait with too short a store";
 
 /// The names under which *bad* blocks are counted, by their remainder: by rule 7; cancelled and
 /// otherwise unharmed, for instance; otherwise.
@@ -20,8 +20,8 @@ pub const BAD_WITH_0: &str = "bad with 0";
 pub const BAD_WITH_1: &str = "bad with 1";
 pub const BAD_WITH_ANOTHER: &str = "bad with another remainder";
 
-/// What every group with receiving calls must have tried. Were no block to wait with too short a
-/// store, that the store is not judged would be untried.
+/// What a group with receiving calls must have tried, if its cases can bring it. Were no block to wait
+/// with too short a store, that the store is not judged would be untried.
 pub const TRIED: [&str; 4] = [WAIT_WITHOUT_ROOM, BAD_WITH_0, BAD_WITH_1, BAD_WITH_ANOTHER];
 
 pub fn bad_name(remainder: u16) -> &'static str {
@@ -141,12 +141,15 @@ impl<'a, S, R> Lockstep<'a, S, R> {
 
     /// What a group counted, with the waiting and the bad blocks; an error if it has not tried all that
     /// it must.
-    pub fn with_tried(&self, mut tally: Tally) -> Result<Tally, Difference> {
+    pub fn with_tried(&self, tally: Tally) -> Result<Tally, GroupFailure> {
+        self.with_met(tally, &TRIED)
+    }
+
+    /// The same for a group that must have met these kinds.
+    pub fn with_met(&self, mut tally: Tally, kinds: &[&str]) -> Result<Tally, GroupFailure> {
         self.add_tried(&mut tally);
-        match TRIED.iter().find(|kind| tally.number_of(kind) == 0) {
-            Some(kind) => Err(format!("untried: {kind}")),
-            None => Ok(tally),
-        }
+        tally.require(kinds)?;
+        Ok(tally)
     }
 }
 
@@ -327,7 +330,8 @@ mod tests {
                 tally.count(kind);
             }
             let failure = ends.with_tried(tally).err();
-            assert_eq!(failure, Some(format!("untried: {untried}")));
+            let expected = GroupFailure::Untried(format!("{untried}: none"));
+            assert_eq!(failure, Some(expected));
         }
         let mut tally = Tally::default();
         TRIED.into_iter().for_each(|kind| tally.count(kind));

@@ -2,7 +2,7 @@
 //! table; refused lengths and speeds with a few loops each; every multiple of 8 without a loop.
 
 use super::block::{multiples_of_8, REFUSED_LENGTHS};
-use super::{same, Difference, Tally};
+use super::{same, Difference, GroupFailure, Tally};
 use crate::calls::{LoopTimes, Reference};
 use crate::reference::block::LENGTHS;
 use crate::reference::loop_time::SPEEDS;
@@ -24,8 +24,11 @@ pub const REFUSED_SPEEDS: [usize; 9] = [
 const LOOPS: u32 = 20_000;
 const FAR_LOOPS: [u32; 4] = [(1 << 16) + 14, 1 << 24, 1 << 31, u32::MAX];
 
+/// What the group must have met.
+const KINDS: [&str; 4] = ["allowed", "refused 1", "refused 2", "refused 3"];
+
 /// Runs the whole group.
-pub fn compare(tested: &impl LoopTimes) -> Result<Tally, Difference> {
+pub fn compare(tested: &impl LoopTimes) -> Result<Tally, GroupFailure> {
     let mut tally = Tally::default();
     for k in LENGTHS.into_iter().chain(REFUSED_LENGTHS) {
         for speed in SPEEDS.into_iter().chain(REFUSED_SPEEDS) {
@@ -41,6 +44,7 @@ pub fn compare(tested: &impl LoopTimes) -> Result<Tally, Difference> {
             compare_loop(tested, k, speed as u32, 0, &mut tally)?;
         }
     }
+    tally.require(&KINDS)?;
     Ok(tally)
 }
 
@@ -66,6 +70,7 @@ pub fn compare_loop(
 
 #[cfg(test)]
 mod tests {
+    use super::super::{agreed, assert_different};
     use super::*;
 
     /// A test that allows one millisecond too many is found.
@@ -78,8 +83,8 @@ mod tests {
                 Reference.loop_time(k, speed, loop_ms - u32::from(late))
             }
         }
-        assert!(compare(&Late).is_err());
-        let tally = compare(&Reference).unwrap();
+        assert_different(compare(&Late), "one millisecond too many");
+        let tally = agreed(compare(&Reference));
         // The sum of the 22 entries, and a loop of 0 for each, twice.
         assert_eq!(tally.number_of("allowed"), 44_942 + 2 * 22);
     }

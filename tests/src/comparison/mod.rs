@@ -1,13 +1,14 @@
 //! Comparison of an implementation with the second one: a module for each group of cases.
 //!
 //! Every group stops at the first difference and describes the case; otherwise it counts what it
-//! has seen, so that a reader can tell that no kind of answer went untried.
+//! has seen, and fails if a kind of answer or of case that it must meet never came.
 
 pub mod any_bytes;
 pub mod block;
 pub mod both_ends;
 pub mod busy;
 mod channel;
+pub mod different_k;
 mod ends;
 pub mod idle;
 pub mod lockstep;
@@ -18,6 +19,8 @@ mod openings;
 pub mod orders;
 mod readiness;
 pub mod receiver;
+pub mod restart;
+pub mod sampling;
 pub mod sender;
 mod services;
 pub mod session;
@@ -34,7 +37,6 @@ use std::collections::BTreeMap;
 use std::fmt;
 
 /// The names of the events.
-#[cfg(test)]
 const EVENTS: [&str; 9] = [
     "none",
     "sync",
@@ -47,8 +49,37 @@ const EVENTS: [&str; 9] = [
     "wait",
 ];
 
-/// A description of the case on which the two differ.
+/// A description of the case on which the two differ, or that did not end as it says.
 pub type Difference = String;
+
+/// Why a group fails.
+#[derive(Clone, Debug, PartialEq, Eq)]
+pub enum GroupFailure {
+    Different(Difference),
+    /// A kind of answer or of case that the group must meet, and how often it came.
+    Untried(String),
+}
+
+impl From<Difference> for GroupFailure {
+    fn from(difference: Difference) -> GroupFailure {
+        GroupFailure::Different(difference)
+    }
+}
+
+impl fmt::Display for GroupFailure {
+    fn fmt(&self, f: &mut fmt::Formatter) -> fmt::Result {
+        match self {
+            GroupFailure::Different(difference) => write!(
+                f,
+                "DIFFERENT from the second implementation, or from what the case says\n{difference}"
+            ),
+            GroupFailure::Untried(kind) => write!(
+                f,
+                "no difference, but NOT ALL TRIED that the group must try\n{kind}"
+            ),
+        }
+    }
+}
 
 /// How often each kind of answer came.
 #[derive(Default)]
@@ -61,6 +92,24 @@ impl Tally {
 
     pub fn number_of(&self, kind: &str) -> usize {
         self.0.get(kind).copied().unwrap_or(0)
+    }
+
+    /// An error unless each of these kinds came.
+    pub fn require(&self, kinds: &[&str]) -> Result<(), GroupFailure> {
+        match kinds.iter().find(|kind| self.number_of(kind) == 0) {
+            Some(kind) => Err(GroupFailure::Untried(format!("{kind}: none"))),
+            None => Ok(()),
+        }
+    }
+
+    /// An error unless this kind came so often.
+    pub fn require_number(&self, kind: &str, number: usize) -> Result<(), GroupFailure> {
+        match self.number_of(kind) {
+            came if came == number => Ok(()),
+            came => Err(GroupFailure::Untried(format!(
+                "{kind}: {came}, not {number}"
+            ))),
+        }
     }
 
     /// Each of these kinds came more often than this.
@@ -150,10 +199,20 @@ pub fn same<T: PartialEq + fmt::Debug>(
     ))
 }
 
-/// What a group counted, where no difference is expected.
+/// What a group counted, where no failure is expected.
 #[cfg(test)]
-fn agreed(compared: Result<Tally, Difference>) -> Tally {
-    compared.unwrap_or_else(|difference| panic!("{difference}"))
+fn agreed(compared: Result<Tally, GroupFailure>) -> Tally {
+    compared.unwrap_or_else(|failure| panic!("{failure}"))
+}
+
+/// That a group found a difference; that something is untried is none.
+#[cfg(test)]
+fn assert_different(compared: Result<Tally, GroupFailure>, what: &str) {
+    match compared {
+        Err(GroupFailure::Different(_)) => {}
+        Err(failure) => panic!("{what}: {failure}"),
+        Ok(tally) => panic!("{what}: not found, {tally}"),
+    }
 }
 
 /// Every choice of some of these refusals, in their order.
@@ -167,4 +226,38 @@ pub fn choices(refusals: &[Refusal]) -> impl Iterator<Item = Vec<Refusal>> + '_ 
 
 pub fn hex(bytes: &[u8]) -> String {
     bytes.iter().map(|byte| format!("{byte:02x}")).collect()
+}
+
+#[cfg(test)]
+mod tests {
+    use super::*;
+
+    #[test]
+    fn a_kind_that_never_came_is_no_difference() {
+        let mut tally = Tally::default();
+        tally.count("accepted");
+        let untried = |what: &str| Err(GroupFailure::Untried(String::from(what)));
+        assert_eq!(tally.require(&["accepted"]), Ok(()));
+        assert_eq!(tally.require(&["accepted", "wait"]), untried("wait: none"));
+        assert_eq!(tally.require_number("accepted", 1), Ok(()));
+        let twice = tally.require_number("accepted", 2);
+        assert_eq!(twice, untried("accepted: 1, not 2"));
+        let words = twice.unwrap_err().to_string();
+        assert!(!words.contains("DIFFERENT"), "{words}");
+    }
+
+    /// Without its random cases a group has not tried all that it must.
+    #[test]
+    fn a_group_that_has_not_tried_all_fails() {
+        let failures = [
+            sender::compare(&crate::calls::Reference, 5, 0).err(),
+            receiver::compare(&crate::calls::Reference, 8, 0).err(),
+        ];
+        for failure in failures {
+            assert!(
+                matches!(failure, Some(GroupFailure::Untried(_))),
+                "{failure:?}"
+            );
+        }
+    }
 }

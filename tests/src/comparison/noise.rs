@@ -7,8 +7,9 @@ pub mod sessions;
 mod spans;
 pub mod words;
 
+use super::block::require_multiples;
 use super::lockstep::Lockstep;
-use super::{hex, same, Difference, GuardedBuffer, Tally};
+use super::{hex, same, Difference, GroupFailure, GuardedBuffer, Tally};
 use crate::calls::{NoiseLoads, ReceivingEnd, Reference, SendingEnd};
 use crate::damage::ADMITTED_SPAN;
 use crate::interface::decode_noise;
@@ -47,7 +48,7 @@ pub fn compare<T: NoiseLoads + SendingEnd + ReceivingEnd>(
     seed: u64,
     blocks: usize,
     sessions: usize,
-) -> Result<Tally, Difference> {
+) -> Result<Tally, GroupFailure> {
     let mut group = Group {
         tested,
         ends: Lockstep::new(tested, tested),
@@ -64,20 +65,15 @@ pub fn compare<T: NoiseLoads + SendingEnd + ReceivingEnd>(
         let run = group.session(seed, number);
         run.map_err(|difference| format!("session {number}: {difference}"))?;
     }
-    let tally = with_met(group.tally)?;
-    match sessions {
-        0 => Ok(tally),
-        _ => group.ends.with_tried(tally),
+    group.tally.require(&ANSWERS)?;
+    group.tally.require(&SPANS)?;
+    // With each kind of draw.
+    require_multiples(&group.tally, 4)?;
+    if sessions == 0 {
+        return Ok(group.tally);
     }
-}
-
-/// What a group counted; an error if it has not met every kind of answer and of span.
-fn with_met(tally: Tally) -> Result<Tally, Difference> {
-    let mut kinds = ANSWERS.iter().chain(&SPANS);
-    match kinds.find(|kind| tally.number_of(kind) == 0) {
-        Some(kind) => Err(format!("untried: {kind}")),
-        None => Ok(tally),
-    }
+    group.tally.require(&sessions::OUTCOMES)?;
+    group.ends.with_tried(group.tally)
 }
 
 /// What a call that is not refused did: its answer, the words after it and the lent block.
@@ -280,31 +276,15 @@ fn refusal_name(number: Refusal) -> &'static str {
 #[cfg(test)]
 mod tests {
     use super::super::agreed;
-    use super::super::block::assert_multiples;
     use super::super::lockstep::TRIED;
     use super::*;
-    use crate::calls::TableDriven;
 
     #[test]
     fn every_kind_of_answer_and_of_span_comes() {
-        let tally = agreed(compare(&TableDriven, 18, 5_000, 600));
+        let tally = agreed(compare(&Reference, 18, 5_000, 600));
         tally.assert_above(200, &ANSWERS);
         tally.assert_above(200, &SPANS);
         tally.assert_above(20, &sessions::OUTCOMES);
         tally.assert_above(0, &TRIED);
-        assert_multiples(&tally, 4);
-    }
-
-    #[test]
-    fn a_group_that_has_not_met_every_kind_fails() {
-        for missing in ANSWERS.into_iter().chain(SPANS) {
-            let mut tally = Tally::default();
-            let kinds = ANSWERS.into_iter().chain(SPANS);
-            for kind in kinds.filter(|&kind| kind != missing) {
-                tally.count(kind);
-            }
-            let failure = with_met(tally).err();
-            assert_eq!(failure, Some(format!("untried: {missing}")));
-        }
     }
 }

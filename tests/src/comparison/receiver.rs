@@ -1,14 +1,14 @@
 //! Single receiving calls on states of every kind: each rule at each edge, a search at each point
 //! of the sequence, and states out of range.
 
-use super::block::{multiples_of_8, REFUSED_LENGTHS};
+use super::block::{multiples_of_8, require_multiples, REFUSED_LENGTHS};
 use super::lockstep::{BufferPair, Lockstep, ReceivingCall};
 use super::marks::REFUSED_SIZES;
 use super::openings::opening_name;
 use super::sender::refusal_name;
 use super::services::receive_with_every_multiple;
 use super::services::{receive_every_service, receive_with_every_marks};
-use super::{spoil, Difference, GuardedBuffer, Tally};
+use super::{spoil, Difference, GroupFailure, GuardedBuffer, Tally, EVENTS};
 use crate::calls::{Line, ReceivingEnd};
 use crate::damage::{invert, Damage};
 use crate::interface::{load_receiver, store_receiver, RECEIVER_BYTES};
@@ -20,8 +20,23 @@ use crate::reference::order::{end_payload, letter, LONGEST, MOST_ITEMS};
 use crate::reference::receiver::{self, Alarm, Received, Receiver};
 use crate::rng::Rng;
 
+/// What the group must have met besides the events and what every group with receiving calls must.
+const KINDS: [&str; 5] = [
+    "refused 6",
+    "refused 7",
+    "states too short",
+    "flags and enums out of range",
+    "fields out of range",
+];
+const OPENINGS: [&str; 4] = [
+    "opened",
+    "opening refused 1",
+    "opening refused 6",
+    "opening refused 9",
+];
+
 /// Runs the whole group.
-pub fn compare(tested: &impl ReceivingEnd, seed: u64, cases: usize) -> Result<Tally, Difference> {
+pub fn compare(tested: &impl ReceivingEnd, seed: u64, cases: usize) -> Result<Tally, GroupFailure> {
     let ends = Lockstep::new(&(), tested);
     let mut tally = Tally::default();
     let rng = &mut Rng::new(seed);
@@ -36,7 +51,21 @@ pub fn compare(tested: &impl ReceivingEnd, seed: u64, cases: usize) -> Result<Ta
         let received = received.map_err(|difference| format!("case {number}: {difference}"))?;
         tally.count(received_name(received));
     }
+    require_all(&tally)?;
     ends.with_tried(tally)
+}
+
+fn require_all(tally: &Tally) -> Result<(), GroupFailure> {
+    for kinds in [&EVENTS[..], &KINDS, &OPENINGS] {
+        tally.require(kinds)?;
+    }
+    // Four k, five kinds of marks, r 0 to 3, before the end and after it, three kinds of calls.
+    tally.require_number("service values", 4 * 5 * 4 * 2 * 3 * 16)?;
+    // Four marks and A, for each size byte without marks, and for 5 to 8 with them.
+    tally.require_number("marks not refused", 5 * (8 + 4))?;
+    tally.require_number("marks refused", 5 * (4 + 8 + 8))?;
+    // In search and in step.
+    require_multiples(tally, 2)
 }
 
 /// The name under which a receiving call is counted.
@@ -279,38 +308,17 @@ fn end_data(rng: &mut Rng, k: usize, taken: usize) -> Bits {
 
 #[cfg(test)]
 mod tests {
-    use super::super::block::assert_multiples;
+    use super::super::agreed;
     use super::super::lockstep::TRIED;
-    use super::super::{agreed, EVENTS};
     use super::*;
-    use crate::calls::TableDriven;
+    use crate::calls::Reference;
 
     #[test]
-    fn the_table_driven_receiver_agrees() {
-        let tally = agreed(compare(&TableDriven, 8, 20_000));
-        let openings = [
-            "opened",
-            "opening refused 1",
-            "opening refused 6",
-            "opening refused 9",
-        ];
-        let kinds = [
-            "refused 6",
-            "refused 7",
-            "states too short",
-            "flags and enums out of range",
-            "fields out of range",
-        ];
-        tally.assert_above(100, &EVENTS);
-        tally.assert_above(100, &TRIED);
-        tally.assert_above(100, &kinds);
-        tally.assert_above(20, &openings);
-        // Four k, five kinds of marks, r 0 to 3, before the end and after it, three kinds of calls.
-        assert_eq!(tally.number_of("service values"), 4 * 5 * 4 * 2 * 3 * 16);
-        // Four marks and A, for each size byte without marks, and for 5 to 8 with them.
-        assert_eq!(tally.number_of("marks not refused"), 5 * (8 + 4));
-        assert_eq!(tally.number_of("marks refused"), 5 * (4 + 8 + 8));
-        // In search and in step.
-        assert_multiples(&tally, 2);
+    fn every_kind_of_answer_comes() {
+        let tally = agreed(compare(&Reference, 8, 20_000));
+        for kinds in [&EVENTS[..], &TRIED, &KINDS] {
+            tally.assert_above(100, kinds);
+        }
+        tally.assert_above(20, &OPENINGS);
     }
 }

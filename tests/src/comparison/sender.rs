@@ -1,11 +1,11 @@
 //! Opening a sender, and random sessions of sending calls on state bytes of every kind.
 
-use super::block::{multiple_name, multiples_of_8};
+use super::block::{multiple_name, multiples_of_8, require_multiples};
 use super::lockstep::{BufferPair, Lockstep};
 use super::marks::state_bytes;
 use super::openings::{open_refused, open_with_every_multiple, open_with_every_size, opening};
 use super::orders::Order;
-use super::{spoil, Difference, GuardedBuffer, Tally};
+use super::{spoil, Difference, GroupFailure, GuardedBuffer, Tally};
 use crate::calls::SendingEnd;
 use crate::interface::{load_sender, MARKS_BYTES, SENDER_BYTES};
 use crate::reference::bits::bit_at;
@@ -19,8 +19,39 @@ use crate::rng::Rng;
 const NEWER: usize = 8;
 const CANCEL_RUN: usize = 12;
 
+/// What the group must have met.
+const KINDS: [&str; 23] = [
+    "synchronising",
+    "cancelled",
+    "end blocks",
+    "items",
+    "finished",
+    "gave up",
+    "refused 6",
+    "refused 7",
+    "refused 8",
+    "opening refused 1",
+    "opening refused 2",
+    "opening refused 3",
+    "opening refused 4",
+    "opening refused 5",
+    "opening refused 6",
+    "opening refused 9",
+    "opened",
+    "states too short",
+    "flags and enums out of range",
+    "fields changed",
+    "orders of 1 bit",
+    "orders of 262144 bits",
+    "orders with ones behind L",
+];
+
 /// Runs the whole group.
-pub fn compare(tested: &impl SendingEnd, seed: u64, sessions: usize) -> Result<Tally, Difference> {
+pub fn compare(
+    tested: &impl SendingEnd,
+    seed: u64,
+    sessions: usize,
+) -> Result<Tally, GroupFailure> {
     let ends = Lockstep::new(tested, &());
     let mut tally = Tally::default();
     open_with_every_size(&ends, &mut Rng::new(seed), &mut tally)?;
@@ -33,6 +64,11 @@ pub fn compare(tested: &impl SendingEnd, seed: u64, sessions: usize) -> Result<T
         run.map_err(|difference| format!("session {session}: {difference}"))?;
         tally.count("sessions");
     }
+    tally.require(&KINDS)?;
+    // Three calls for each size byte without marks, and for 5 to 8 with them.
+    tally.require_number("marks not refused", 3 * (8 + 4))?;
+    tally.require_number("marks refused", 3 * (4 + 8 + 8))?;
+    require_multiples(&tally, 1)?;
     Ok(tally)
 }
 
@@ -255,42 +291,11 @@ pub fn refusal_name(number: Refusal) -> &'static str {
 #[cfg(test)]
 mod tests {
     use super::super::agreed;
-    use super::super::block::assert_multiples;
     use super::*;
-    use crate::calls::TableDriven;
+    use crate::calls::Reference;
 
     #[test]
-    fn the_table_driven_sender_agrees() {
-        let tally = agreed(compare(&TableDriven, 5, 3_000));
-        let kinds = [
-            "synchronising",
-            "cancelled",
-            "end blocks",
-            "items",
-            "finished",
-            "gave up",
-            "refused 6",
-            "refused 7",
-            "refused 8",
-            "opening refused 1",
-            "opening refused 2",
-            "opening refused 3",
-            "opening refused 4",
-            "opening refused 5",
-            "opening refused 6",
-            "opening refused 9",
-            "opened",
-            "states too short",
-            "flags and enums out of range",
-            "fields changed",
-            "orders of 1 bit",
-            "orders of 262144 bits",
-            "orders with ones behind L",
-        ];
-        tally.assert_above(10, &kinds);
-        // Three calls for each size byte without marks, and for 5 to 8 with them.
-        assert_eq!(tally.number_of("marks not refused"), 3 * (8 + 4));
-        assert_eq!(tally.number_of("marks refused"), 3 * (4 + 8 + 8));
-        assert_multiples(&tally, 1);
+    fn every_kind_of_answer_comes() {
+        agreed(compare(&Reference, 5, 3_000)).assert_above(10, &KINDS);
     }
 }

@@ -1,7 +1,7 @@
 //! The run program: random scripts of `t`, `f` and `d`, and first lines of every kind.
 
 use super::orders::Order;
-use super::{hex, Difference, Tally};
+use super::{hex, Difference, GroupFailure, Tally};
 use crate::calls::{Reference, RunProgram};
 use crate::reference::order::LONGEST;
 use crate::rng::Rng;
@@ -36,7 +36,7 @@ fn given_up() -> String {
 }
 
 /// Runs the whole group: the worked sessions, then this many random scripts.
-pub fn compare(tested: &impl RunProgram, seed: u64, scripts: usize) -> Result<Tally, Difference> {
+pub fn compare(tested: &impl RunProgram, seed: u64, scripts: usize) -> Result<Tally, GroupFailure> {
     let mut tally = Tally::default();
     for script in WORKED {
         compare_script(tested, script.as_bytes(), &mut tally)?;
@@ -52,6 +52,7 @@ pub fn compare(tested: &impl RunProgram, seed: u64, scripts: usize) -> Result<Ta
         compare_script(tested, &script, &mut tally)
             .map_err(|difference| format!("script {number}: {difference}"))?;
     }
+    tally.require(&KINDS)?;
     Ok(tally)
 }
 
@@ -183,6 +184,7 @@ fn change_bytes(rng: &mut Rng, text: &mut Vec<u8>, end: usize) {
 
 #[cfg(test)]
 mod tests {
+    use super::super::agreed;
     use super::*;
 
     #[test]
@@ -194,7 +196,6 @@ mod tests {
 
     #[test]
     fn scripts_bring_every_kind_of_line() {
-        let tally = compare(&Reference, 9, 1_000).unwrap();
-        tally.assert_above(2, &KINDS);
+        agreed(compare(&Reference, 9, 1_000)).assert_above(2, &KINDS);
     }
 }

@@ -8,7 +8,7 @@ mod sessions;
 mod writing;
 
 use super::lockstep::Lockstep;
-use super::{choices, hex, same, Difference, GuardedBuffer, Tally};
+use super::{choices, hex, same, Difference, GroupFailure, GuardedBuffer, Tally};
 use crate::calls::{ReceivingEnd, Reference, SendingEnd, Tints};
 use crate::reference::refusal::{Refusal, ENTRY, FORMAT, SHORT, STEPS};
 use crate::reference::tint::{tint_bytes, to_numbers, DOSE_NUMBERS, MOST_DOSES};
@@ -21,7 +21,6 @@ pub use doses::{EDGES, MOST_STEPS};
 const REFUSALS: [Refusal; 4] = [FORMAT, ENTRY, STEPS, SHORT];
 
 /// The names of the answers.
-#[cfg(test)]
 pub const ANSWERS: [&str; 10] = [
     "written",
     "writing refused 6",
@@ -35,6 +34,9 @@ pub const ANSWERS: [&str; 10] = [
     "reading refused 12",
 ];
 
+/// The name of doses that were written, read, and written again.
+const THERE_AND_BACK: &str = "there and back";
+
 /// Numbers that hold the doses of any order.
 const NUMBERS: usize = DOSE_NUMBERS * MOST_DOSES;
 
@@ -44,7 +46,7 @@ pub fn compare<T: Tints + SendingEnd + ReceivingEnd>(
     seed: u64,
     cases: usize,
     sessions: usize,
-) -> Result<Tally, Difference> {
+) -> Result<Tally, GroupFailure> {
     let mut group = Group {
         tested,
         ends: Lockstep::new(tested, tested),
@@ -64,10 +66,14 @@ pub fn compare<T: Tints + SendingEnd + ReceivingEnd>(
         let run = group.session(seed, number);
         run.map_err(|difference| format!("session {number}: {difference}"))?;
     }
-    match sessions {
-        0 => Ok(group.tally),
-        _ => group.ends.with_tried(group.tally),
+    group.tally.require(&ANSWERS)?;
+    let there_and_back = cases * MOST_DOSES;
+    group.tally.require_number(THERE_AND_BACK, there_and_back)?;
+    if sessions == 0 {
+        return Ok(group.tally);
     }
+    group.tally.require(&sessions::OUTCOMES)?;
+    group.ends.with_tried(group.tally)
 }
 
 /// What a call wrote, or the refusal's number.
@@ -121,7 +127,7 @@ impl<T: Tints> Group<'_, T> {
         let behind = self.rng.below(5);
         let again = self.write(&read, count, bytes + behind)?.done(&case)?;
         same(&case, &order, &again)?;
-        self.tally.count("there and back");
+        self.tally.count(THERE_AND_BACK);
         Ok(())
     }
 
@@ -221,18 +227,11 @@ fn possible_choices(count: usize) -> impl Iterator<Item = Vec<Refusal>> {
 mod tests {
     use super::super::agreed;
     use super::*;
-    use crate::calls::TableDriven;
 
     #[test]
     fn every_kind_of_answer_comes() {
-        let tally = agreed(compare(&TableDriven, 17, 20, 600));
+        let tally = agreed(compare(&Reference, 17, 20, 600));
         tally.assert_above(200, &ANSWERS);
-        let sessions = [
-            "tint orders that arrived",
-            "tint orders beyond demand 3",
-            "tint orders whose end was not reported",
-        ];
-        tally.assert_above(20, &sessions);
-        assert_eq!(tally.number_of("there and back"), 20 * 12);
+        tally.assert_above(20, &sessions::OUTCOMES);
     }
 }

@@ -5,7 +5,7 @@
 use super::ends::{cases, run_cases, Ends, Office, Outcome, Period};
 use super::lockstep::{Lockstep, BAD_WITH_0, BAD_WITH_1, BAD_WITH_ANOTHER};
 use super::marks::KINDS;
-use super::{Difference, Tally};
+use super::{GroupFailure, Tally};
 use crate::calls::{ReceivingEnd, SendingEnd};
 use crate::reference::block::LENGTHS;
 use Office::{Finished, GaveUp, GoingOn};
@@ -25,7 +25,7 @@ const LENGTH: &str = "length alarm";
 pub fn compare<S: SendingEnd, R: ReceivingEnd>(
     sending: &S,
     receiving: &R,
-) -> Result<Tally, Difference> {
+) -> Result<Tally, GroupFailure> {
     let calls = Lockstep::new(sending, receiving);
     let mut tally = Tally::default();
     let in_both_kinds = cases![
@@ -258,15 +258,10 @@ impl<S: SendingEnd, R: ReceivingEnd> Ends<'_, S, R> {
 mod tests {
     use super::super::agreed;
     use super::*;
-    use crate::calls::{Reference, TableDriven};
+    use crate::calls::Reference;
 
     #[test]
     fn each_case_ends_as_its_name_says() {
         agreed(compare(&Reference, &Reference));
-    }
-
-    #[test]
-    fn the_table_driven_ends_agree() {
-        agreed(compare(&TableDriven, &TableDriven));
     }
 }

@@ -165,6 +165,29 @@ fn false_reports_fail_their_claims() {
     }
 }
 
+/// Item 2 is cancelled on a false request, item 1 damaged, and the request for it lost. Item 2 is the one
+/// that is awaited, and the order arrives.
+#[test]
+fn an_alarm_after_the_end_fails_its_claim_though_a_request_was_lost() {
+    for kind in KINDS {
+        for alarm in [Event::SequenceAlarm, Event::LengthAlarm] {
+            let mut ends = Ends::open(kind, 3);
+            let script: [(u8, &[usize]); 5] = [(1, &[]), (0, &[]), (0, &[]), (1, &[]), (1, &[0])];
+            for (reading, damage) in script {
+                ends.period(reading, damage).unwrap();
+            }
+            for _ in 0..2 {
+                assert!(!ends.list.ended());
+                ends.period(0, &[]).unwrap();
+            }
+            assert_eq!((ends.list.broken(), ends.list.lost_requests()), (None, 1));
+            assert!(ends.list.ended());
+            let failure = ends.false_report(0, alarm).unwrap_err();
+            assert!(failure.contains("no alarm follows"), "{failure}");
+        }
+    }
+}
+
 #[test]
 fn a_changed_store_fails_its_claim() {
     for kind in KINDS {
@@ -248,7 +271,8 @@ fn refusals_are_for_short_slices_alone() {
         let failure = ends.report(false, Received::Refused(6)).unwrap_err();
         assert!(failure.contains("short slice"), "{failure}");
         ends.sender.cancel_run = 70;
-        assert!(ends.send(0, &[]).1.is_err());
+        let failure = ends.send(0, &[]).1.unwrap_err();
+        assert!(failure.contains("at rest or for a short"), "{failure}");
     }
 }
 

@@ -2,7 +2,7 @@
 //! bears. docs/INTEGRATION.md, "While the nozzle runs".
 
 use super::{is_event, open, ITEMS};
-use crate::calls::{Line, ReceivingEnd, Reference, SendingEnd, TableDriven};
+use crate::calls::{Line, ReceivingEnd, Reference, SendingEnd};
 use crate::interface::{decode_received, decode_sent, Counts};
 use crate::interface::{RECEIVER_BYTES, RETURN_1, SENDER_BYTES};
 use crate::reference::block::{block_bits, block_bytes, LENGTHS};
@@ -10,6 +10,7 @@ use crate::reference::receiver::{Event, Received};
 use crate::reference::refusal::REST;
 use crate::reference::sender::Sent;
 use crate::rng::Rng;
+use crate::table::TableDriven;
 
 /// The block periods that docs/INTEGRATION.md has an engineer plan with, and the damaged blocks or
 /// misread answers that they bear.

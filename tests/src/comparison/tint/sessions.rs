@@ -11,6 +11,13 @@ use crate::reference::refusal::FORMAT;
 use crate::reference::tint::{tint_bytes, to_numbers, MOST_DOSES};
 use crate::rng::Rng;
 
+/// The names of what becomes of an order.
+pub const OUTCOMES: [&str; 3] = [
+    "tint orders that arrived",
+    "tint orders beyond demand 3",
+    "tint orders whose end was not reported",
+];
+
 impl<T: Tints + SendingEnd + ReceivingEnd> Group<'_, T> {
     /// An order of as many doses as the session's number says.
     pub(super) fn session(&mut self, seed: u64, number: usize) -> Result<(), Difference> {
@@ -30,13 +37,14 @@ impl<T: Tints + SendingEnd + ReceivingEnd> Group<'_, T> {
     /// A session with this order. If the end is reported, the machine reads its store, cut to that
     /// length; within demand 3 these are the doses.
     fn carry(&mut self, rng: Rng, order: Order, doses: &[u16]) -> Result<(), Difference> {
+        let [arrived, beyond, not_reported] = OUTCOMES;
         let mut events = Tally::default();
         let mut session = Session::open(&self.ends, rng, order, &mut events)?;
         session.run()?;
         let (ended, within) = (session.ended(), session.is_within_demand_3());
         let store = session.store().to_vec();
         let Some(length) = ended else {
-            self.tally.count("tint orders whose end was not reported");
+            self.tally.count(not_reported);
             return Ok(());
         };
         let order = &store[..length / 8];
@@ -44,7 +52,7 @@ impl<T: Tints + SendingEnd + ReceivingEnd> Group<'_, T> {
         let read = compare_read(self.tested, order, place.clone(), &mut self.tally)?;
         let whole_store = compare_read(self.tested, &store, place, &mut self.tally)?;
         if !within {
-            self.tally.count("tint orders beyond demand 3");
+            self.tally.count(beyond);
             return Ok(());
         }
         let read = read.done(&|| hex(order))?;
@@ -53,7 +61,7 @@ impl<T: Tints + SendingEnd + ReceivingEnd> Group<'_, T> {
             let case = || String::from("the store not cut");
             whole_store.expect(&case, Some(FORMAT))?;
         }
-        self.tally.count("tint orders that arrived");
+        self.tally.count(arrived);
         Ok(())
     }
 }
