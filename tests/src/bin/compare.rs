@@ -5,8 +5,9 @@
 //! library built, for `crc_hqx.py`. The last line is the verdict in words; a failure is one line
 //! that says what is wrong, and the case where there is one.
 
-use order_line_tests::comparison::{block, both_ends, busy, idle, loop_time, marks, noise};
-use order_line_tests::comparison::{receiver, same, sender, session, tint, two_orders};
+use order_line_tests::comparison::{block, both_ends, busy, different_k, idle, loop_time, marks};
+use order_line_tests::comparison::{noise, receiver, restart, same, sampling, sender, session};
+use order_line_tests::comparison::{tint, two_orders};
 use order_line_tests::comparison::{GroupFailure, Tally};
 use order_line_tests::interface::VERSION;
 use order_line_tests::link::{self, Library};
@@ -19,6 +20,8 @@ const BLOCK_CASES: usize = 120_000;
 const SENDER_SESSIONS: usize = 25_000;
 const RECEIVER_CALLS: usize = 300_000;
 const SESSIONS: usize = 25_000;
+/// At each pair of k where the office's is the smaller.
+const DIFFERENT_K_ORDERS: usize = 400;
 const TINT_CASES: usize = 400;
 const TINT_SESSIONS: usize = 4_000;
 /// At each k.
@@ -30,7 +33,7 @@ const BLOCKS_WRITTEN: usize = 800;
 /// A group's name and the run of all its cases.
 type Group = (&'static str, fn() -> Result<Tally, GroupFailure>);
 
-const GROUPS: [Group; 11] = [
+const GROUPS: [Group; 14] = [
     ("loop_time", || loop_time::compare(&Library)),
     ("block", || block::compare(&Library, SEED, BLOCK_CASES)),
     ("sender", || {
@@ -43,9 +46,14 @@ const GROUPS: [Group; 11] = [
         both_ends::compare(&Library, &Library, SEED, SESSIONS)
     }),
     ("busy", || busy::compare(&Library, &Library)),
+    ("sampling", || sampling::compare(&Library, &Library)),
     ("two_orders", || two_orders::compare(&Library, &Library)),
+    ("restart", || restart::compare(&Library, &Library)),
     ("idle", || idle::compare(&Library, &Library)),
     ("marks", || marks::compare(&Library, &Library)),
+    ("different_k", || {
+        different_k::compare(&Library, &Library, DIFFERENT_K_ORDERS)
+    }),
     ("tint", || {
         tint::compare(&Library, SEED, TINT_CASES, TINT_SESSIONS)
     }),

@@ -52,10 +52,6 @@ fn rounds(opening: bool, times: usize) -> Vec<&'static str> {
 }
 
 impl<S: SendingEnd, R: ReceivingEnd> Ends<'_, S, R> {
-    fn periods(&mut self, count: usize) -> Outcome {
-        (0..count).try_for_each(|_| self.period(Undisturbed))
-    }
-
     /// The machine is ready for so many periods, and busy from then on.
     fn busy_after(&mut self, periods: usize) -> Outcome {
         self.open_office(&ITEMS)?;

@@ -46,7 +46,7 @@ pub fn compare<S: SendingEnd, R: ReceivingEnd>(
     for (office, machine) in pairs.filter(|(office, machine)| office != machine) {
         let orders = match office < machine {
             true => orders,
-            false => (20 * orders).div_ceil(office),
+            false => (100 * orders).div_ceil(office),
         };
         for number in 0..orders {
             let sizes = KINDS[number % 2];

@@ -175,6 +175,11 @@ impl<'a, S: SendingEnd, R: ReceivingEnd> Ends<'a, S, R> {
         self.receive_all(bits)
     }
 
+    /// So many undisturbed periods.
+    pub fn periods(&mut self, count: usize) -> Outcome {
+        (0..count).try_for_each(|_| self.period(Period::Undisturbed))
+    }
+
     /// A sending call; the bits of its block.
     pub fn send(&mut self, reading: bool) -> Result<Bits, Difference> {
         let mut place = BufferPair::new(GuardedBuffer::filled(EMPTY, block_bytes(self.k)));
@@ -287,12 +292,18 @@ impl<'a, S: SendingEnd, R: ReceivingEnd> Ends<'a, S, R> {
 
     /// What came since the last time: the events, how the office stands, the items stored.
     pub fn expect(&mut self, events: &[&str], office: Office, items: &[u8]) -> Outcome {
+        let bytes = items.iter().flat_map(|&b| vec![b; self.k / 8]).collect();
+        self.expect_stored(events, office, bytes)
+    }
+
+    /// The same with the bytes stored.
+    pub fn expect_stored(&mut self, events: &[&str], office: Office, bytes: Vec<u8>) -> Outcome {
         let case = || String::from("what came of it");
         let came = self.take_events();
         same(&case, &events, &&came[..])?;
         same(&case, &office, &self.office())?;
-        let mut bytes: Vec<u8> = items.iter().flat_map(|&b| vec![b; self.k / 8]).collect();
-        bytes.resize(self.store.slice().len(), EMPTY);
-        same(&case, &&bytes[..], &self.store())
+        let mut stored = bytes;
+        stored.resize(self.store().len(), EMPTY);
+        same(&case, &&stored[..], &self.store())
     }
 }

@@ -8,10 +8,14 @@ mod remainder;
 mod tint;
 
 use super::{agreed, assert_different, Difference, Tally};
-use super::{any_bytes, block, both_ends, idle, loop_time, receiver, sender, two_orders};
+use super::{
+    any_bytes, block, both_ends, different_k, idle, loop_time, receiver, restart, sampling,
+};
+use super::{sender, two_orders};
 use crate::calls::{Blocks, Line, LoopTimes, NoiseLoads, Opening, ReceivingEnd, Reference};
 use crate::calls::{SendingEnd, Tints};
-use crate::interface::{decode_sent, is_event, Counts, EVENT_ACCEPTED, EVENT_NONE};
+use crate::interface::{decode_sent, is_event, load_receiver, store_word};
+use crate::interface::{Counts, EVENT_ACCEPTED, EVENT_NONE};
 use crate::interface::{FINISHED, GAVE_UP, MARKS_BYTES, RECEIVER_BYTES, SENDER_BYTES};
 use crate::reference::bits::{unpack, Bits};
 use crate::reference::receiver::Receiver;
@@ -20,7 +24,7 @@ use crate::reference::sender::Sent;
 use crate::rng::Rng;
 use busy::{BusyFault, OfBusy, BUSY_FAULTS};
 use lengths::{LengthFault, Place, FURTHER_LENGTHS};
-use marks::OfMarks;
+use marks::{OfMarks, TAKEN};
 use noise::{NoiseFault, OfNoise, NOISE_FAULTS};
 use remainder::{reading_faults, receiving_faults};
 use remainder::{OfRemainder, RemainderFault, FURTHER_RECEIVING_FAULTS};
@@ -56,6 +60,10 @@ enum Fault {
     SizeJudged,
     /// Without marks a state's code size becomes 0.
     SizeLost,
+    /// A sending call uses the reading of the call before.
+    ReadingBefore,
+    /// Opening a receiver over one leaves the items taken as they were.
+    ItemsKept,
     /// Code sizes 6 and 7 have each other's mark.
     MarksExchanged,
     /// A mark is the previous item at r 2 too.
@@ -89,7 +97,11 @@ const FAULTS_OF_EITHER_END: [Fault; 9] = [
     Fault::SizeJudged,
     Fault::SizeLost,
 ];
-const FAULTS_OF_A_SENDER: [Fault; 2] = [Fault::GaveUpAsFinished, Fault::MarksExchanged];
+const FAULTS_OF_A_SENDER: [Fault; 3] = [
+    Fault::GaveUpAsFinished,
+    Fault::ReadingBefore,
+    Fault::MarksExchanged,
+];
 const FAULTS_OF_A_RECEIVER: [Fault; 6] = [
     Fault::RefusedCount,
     Fault::LengthAlways,
@@ -99,8 +111,8 @@ const FAULTS_OF_A_RECEIVER: [Fault; 6] = [
     Fault::OwnMarkAlone,
 ];
 
-/// The second implementation with this fault, and whether the machine was ready in the call that
-/// began the latest block.
+/// The second implementation with this fault, and what the fault remembers: whether the machine was
+/// ready in the call that began the latest block, or the latest reading.
 struct Faulty(Fault, Cell<bool>);
 
 impl Faulty {
@@ -186,6 +198,10 @@ impl SendingEnd for Faulty {
         if self.0 == Fault::ShortState && state.len() < SENDER_BYTES {
             return u32::from(SHORT);
         }
+        let reading = match self.0 {
+            Fault::ReadingBefore => self.1.replace(reading),
+            _ => reading,
+        };
         self.limit_flags(&[13, 15, SENDER_BYTES - MARKS_BYTES], state);
         let word = match self.0 {
             Fault::Length(fault) => {
@@ -209,7 +225,15 @@ impl SendingEnd for Faulty {
 
 impl ReceivingEnd for Faulty {
     fn open_receiver(&self, k: usize, code_size: Option<usize>, state: &mut [u8]) -> u8 {
-        OfMarks(self.0).open_receiver(self.seen(Place::Opening, k), code_size, state)
+        let before = load_receiver(state);
+        let answer = OfMarks(self.0).open_receiver(self.seen(Place::Opening, k), code_size, state);
+        match before {
+            Some(before) if answer == 0 && self.0 == Fault::ItemsKept => {
+                store_word(state, TAKEN, before.taken);
+            }
+            _ => {}
+        }
+        answer
     }
 
     fn receive(
@@ -297,6 +321,46 @@ fn faults_of_a_receiver_are_found() {
     agreed(receiver::compare(&Faulty::with(Fault::None), 8, 500));
 }
 
+#[test]
+fn a_receiver_that_is_not_opened_anew_is_found() {
+    let faulty = Faulty::with(Fault::ItemsKept);
+    let groups = [
+        ("two_orders", two_orders::compare(&Reference, &faulty)),
+        ("restart", restart::compare(&Reference, &faulty)),
+        ("idle", idle::compare(&Reference, &faulty)),
+    ];
+    for (name, compared) in groups {
+        assert_different(compared, name);
+    }
+}
+
+/// Where the reading of the call before is used, a request is read one block late.
+#[test]
+fn a_reading_of_the_call_before_is_found() {
+    let faulty = || Faulty::with(Fault::ReadingBefore);
+    let groups = [
+        ("sampling", sampling::compare(&faulty(), &Reference)),
+        ("restart", restart::compare(&faulty(), &Reference)),
+        (
+            "different_k",
+            different_k::compare(&faulty(), &Reference, 20),
+        ),
+    ];
+    for (name, compared) in groups {
+        assert_different(compared, name);
+    }
+}
+
+/// A longest order finds no room in the store.
+#[test]
+fn faults_of_a_refused_call_are_found_between_two_orders() {
+    let refused = Fault::Receiving(RemainderFault::IfRefused);
+    for fault in [Fault::RefusedState, Fault::RefusedCount, refused] {
+        let compared = two_orders::compare(&Reference, &Faulty::with(fault));
+        assert_different(compared, &format!("{fault:?}"));
+    }
+}
+
 /// By the cases before the random ones.
 #[test]
 fn faults_of_a_block_length_are_found() {
@@ -362,6 +426,7 @@ fn faults_of_the_remainder_are_found_where_a_case_says_what_comes() {
         let groups = [
             ("busy", super::busy::compare(&Reference, &faulty)),
             ("two_orders", two_orders::compare(&Reference, &faulty)),
+            ("restart", restart::compare(&Reference, &faulty)),
             ("idle", idle::compare(&Reference, &faulty)),
             ("marks", super::marks::compare(&Reference, &faulty)),
             ("tint", super::tint::compare(&faulty, 17, 0, 200)),
@@ -370,6 +435,14 @@ fn faults_of_the_remainder_are_found_where_a_case_says_what_comes() {
         for (name, compared) in groups {
             assert_different(compared, &format!("{fault:?} in {name}"));
         }
+        let compared = different_k::compare(&Reference, &faulty, 20);
+        assert_different(compared, &format!("{fault:?} in different_k"));
+    }
+    // No block there fits nowhere.
+    for fault in receiving_faults().filter(|fault| !fault.is_of_rule_7()) {
+        let faulty = Faulty::with(Fault::Receiving(fault));
+        let compared = sampling::compare(&Reference, &faulty);
+        assert_different(compared, &format!("{fault:?} in sampling"));
     }
 }
 

@@ -113,7 +113,7 @@ impl<S: SendingEnd, R: ReceivingEnd> Ends<'_, S, R> {
     /// The office is opened, and so many periods are over.
     fn begin(&mut self, periods: usize) -> Outcome {
         self.open_office(&ITEMS)?;
-        (0..periods).try_for_each(|_| self.period(Undisturbed))
+        self.periods(periods)
     }
 
     /// However many idle bits come first, the synchronising block leaves the machine as it does

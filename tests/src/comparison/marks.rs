@@ -3,13 +3,14 @@
 
 use super::ends::{cases, run_cases, Ends, Office, Outcome, Period};
 use super::lockstep::{Lockstep, BAD_WITH_0, BAD_WITH_1, BAD_WITH_ANOTHER};
-use super::{GroupFailure, Tally};
+use super::{same, GroupFailure, Tally};
 use crate::calls::{ReceivingEnd, SendingEnd};
 use crate::interface::MARKS_BYTES;
 use crate::reference::block::LENGTHS;
 use crate::reference::marks::CODE_SIZES;
+use crate::reference::receiver::BAD_ROW_LIMIT;
 use crate::rng::Rng;
-use Office::{Finished, GaveUp};
+use Office::{Finished, GaveUp, GoingOn};
 use Period::{Damaged, Reads0, Reads1, Undisturbed};
 
 /// Sizes beside 5 to 8, and some whose lowest byte or word is one of these.
@@ -81,6 +82,7 @@ pub fn compare<S: SendingEnd, R: ReceivingEnd>(
     let office = cases![
         at_the_office_alone_nothing_is_stored,
         at_the_office_alone_and_a_request_lost_item_1_is_taken_as_item_0,
+        at_the_office_alone_and_the_sequence_in_the_order_item_1_is_taken_as_item_0,
     ];
     let machine = cases![at_the_machine_alone_item_0_is_an_alarm];
     let mut run = |k, sender, receiver, cases| {
@@ -161,6 +163,35 @@ impl<S: SendingEnd, R: ReceivingEnd> Ends<'_, S, R> {
             "length alarm",
         ];
         self.expect(&events, GaveUp, &ITEMS[1..])
+    }
+
+    /// Every period is undisturbed and no request is lost. The machine, back in search, finds the
+    /// sequence in item 1, which is cancelled, reads eight blocks from there, and finds it again in item
+    /// 0, in period 10: the return bit is 0 for an item that was not taken, and in period 11 item 1 is
+    /// confirmed. Eight blocks later it comes behind a synchronising block, and it carries A.
+    fn at_the_office_alone_and_the_sequence_in_the_order_item_1_is_taken_as_item_0(
+        &mut self,
+    ) -> Outcome {
+        let item_bytes = self.k / 8;
+        let mut order = vec![0; 2 * item_bytes];
+        for place in [20, item_bytes + 2] {
+            order[place..place + 2].copy_from_slice(&[0x50, 0xA5]);
+        }
+        let item_1 = order[item_bytes..].to_vec();
+        let row = vec![BAD_WITH_ANOTHER; BAD_ROW_LIMIT];
+        self.open_office_with(order)?;
+        self.periods(11)?;
+        let events = [vec!["sync", BAD_WITH_0, "sync"], row.clone(), vec!["sync"]];
+        self.expect(&events.concat(), GoingOn, &[])?;
+        self.period(Undisturbed)?;
+        same(&|| String::from("the pair"), &2, &self.sender().newer)?;
+        self.periods(9)?;
+        let events = [row, vec!["sync", "accepted"]].concat();
+        self.expect_stored(&events, GoingOn, item_1.clone())?;
+        self.period(Undisturbed)?;
+        self.expect_stored(&["length alarm"], GoingOn, item_1.clone())?;
+        self.until_rest()?;
+        self.expect_stored(&[], GaveUp, item_1)
     }
 
     /// To a machine that uses marks, item 0 without a mark is item 1.

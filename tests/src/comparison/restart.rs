@@ -91,6 +91,7 @@ impl<S: SendingEnd, R: ReceivingEnd> Ends<'_, S, R> {
         self.receive_watching(&bits[..most.min(bits.len())], row)
     }
 
+    /// The old order up to some bit, and the new one to its end.
     fn restart(&mut self, mut rng: Rng, start: Start, tally: &mut Tally) -> Outcome {
         let (n, row) = (block_bits(self.k), &mut Row::default());
         let mut order = || {
@@ -100,20 +101,27 @@ impl<S: SendingEnd, R: ReceivingEnd> Ends<'_, S, R> {
         let (old, new) = (order(), order());
         // A synchronising block, the items and two end blocks.
         let stop = rng.below((8 * old.len() / self.k + 3) * n);
-        self.open_office_with(old)?;
+        self.open_office_with(old.clone())?;
         for at in (0..stop).step_by(n) {
             self.block_watched(stop - at, row)?;
         }
         if let Start::Behind(bit) = start {
             self.receive_watching(&vec![bit; 4 * n], row)?;
         }
-        self.take_events();
+        if self.take_events().contains(&"ended") {
+            let case = || String::from("an end before the new session is of the old order");
+            same(&case, &true, &self.store().starts_with(&old))?;
+        }
         self.open_office_with(new.clone())?;
         while !self.sender().rests() {
             self.block_watched(n, row)?;
         }
+        self.judge_new_order(start, &new, tally)
+    }
+
+    fn judge_new_order(&mut self, start: Start, new: &[u8], tally: &mut Tally) -> Outcome {
         let ended = self.take_events().contains(&"ended");
-        let arrived = ended && self.store().starts_with(&new);
+        let arrived = ended && self.store().starts_with(new);
         tally.count(match (start, ended) {
             (Start::Behind(_), _) => {
                 let case = || String::from("ended with the new order, and the office");
@@ -137,6 +145,6 @@ mod tests {
     #[test]
     fn no_tin_is_wrong_behind_idle_bits_and_some_are_without() {
         let tally = agreed(compare(&Reference, &Reference));
-        println!("{tally}");
+        assert_eq!(tally.number_of(WRONG_TIN), 50);
     }
 }

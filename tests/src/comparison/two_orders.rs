@@ -5,9 +5,12 @@
 use super::ends::{cases, run_cases, Ends, Office, Outcome, Period};
 use super::lockstep::{Lockstep, BAD_WITH_0, BAD_WITH_1, BAD_WITH_ANOTHER};
 use super::marks::KINDS;
-use super::{GroupFailure, Tally};
+use super::{same, GroupFailure, Tally};
 use crate::calls::{ReceivingEnd, SendingEnd};
 use crate::reference::block::LENGTHS;
+use crate::reference::order::{items, LONGEST};
+use crate::reference::receiver::{Received, Receiver};
+use crate::reference::refusal::SHORT;
 use Office::{Finished, GaveUp, GoingOn};
 use Period::{Damaged, Reads0, Undisturbed};
 
@@ -42,6 +45,7 @@ pub fn compare<S: SendingEnd, R: ReceivingEnd>(
         opened_after_three_lost_requests_item_3_is_taken_as_item_0,
         opened_at_an_alarm_in_mid_order_item_6_is_taken_as_item_0,
         not_opened_after_item_2_the_length_alarm_comes_behind_mixed_items,
+        not_opened_after_item_2_a_longest_order_finds_no_room,
     ];
     let with_marks = cases![
         with_marks_never_opened_anew_no_alarm_comes,
@@ -239,6 +243,41 @@ impl<S: SendingEnd, R: ReceivingEnd> Ends<'_, S, R> {
         self.until_rest()?;
         let items = [&LONG[..3], &OLD[..]].concat();
         self.expect(&["sync", "accepted", "accepted", LENGTH], GaveUp, &items)
+    }
+
+    /// The store has room for the longest order and no more. Three items are taken, and so the new
+    /// order's last three find none. At k 240 no receiver takes so many: rule 7. At the other k the
+    /// call is refused, the return bit is 0, no alarm stands, and no bit is used, however often the same
+    /// bits are lent.
+    fn not_opened_after_item_2_a_longest_order_finds_no_room(&mut self) -> Outcome {
+        let most = items(self.k, LONGEST);
+        self.open_machine_with(self.k, most)?;
+        self.break_off(&LONG, 3)?;
+        let long: Vec<u8> = (0..most).map(|item| item as u8).collect();
+        let mut order: Vec<u8> = long.iter().flat_map(|&b| vec![b; self.k / 8]).collect();
+        order.truncate(LONGEST / 8);
+        self.open_office_with(order)?;
+        self.periods(1 + most - 3)?;
+        let stored = [&LONG[..3], &long[..most - 3]].concat();
+        let events = [vec!["sync"], vec!["accepted"; most - 3]].concat();
+        self.expect(&events, GoingOn, &stored)?;
+        if self.k == LENGTHS[0] {
+            self.period(Undisturbed)?;
+            return self.expect(&[BAD_WITH_0], GoingOn, &stored);
+        }
+        let bits = self.send(self.receiver().return_bit)?;
+        for _ in 0..3 {
+            let case = || String::from("no room");
+            same(&case, &Received::Refused(SHORT), &self.lend(&bits, true)?)?;
+            let Receiver {
+                taken,
+                return_bit,
+                alarm,
+                ..
+            } = self.receiver();
+            same(&case, &(most, false, None), &(taken, return_bit, alarm))?;
+        }
+        self.expect(&[], GoingOn, &stored)
     }
 
     /// Item 0 of the new order carries a mark, which is bad where three items are taken.

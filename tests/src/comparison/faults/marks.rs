@@ -13,7 +13,7 @@ use crate::reference::refusal::{CODE_SIZE, SHORT, SPOILED};
 /// Where a receiver's bytes have the bad row, the lowest byte of r, whether the end is taken, the
 /// phase and whether marks are in use.
 const BAD_ROW: usize = 12;
-const TAKEN: usize = 8;
+pub const TAKEN: usize = 8;
 const END_TAKEN: usize = 14;
 const PHASE: usize = 15;
 const MARKS_IN_USE: usize = RECEIVER_BYTES - MARKS_BYTES;

@@ -69,6 +69,12 @@ pub const FURTHER_RECEIVING_FAULTS: [RemainderFault; 8] = [
     With(EVENT_WAIT),
 ];
 
+impl RemainderFault {
+    pub fn is_of_rule_7(self) -> bool {
+        matches!(self, OneByRule7 | NotByRule7)
+    }
+}
+
 /// What a call answers.
 #[derive(Clone, Copy)]
 enum Answer {
