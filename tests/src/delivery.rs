@@ -274,6 +274,7 @@ impl Delivery {
         }
     }
 
+    /// Beyond the demand, no alarm follows the end, lost requests or not.
     fn claim_event(&mut self, event: Event) -> Result<(), Failure> {
         match event {
             Event::Accepted => self.accepted += 1,

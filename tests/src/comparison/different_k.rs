@@ -72,7 +72,7 @@ pub fn compare<S: SendingEnd, R: ReceivingEnd>(
     )
 }
 
-/// Nothing ends that was not sent: no end is reported, and at most one item is taken.
+/// One event each that is not of a misread block which fails the check or fits nowhere, and no end.
 fn chances<S: SendingEnd, R: ReceivingEnd>(
     calls: &Lockstep<S, R>,
     tally: &mut Tally,
@@ -90,7 +90,7 @@ fn chances<S: SendingEnd, R: ReceivingEnd>(
     Ok(())
 }
 
-/// What a block brings that is none of the office's and fails the check, or fits nowhere.
+/// What such a block brings, and a synchronising one.
 fn is_of_a_misread_block(event: &str) -> bool {
     event == "sync" || event.starts_with("bad")
 }

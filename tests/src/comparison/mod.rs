@@ -75,7 +75,7 @@ impl fmt::Display for GroupFailure {
             ),
             GroupFailure::Untried(kind) => write!(
                 f,
-                "no difference, but NOT ALL TRIED that the group must try\n{kind}"
+                "no difference, but the group has NOT TRIED all that it must\n{kind}"
             ),
         }
     }
