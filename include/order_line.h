@@ -111,9 +111,8 @@ uint32_t order_line_version(void);
  *   2 sequence alarm, 3 length alarm); then the held bits, 483; marks in use, 1 (0 or 1); the code size, 1 (with marks 5
  *   to 8).
  * A field outside its range is SPOILED. No combination of fields in range is: a sender that is finished with a run of 64
- * counts as finished. The code size without marks and the bits behind the held ones are not judged and change no answer.
- * In a state that was opened they are 0; in bytes from elsewhere they may be anything. So compare the fields of two
- * states, not all of their bytes by memcmp.
+ * counts as finished. The code size without marks and the bits behind the held ones are not judged and change no answer:
+ * two states that are equal to every call may differ there. So compare fields, not all bytes by memcmp.
  */
 #define ORDER_LINE_SENDER_BYTES 18
 #define ORDER_LINE_RECEIVER_BYTES 501
