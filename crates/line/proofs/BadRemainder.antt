@@ -117,10 +117,10 @@ shows : (s : Receiver) (line : List ℕ) (count : ℕ) (ready : Bool) (store : L
     → receive s line count ready store ≡ done x → Shows (x .row) (x .rule)
 shows s line count ready store x =
     received-case s line count ready (λ (x : Reception). Shows (x .row) (x .rule))
-    (other-event [] (idleRule (s .phase)) (idle-not-bad (s .phase))) (λ window used. other-event [] unfinished refl)
-    (λ used. other-event [] sequence-found refl) (other-event [] unfinished refl)
+    (λ z. other-event [] (idleRule (s .phase)) (idle-not-bad (s .phase))) (λ window used e. other-event [] unfinished refl)
+    (λ p used h e. other-event [] sequence-found refl) (other-event [] unfinished refl)
     (λ p h. block-shows _ (s .setup .marks .«in_use») (s .setup .k) (s .taken) (s .ended) ready)
-    (λ used. other-event [] (standing E.SequenceAlarm) refl) (λ used. other-event [] (standing E.LengthAlarm) refl) store x
+    (other-event [] (standing E.SequenceAlarm) refl) (other-event [] (standing E.LengthAlarm) refl) store x
 
 -- ---- the row
 
@@ -130,10 +130,11 @@ module _ (s : Receiver) (line : List ℕ) (count : ℕ) (ready : Bool) (store : 
   reads-block =
       let h = heard s line count ready store x r in
       received-case s line count ready (λ (y : Reception). isBad (meaning (y .rule) .event) ≡ true → ReadsInStep s line count (y .row))
-      (λ b. absurd (true≢false (sym b ∙ idle-not-bad (s .phase)))) (λ window used b. absurd (false≢true b)) (λ used b. absurd (false≢true b))
+      (λ z b. absurd (true≢false (sym b ∙ idle-not-bad (s .phase)))) (λ window used e b. absurd (false≢true b))
+      (λ p used m e b. absurd (false≢true b))
       (λ b. absurd (false≢true b))
       (λ p m b. record { range = h .0; in-step = p; lent = h .1; complete = omega (arith, m, length-lent line count (h .1)); bits = refl })
-      (λ used b. absurd (false≢true b)) (λ used b. absurd (false≢true b)) store x r
+      (λ b. absurd (false≢true b)) (λ b. absurd (false≢true b)) store x r
 
 -- ---- a block that was cancelled
 

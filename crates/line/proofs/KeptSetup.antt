@@ -34,5 +34,5 @@ module _ (s : Receiver) where
   pub received-setup : (line : List ℕ) (count : ℕ) (ready : Bool) (store : List ℕ) (x : Reception) → receive s line count ready store ≡ done x
       → x .state .setup ≡ s .setup
   received-setup line count ready store x =
-      received-case s line count ready (λ (y : Reception). y .state .setup ≡ s .setup) refl (λ window used. refl) (λ used. refl) refl
-      (λ p h. after-setup (blockRule s (finishedRow s (take count (bitsOf line))) ready)) (λ used. refl) (λ used. refl) store x
+      received-case s line count ready (λ (y : Reception). y .state .setup ≡ s .setup) (λ z. refl) (λ window used e. refl) (λ p used h e. refl)
+      refl (λ p h. after-setup (blockRule s (finishedRow s (take count (bitsOf line))) ready)) refl refl store x

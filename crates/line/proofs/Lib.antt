@@ -4,8 +4,8 @@
 -- by bytes: BitMoves. A receiving call: ReceivingCall, ReceptionCases (the ways it can end), KeptSetup (what opening fixed stays),
 -- and in place InPlace; in search SearchWindow, LineSearch; in step InStepBits, BlockFields (what a block's bytes say),
 -- StorePlace (where its data go), OrWait (the step to *wait*), BlockFinished (what is handed back). Demand 3: Delivery. Ready or
--- not: Readiness. What a bad event's number says: BadRemainder. Calls lent in pieces: Pieces. The examples of docs/PROTOCOL.md:
--- Examples.
+-- not: Readiness. What a bad event's number says: BadRemainder. How many bits a call uses: BitsUsed. Calls lent in pieces: Pieces.
+-- The examples of docs/PROTOCOL.md: Examples.
 pub mod Table
 pub mod LoopTime
 pub mod CodeSizes
@@ -30,5 +30,6 @@ pub mod InPlace
 pub mod Delivery
 pub mod Readiness
 pub mod BadRemainder
+pub mod BitsUsed
 pub mod Pieces
 pub mod Examples

@@ -37,8 +37,8 @@ module _ (s : Receiver) where
   no-wait : (line : List ℕ) (count : ℕ) (store : List ℕ) (x : Reception) → receive s line count true store ≡ done x
       → isWaiting (x .rule) ≡ false
   no-wait line count =
-      received-case s line count true (λ (x : Reception). isWaiting (x .rule) ≡ false) (idle-never-waits (s .phase)) (λ window used. refl)
-      (λ used. refl) refl (λ p h. block _) (λ used. refl) (λ used. refl)
+      received-case s line count true (λ (x : Reception). isWaiting (x .rule) ≡ false) (λ z. idle-never-waits (s .phase))
+      (λ window used e. refl) (λ p used h e. refl) refl (λ p h. block _) refl refl
     where
       block : (row : Bits) → isWaiting (blockRule s row true) ≡ false
       block row =
@@ -48,10 +48,10 @@ module _ (s : Receiver) where
   -- not ready, whatever the call reads stores nothing
   reads-nothing : (line : List ℕ) (count : ℕ) → meaning (reception s (take count (bitsOf line)) count false .rule) .stores ≡ false
   reads-nothing line count =
-      reception-case s line count false (λ (x : Reception). meaning (x .rule) .stores ≡ false) (idle-stores (s .phase)) (λ window used. refl)
-      (λ used. refl) refl
+      reception-case s line count false (λ (x : Reception). meaning (x .rule) .stores ≡ false) (λ z. idle-stores (s .phase))
+      (λ window used e. refl) (λ p used h e. refl) refl
       (λ p h. stores-nothing (judge (s .setup .marks .«in_use») (s .setup .k) (s .taken) (s .ended) (finishedRow s (take count (bitsOf line)))))
-      (λ used. refl) (λ used. refl)
+      refl refl
 
   any-store : (line : List ℕ) (count : ℕ) (store store′ : List ℕ) → receive s line count false store ≡ receive s line count false store′
   unfolding receive
@@ -68,15 +68,15 @@ module _ (s : Receiver) where
   nothing : (store : List ℕ) (line : List ℕ) (count : ℕ) (x : Reception) → receive s line count false store ≡ done x → TakesNothing s store x
   nothing store line count x =
       received-case s line count false (TakesNothing s store)
-      (record { stored = kept (idleRule (s .phase)) [] (idle-stores (s .phase)); taken = refl; ended = refl })
-      (λ window used. record { stored = refl; taken = refl; ended = refl })
-      (λ used. record { stored = refl; taken = refl; ended = refl })
+      (λ z. record { stored = kept (idleRule (s .phase)) [] (idle-stores (s .phase)); taken = refl; ended = refl })
+      (λ window used e. record { stored = refl; taken = refl; ended = refl })
+      (λ p used h e. record { stored = refl; taken = refl; ended = refl })
       (record { stored = refl; taken = refl; ended = refl })
       (λ p h.
       let row : Bits = finishedRow s (take count (bitsOf line)) in
       let x : Rule = judge (s .setup .marks .«in_use») (s .setup .k) (s .taken) (s .ended) row in
       record { stored = kept (orWait false x) row (stores-nothing x); taken = takes-nothing s x .0; ended = takes-nothing s x .1 })
-      (λ used. record { stored = refl; taken = refl; ended = refl }) (λ used. record { stored = refl; taken = refl; ended = refl })
+      (record { stored = refl; taken = refl; ended = refl }) (record { stored = refl; taken = refl; ended = refl })
       store x
     where
       kept : (x : Rule) (row : Bits) → meaning x .stores ≡ false

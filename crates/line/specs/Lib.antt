@@ -1,5 +1,6 @@
--- The refusals' numbers, docs/PROTOCOL.md in its order, a receiving call by its readiness, a bad event's number, a call in place and
--- in pieces, demand 3, what a layer above takes from it, the examples that are proved, and what the private functions ask and promise.
+-- The refusals' numbers, docs/PROTOCOL.md in its order, a receiving call by its readiness, a bad event's number, the bits that a
+-- call uses, a call in place and in pieces, demand 3, what a layer above takes from it, the examples that are proved, and what the
+-- private functions ask and promise.
 pub mod Refusals
 pub mod LoopTime
 pub mod Marks
@@ -10,6 +11,7 @@ pub mod Receiving
 pub mod WithoutMarks
 pub mod Readiness
 pub mod BadRemainder
+pub mod BitsUsed
 pub mod ReceivingInPlace
 pub mod Pieces
 pub mod Course

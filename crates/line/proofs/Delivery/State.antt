@@ -14,6 +14,7 @@ use Rattle.line.specs.Marks.{marksInRange}
 use Rattle.line.specs.Order.{longestOrder, itemCount, filled, itemBits}
 use Rattle.line.specs.Sending.{Block, synchronising, item, lastRun}
 use Rattle.line.specs.Receiving.{arrayBytes, eventKind, lastBad, heldBits, latest, heldInRange}
+pub use Rattle.line.specs.BitsUsed.{alarmStands}
 use Rattle.line.specs.Course.{World, Entry}
 use Rattle.line.specs.Delivery.{OnLine, SameOrder, SameStore, Admitted, NotWhole, SyncAtLast, SyncNotData, OnlyRefused, isNew, isEnd, isAlarm, isLost, isWait, isGood, reportsEnd}
 use Rattle.line.specs.declared.marks.Marks.{Marks}
@@ -54,12 +55,6 @@ inSearch P.Search = true
 inSearch P.InStep = false
 inSearch P.SequenceAlarm = false
 inSearch P.LengthAlarm = false
-
-abbrev pub alarmStands : Phase → Bool
-alarmStands P.Search = false
-alarmStands P.InStep = false
-alarmStands P.SequenceAlarm = true
-alarmStands P.LengthAlarm = true
 
 abbrev pub ends : Sender → Receiver → ℕ → ℕ → Ends
 ends s r lost danger =
