@@ -181,7 +181,7 @@ none-times : (f : Entry → Bool) (n : ℕ) (es : List Entry) → some f es ≡ 
 none-times f zero es h = refl
 none-times f (suc n) es h = none-append f es (times n es) h (none-times f n es h)
 
-abbrev any : List (Entry → Bool) → Entry → Bool
+abbrev pub any : List (Entry → Bool) → Entry → Bool
 any [] e = false
 any (f ∷ fs) e = f e || any fs e
 
@@ -209,8 +209,20 @@ pub record Uneventful (es : List Entry) : Type 0 where
   pub all-calm : some (onSent false (λ x. not (calm x))) es ≡ false
   pub assumptions : Assumptions 240 content es
 
-abbrev events : List (Entry → Bool)
+abbrev pub events : List (Entry → Bool)
 events = isNew ∷ isEnd ∷ isAlarm ∷ isLost ∷ onSent false (λ x. not (calm x)) ∷ unmet 240 content ∷ []
+
+pub without-events : (es : List Entry) → some (any events) es ≡ false → Uneventful es
+without-events es h =
+    let none = none-each events es h in
+    record {
+      none-new = none .0;
+      no-end = none .1 .0;
+      no-alarm = none .1 .1 .0;
+      none-lost = none .1 .1 .1 .0;
+      all-calm = none .1 .1 .1 .1 .0;
+      assumptions = meets-unlost 240 content es (none .1 .1 .1 .1 .1 .0) (none .1 .1 .1 .0);
+    }
 
 in-first : some (any events) first ≡ false
 unfolding trace
@@ -226,17 +238,7 @@ in-all n h =
     ∙ none-append (any events) first (times n later) in-first (none-times (any events) n later in-later)
 
 uneventful : (n : ℕ) → 1 + n ≤ lastRun → Uneventful (course w₀ (turns (suc n)))
-uneventful n h =
-    let es = course w₀ (turns (suc n)) in
-    let none = none-each events es (in-all n h) in
-    record {
-      none-new = none .0;
-      no-end = none .1 .0;
-      no-alarm = none .1 .1 .0;
-      none-lost = none .1 .1 .1 .0;
-      all-calm = none .1 .1 .1 .1 .0;
-      assumptions = meets-unlost 240 content es (none .1 .1 .1 .1 .1 .0) (none .1 .1 .1 .0);
-    }
+uneventful n h = without-events (course w₀ (turns (suc n))) (in-all n h)
 
 -- ---- two turns: six periods that are undisturbed but for waits
 

@@ -102,15 +102,22 @@ waited taken = bad 0 taken
 abbrev pub between : Sender → Receiver → List ℕ → Block → World
 between s r store b = record { sender = s; receiver = r; store = store; block = b; left = [] }
 
--- A period: one sending call, and one receiving call that takes the whole copy. Whether the machine is ready; the order, the
--- store lent and as it is left; the reading and the copy; the block sent, the return bit then standing, whether the copy is as
--- sent, the event; the states afterwards.
+-- A period: one sending call, and one receiving call that takes the whole copy.
+abbrev pub periodCalls : (ready : Bool) (order store : List ℕ) (reading : Bool) (arrives : Bits) → List Call
+periodCalls ready order store reading arrives =
+    sending order reading (replicate 33 0) arrives ∷ receiving (bytesOf 33 arrives) 260 ready store ∷ []
+
+abbrev pub periodOutcomes : (reading : Bool) (b : Block) (back as-sent : Bool) (event : Event) → List Outcome
+periodOutcomes reading b back as-sent event = sends b reading back as-sent ∷ hears event 260 ∷ []
+
+-- Whether the machine is ready; the order, the store lent and as it is left; the reading and the copy; the block sent, the
+-- return bit then standing, whether the copy is as sent, the event; the states afterwards.
 abbrev pub periodWith : (ready : Bool) (order store store′ : List ℕ) (reading : Bool) (arrives : Bits) (b : Block) (back as-sent : Bool)
     (event : Event) (s : Sender) (r : Receiver) → Row
 periodWith ready order store store′ reading arrives b back as-sent event s r =
     record {
-      calls = sending order reading (replicate 33 0) arrives ∷ receiving (bytesOf 33 arrives) 260 ready store ∷ [];
-      outcomes = sends b reading back as-sent ∷ hears event 260 ∷ [];
+      calls = periodCalls ready order store reading arrives;
+      outcomes = periodOutcomes reading b back as-sent event;
       world = between s r store′ b;
     }
 
