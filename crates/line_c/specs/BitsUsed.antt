@@ -1,5 +1,5 @@
--- What stands at *used after a receiving call that is not refused: at least one bit if any was lent, at most as many as were lent,
--- and all of them if an alarm stood in the state's bytes. Assumes nothing.
+-- What stands at *used after a receiving call that is not refused: at least one bit if any was lent, at most as many as were
+-- lent, and all of them if an alarm stood in the state's bytes. Assumes nothing.
 use mathlib.Core.Path.{_≡_}
 use mathlib.Core.Bool.{Bool, false}
 use mathlib.Core.List.{List}

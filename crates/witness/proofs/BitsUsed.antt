@@ -4,7 +4,7 @@ use mathlib.Core.Bool.{true, false}
 use mathlib.Core.List.{List, [], _∷_}
 use Prim.Native.Nat.{ℕ}
 use lib.ListN.{take, drop, replicate}
-use Rattle.crc.specs.Bits.{Bits, bytesOf}
+use Rattle.crc.specs.Bits.{bytesOf}
 use Rattle.block.specs.Block.{syncSequence}
 use Rattle.line.specs.Order.{letterA}
 use Rattle.line.specs.Receiving.{unfinished, standing, sequence-found, accepts, idle, holding}
