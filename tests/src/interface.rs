@@ -15,8 +15,8 @@ pub const MARKS_BYTES: usize = 2;
 pub const SENDER_BYTES: usize = HEAD_BYTES + MARKS_BYTES;
 pub const RECEIVER_BYTES: usize = HEAD_BYTES + HELD_BYTES + MARKS_BYTES;
 
-/// 5.1.0.
-pub const VERSION: u32 = 0x05_01_00;
+/// 5.1.1.
+pub const VERSION: u32 = 0x05_01_01;
 
 /// What `sender_rest` answers besides 7.
 pub const GOING_ON: u8 = 80;

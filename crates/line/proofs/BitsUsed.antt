@@ -8,7 +8,7 @@ use lib.ListN.{length, take}
 use Rattle.crc.specs.Bits.{Bits, bitsOf}
 use Rattle.block.specs.Answer.{done}
 use Rattle.line.specs.Receiving.{missing, Reception, receive}
-use Rattle.line.specs.BitsUsed.{alarmStands, Uses, LentAgain, none, call, BitsUsed}
+use Rattle.line.specs.BitsUsed.{alarmStands, Uses, LentAgain, no-call, call, BitsUsed}
 use Rattle.line.specs.declared.receiver.Receiver.{Receiver}
 use Rattle.line.specs.declared.receiving.Phase.{Phase}
 use Rattle.line.specs.declared.receiving.Phase.the-variants as P
@@ -17,16 +17,16 @@ use Rattle.line.proofs.ReceptionCases.{received-case}
 
 -- all of them, ...
 uses-all : (p : Phase) (count used : ℕ) → used ≡ count → Uses p count used
-uses-all p count used e = record { some = λ h. omega arith; most = omega arith; under-alarm = λ a. e; none = λ z. omega arith }
+uses-all p count used e = record { at-least-one = λ h. omega arith; at-most-lent = omega arith; under-alarm = λ a. e; of-none = λ z. omega arith }
 
 -- ... or some of them, where no alarm stands
 uses-some : (p q : Phase) (count used : ℕ) → p ≡ q → alarmStands q ≡ false → 1 ≤ used → used ≤ count → Uses p count used
 uses-some p q count used e a l h =
     record {
-      some = λ n. l;
-      most = h;
+      at-least-one = λ n. l;
+      at-most-lent = h;
       under-alarm = λ t. absurd (false≢true (sym (ap alarmStands e ∙ a) ∙ t));
-      none = λ z. omega arith;
+      of-none = λ z. omega arith;
     }
 
 uses : (s : Receiver) (line : List ℕ) (count : ℕ) (ready : Bool) (store : List ℕ) (x : Reception)
@@ -45,10 +45,10 @@ uses s line count ready store x e =
 -- one bit fewer at least
 fewer : (p : Phase) (count used calls : ℕ) → Uses p count used → count ≤ suc calls → count - used ≤ calls
 fewer p zero used calls u h = omega arith
-fewer p (suc n) used calls u h = omega (arith, u .some (omega arith))
+fewer p (suc n) used calls u h = omega (arith, u .at-least-one (omega arith))
 
 nothing-left : (s : Receiver) (count calls left : ℕ) → LentAgain s count calls left → count ≤ calls → left ≡ 0
-nothing-left s count calls left none h = omega arith
+nothing-left s count calls left no-call h = omega arith
 nothing-left s count (suc calls) left (call line ready store x e more) h =
     nothing-left (x .state) (count - x .used) calls left more
     (fewer (s .phase) count (x .used) calls (uses s line count ready store x e) h)

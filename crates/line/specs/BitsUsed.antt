@@ -18,15 +18,15 @@ alarmStands P.LengthAlarm = true
 
 -- the phase before the call, the number of bits lent, and the number of those used
 pub record Uses (phase : Phase) (count used : ℕ) : Type 0 where
-  pub some : 1 ≤ count → 1 ≤ used
-  pub most : used ≤ count
+  pub at-least-one : 1 ≤ count → 1 ≤ used
+  pub at-most-lent : used ≤ count
   pub under-alarm : alarmStands phase ≡ true → used ≡ count
-  pub none : count ≡ 0 → used ≡ 0
+  pub of-none : count ≡ 0 → used ≡ 0
 
 -- Calls that are not refused, each on the state that the one before handed back and lent as many bits as that one left, whatever
 -- the line's bytes, the readiness and the store: the first state and the bits lent there, the number of calls, the bits left.
 pub data LentAgain : Receiver → ℕ → ℕ → ℕ → Type 0 where
-  none : {s : Receiver} {left : ℕ} → LentAgain s left 0 left
+  no-call : {s : Receiver} {left : ℕ} → LentAgain s left 0 left
   call : {s : Receiver} {count calls left : ℕ} (line : List ℕ) (ready : Bool) (store : List ℕ) (x : Reception)
       → receive s line count ready store ≡ done x → LentAgain (x .state) (count - x .used) calls left
       → LentAgain s count (suc calls) left

@@ -9,7 +9,7 @@ abbrev pub minor : ℕ
 minor = 1
 
 abbrev pub patch : ℕ
-patch = 0
+patch = 1
 
 -- the three in one number, a byte for each of the last two
 abbrev pub libraryVersion : ℕ

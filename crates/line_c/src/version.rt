@@ -5,7 +5,7 @@ pub const MAJOR: u32 = 5;
 
 pub const MINOR: u32 = 1;
 
-pub const PATCH: u32 = 0;
+pub const PATCH: u32 = 1;
 
 #[no_mangle]
 pub extern "C" fn order_line_version() -> u32

@@ -8,7 +8,7 @@ use Rattle.crc.specs.Bits.{bytesOf}
 use Rattle.block.specs.Block.{syncSequence}
 use Rattle.line.specs.Order.{letterA}
 use Rattle.line.specs.Receiving.{unfinished, standing, sequence-found, accepts, idle, holding}
-use Rattle.line.specs.BitsUsed.{Uses, LentAgain, none, call}
+use Rattle.line.specs.BitsUsed.{Uses, LentAgain, no-call, call}
 use Rattle.line.specs.declared.receiver.Receiver.{Receiver}
 use Rattle.line.specs.declared.receiving.Phase.the-variants as P
 use Rattle.line.specs.declared.receiving.Event.the-variants as E
@@ -50,10 +50,10 @@ store = replicate 30 255
 
 pub one-call : LentAgain nearly 2 1 1
 unfolding received
-one-call = call last true store (record { rule = accepts; row = zeroBlock letterA; used = 1; state = good 1 false }) refl none
+one-call = call last true store (record { rule = accepts; row = zeroBlock letterA; used = 1; state = good 1 false }) refl no-call
 
 pub two-calls : LentAgain nearly 2 2 0
 unfolding received
 two-calls =
     call last true store (record { rule = accepts; row = zeroBlock letterA; used = 1; state = good 1 false }) refl
-    (call (0 ∷ []) true (replicate 30 0) (record { rule = unfinished; row = []; used = 1; state = holding (good 1 false) (false ∷ []) }) refl none)
+    (call (0 ∷ []) true (replicate 30 0) (record { rule = unfinished; row = []; used = 1; state = holding (good 1 false) (false ∷ []) }) refl no-call)

@@ -1,7 +1,7 @@
 //! The numbers of `include/order_line.h`, by its names without `ORDER_LINE_`. The order line's tests compare the two files.
 
-/// 5.1.0: major * 65536 + minor * 256 + patch.
-pub const VERSION: u32 = 0x050100;
+/// 5.1.1: major * 65536 + minor * 256 + patch.
+pub const VERSION: u32 = 0x050101;
 
 pub const REFUSED_BLOCK: u32 = 1;
 pub const REFUSED_SPEED: u32 = 2;
