@@ -4,7 +4,8 @@ import pathlib
 import re
 import typing
 
-CONTRACT = re.compile(r"^ *(?:requires|ensures) .*", re.MULTILINE)
+FUNCTION = re.compile(r'^ *(?:pub(?:\(crate\))? )?(?:extern "C" )?fn ')
+CLAUSE = re.compile(r"^ *(?:requires|ensures|ghost) ")
 
 
 class Replacement(typing.NamedTuple):
@@ -33,16 +34,28 @@ class Edit(typing.NamedTuple):
                 yield Replacement(file, old, line[len("new:") :].removeprefix(" "))
 
 
+def headers(text):
+    """What a caller sees of the functions of a source file: the lines of each up to the brace that opens its body."""
+    found, inside = [], False
+    for line in text.splitlines():
+        inside = inside or bool(FUNCTION.match(line))
+        if inside:
+            found.append(line)
+        if line.endswith("{") and not CLAUSE.match(line):
+            inside = False
+    return found
+
+
 def edited(crate, edits):
     """The texts of the files in the folder crate with the edits, by path, or none where an edit replaces nothing, is one of
-    a proof, has an old text that is not there once or would change a contract."""
+    a proof, has an old text that is not there once or would change what a caller sees of a function."""
     texts = {}
     for edit in edits:
         replacements = list(edit.replacements())
         for file, old, new in replacements:
             path = crate / file
             text = texts.get(path) or (path.read_text() if path.is_file() else "")
-            if file.startswith("proofs/") or text.count(old) != 1 or CONTRACT.findall(text) != CONTRACT.findall(text.replace(old, new)):
+            if file.startswith("proofs/") or text.count(old) != 1 or headers(text) != headers(text.replace(old, new)):
                 return {}
             texts[path] = text.replace(old, new)
         if not replacements:

@@ -8,6 +8,9 @@ from must_fail.trees import Tree
 from must_fail.verdict import PROVED, REFUSED, Check, judge
 
 
+NOT_TRIED = "it replaces nothing, is one of a proof, has an old text that is not there once, or changes what a caller sees"
+
+
 def line(name, shown, seconds=None):
     """What a check shows of an edit, in words."""
     where = f", first at {shown.where}" if shown.where else ""
@@ -93,7 +96,7 @@ class Trial:
     def left_by_logs(self):
         """The edits that are to be checked here. What is known of the others is said."""
         for edit in self.unfit:
-            self.say(f"/{edit.name}: it replaces nothing, is one of a proof, has an old text that is not there once or changes a contract", fault=True)
+            self.say(f"/{edit.name}: {NOT_TRIED}", fault=True)
         for edit in self.edits:
             shown = self.judged_by_log(edit)
             if shown and shown.what == REFUSED:
