@@ -63,7 +63,7 @@ alarms-fails g =
     false≢true
     (g .alarm (course w₀ before) [] (entry (final w₀ before) (receiving (bytesOf 33 (Two.block 0)) 260 true initialStore)) refl refl)
 
--- ---- marks at the sender alone: item 0's mark is rule 7's matter, and the receiver is back in search each time it comes
+-- ---- marks at the sender alone: item 0's mark is rule 7's matter, and in this list the receiver is then back in search
 
 abbrev block : ℕ → Bits
 block i = itemBits five 240 480 content i
