@@ -260,7 +260,7 @@ uint8_t order_line_open_receiver_with_marks(size_t k, size_t size, uint8_t *stat
  * *used becomes the number of bits taken; the rest is to be lent again. A call with bits above 0 that is not refused
  * takes at least one, so that a loop over the rest ends. Under a standing alarm it takes all of them, returns the alarm
  * again, and the return bit is 1. With bits 0 nothing changes but *used, which becomes 0, and a standing alarm is
- * returned. (How many are taken is proved: BitsUsed, crates/line_c/specs/BitsUsed.antt.)
+ * returned. (How many are taken is proved: UsedTold, crates/line_c/specs/UsedTold.antt.)
  *
  * An accepted block's k bits go to the store at bit k times the items taken before; *length becomes the order's length
  * in bits with ORDER_LINE_EVENT_ENDED, and stays as it is otherwise. The store is the same at each call; for an order of

@@ -1,6 +1,6 @@
 -- Lemmas of the calls for C and Rust; those of one function of the code stand in the folder of its file.
 -- A state's bytes: Flags, Places. What a state's fields may be: Ranges (sender), ReceiverRange. Written and read back: RoundTrip.
--- What a call returns tells whether it was refused: Refused. How many bits a receiving call uses: BitsUsed. Doses as numbers:
+-- What a call returns tells whether it was refused: Refused. How many bits a receiving call tells as used: UsedTold. Doses as numbers:
 -- DoseNumbers; what the tint calls answer: HeldDoses; that they undo each other: TintRoundTrip.
 pub mod Flags
 pub mod Places
@@ -10,5 +10,5 @@ pub mod RoundTrip
 pub mod DoseNumbers
 pub mod HeldDoses
 pub mod Refused
-pub mod BitsUsed
+pub mod UsedTold
 pub mod TintRoundTrip

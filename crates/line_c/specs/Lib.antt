@@ -6,4 +6,4 @@ pub mod TintCalls
 pub mod NoiseCalls
 pub mod Version
 pub mod Refused
-pub mod BitsUsed
+pub mod UsedTold

@@ -9,8 +9,8 @@ use Rattle.line_c.specs.State.{receiverIn}
 use Rattle.line_c.specs.ReceiverCalls.{ReceiveCall}
 use Rattle.line_c.specs.Refused.{isRefusal}
 
-unfoldable pub BitsUsed : Type 0
-BitsUsed =
+unfoldable pub UsedTold : Type 0
+UsedTold =
     (state line : List ℕ) (count : ℕ) (ready : Bool) (store : List ℕ) (used len remainder result : ℕ) (state′ store′ : List ℕ)
     (used′ len′ remainder′ : ℕ)
     → ReceiveCall state line count ready store used len remainder result state′ store′ used′ len′ remainder′

@@ -18,7 +18,7 @@ use Rattle.line.proofs.BitsUsed as Line
 use Rattle.line_c.specs.State.{wordAt, marksIn, holds, holdsReceiver, receiverIn, receiverOf}
 use Rattle.line_c.specs.ReceiverCalls.{receiveIn, receivedState, reportUsed, ReceiveCall}
 use Rattle.line_c.specs.Refused.{isRefusal, isRefused}
-use Rattle.line_c.specs.BitsUsed.{BitsUsed}
+use Rattle.line_c.specs.UsedTold.{UsedTold}
 use Rattle.line_c.proofs.Refused.{refusals-told}
 
 module _ (s : Receiver) (line : List ℕ) (count : ℕ) (ready : Bool) (store : List ℕ) (used : ℕ) where
@@ -34,9 +34,9 @@ module _ (s : Receiver) (line : List ℕ) (count : ℕ) (ready : Bool) (store : 
   held-uses true h = absurd (true≢false h)
   held-uses false h = answer-uses (receive s line count ready store) refl h
 
-pub bits-used : BitsUsed
-unfolding BitsUsed receiverOf
-bits-used state line count ready store used len remainder result state′ store′ used′ len′ remainder′ r n =
+pub used-told : UsedTold
+unfolding UsedTold receiverOf
+used-told state line count ready store used len remainder result state′ store′ used′ len′ remainder′ r n =
     rw (r .uses)
     (held-uses (receiverIn state) line count ready store used (not (holdsReceiver state))
     (sym (refusals-told .receive state line count ready store) ∙ ap isRefusal (sym (r .answers)) ∙ n))
@@ -60,8 +60,8 @@ module _ (phase : ℕ) (line : List ℕ) (count result used : ℕ) where
       (receivedState (bytes phase) (receiveIn line count true [] (receiverOf (bytes phase)))) [] used 0 0
 
   call-uses : Answers → isRefusal result ≡ false → Uses (receiverIn (bytes phase) .phase) count used
-  unfolding BitsUsed
-  call-uses = bits-used (bytes phase) line count true [] 99 0 0 result _ [] used 0 0
+  unfolding UsedTold
+  call-uses = used-told (bytes phase) line count true [] 99 0 0 result _ [] used 0 0
 
 -- in search: 24 bits, and the sequence is found at the sixteenth
 pub search-uses : Uses P.Search 24 16
