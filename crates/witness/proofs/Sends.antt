@@ -14,13 +14,13 @@ use Rattle.line.specs.Sending.{freshSender, openSender, Block, synchronising, i
 use Rattle.line.specs.declared.marks.CodeSize.the-variants as C
 use Rattle.line.specs.declared.sender.Sender.{Sender}
 
-abbrev order : List ℕ
+abbrev pub order : List ℕ
 order = 0xa5 ∷ []
 
-abbrev slice : List ℕ
+abbrev pub slice : List ℕ
 slice = replicate 33 0
 
-abbrev fresh : Sender
+abbrev pub fresh : Sender
 fresh = freshSender 240 8 (marksOf C.NotGiven)
 
 pub opens : openSender 240 200 0 8 C.NotGiven order ≡ done fresh
