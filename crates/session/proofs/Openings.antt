@@ -17,8 +17,7 @@ use Rattle.line.specs.Order.{longestOrder}
 use Rattle.line.specs.LoopTime.{loopTime}
 use Rattle.line.specs.Sending.{unless-refused, freshSender, openSender}
 use Rattle.session.specs.LineOne.{limit}
-use Rattle.session.specs.Session.{speed, loop-ms, code-size}
-use Rattle.session.specs.Run.{orderRoom}
+use Rattle.session.specs.Outcomes.{speed, loop-ms, code-size, orderRoom}
 use Rattle.line.specs.declared.sender.Sender.{Sender}
 use Rattle.session.proofs.Decimal.{below-or}
 use Rattle.session.proofs.Orders.{short-kept}

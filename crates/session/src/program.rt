@@ -1,23 +1,25 @@
-// The run program, a part of its input at a time. What it keeps is made and changed here alone: a caller reads the parts,
-// writes the outputs and decides nothing.
+// The run program, a part of its input at a time: what the session yields, as text. What it keeps is made and changed here
+// alone: a caller reads the parts, writes the outputs and decides nothing.
 ghost use mathlib.Core.Path.{_≡_};
 ghost use mathlib.Core.List.{[]};
-ghost use Prim.Native.Nat.{_+_, _*_, _≤_, _<_, min};
+ghost use Prim.Native.Nat.{_+_, _*_, _≤_, _<_};
 ghost use lib.ListN.{length, take};
-ghost use lib.Seq.{paste};
-ghost use Rattle.session.specs.Text.{room};
-ghost use Rattle.session.specs.Program.{partRoom, keeping, firstTurn, turn, ReadBytes};
+ghost use Rattle.session.specs.Text.{room, textBytes};
+ghost use Rattle.session.specs.Program.{partRoom, keeping, yieldText, counted, numberAfter, firstTurn, turn, Puts, ReadBytes};
 use crate::script::Place;
 use crate::script::Session;
+use crate::script::Yield;
 use crate::script::least;
 use crate::text::Text;
 use crate::text::heading_text;
+use crate::text::outcome_text;
 
-// The bytes of the longest order.
-const ORDER_BYTES: usize = 32_768;
+const LONGEST_ORDER: usize = 262144;
 
-// The bytes of the longest order with its last item filled, over the four block lengths.
-const STORE_BYTES: usize = 33_120;
+const ORDER_BYTES: usize = LONGEST_ORDER / 8;
+
+// The bytes of the longest order in items of 3840 bits, the last one filled: the most over the four block lengths.
+const STORE_BYTES: usize = (LONGEST_ORDER + 3839) / 3840 * 480;
 
 // The most bytes of a part: what one read of the input brings.
 pub const PART_BYTES: usize = 2048;
@@ -27,6 +29,8 @@ const OUTPUT_BYTES: usize = 64 * PART_BYTES;
 
 pub struct Program {
     session: Session,
+    // The number of the next period.
+    number: u64,
     order: [u8; ORDER_BYTES],
     store: [u8; STORE_BYTES],
 }
@@ -47,14 +51,14 @@ pub struct Turn {
 // After the bytes of a part, their texts in the first `len` bytes of an output.
 struct Reached {
     session: Session,
+    number: u64,
     len: usize,
 }
 
 // Puts the text into the output from `at` on, and answers where it ends.
 fn put(text: Text, output: &mut [u8], at: usize) -> usize
     requires { ⌜ at + room ≤ length (now output) ⌝ }
-    ensures { λ r. ⌜ r ≡ at + min (text .len) room ⌝ }
-    ensures { λ _. ⌜ now (output .exit) ≡ paste (now (output .entry)) at (text .bytes) (min (text .len) room) ⌝ }
+    ensures { λ r. ⌜ Puts (textBytes text) (now (output .entry)) at r (now (output .exit)) ⌝ }
 {
     let bytes = text.bytes;
     let n = least(text.len, 64);
@@ -66,27 +70,61 @@ fn put(text: Text, output: &mut [u8], at: usize) -> usize
     at + n
 }
 
+// Puts what was yielded into the output from `at` on, and answers where it ends.
+fn put_yield(number: u64, yielded: Yield, output: &mut [u8], at: usize) -> usize
+    requires { ⌜ at + room ≤ length (now output) ⌝ }
+    ensures { λ r. ⌜ Puts (yieldText number yielded) (now (output .entry)) at r (now (output .exit)) ⌝ }
+{
+    match yielded {
+        Yield::Nothing => at,
+        Yield::Outcome(outcome) => put(outcome_text(number, outcome), output, at),
+    }
+}
+
+fn next_number(n: u64) -> u64
+    ensures { λ r. ⌜ r ≡ counted n ⌝ }
+{
+    if n < u64::MAX { n + 1 } else { n }
+}
+
+fn number_after(number: u64, yielded: Yield) -> u64
+    ensures { λ r. ⌜ r ≡ numberAfter number yielded ⌝ }
+{
+    match yielded {
+        Yield::Nothing => number,
+        Yield::Outcome(_) => next_number(number),
+    }
+}
+
+// The bytes of a part, from the session and the period's number that the last part left.
 fn read_bytes(
     session: Session,
+    first: u64,
     part: &[u8],
     order: &mut [u8],
     store: &mut [u8],
     output: &mut [u8],
 ) -> Reached
     requires { ⌜ room * length (now part) ≤ length (now output) ⌝ }
-    ensures { λ r. ⌜ ReadBytes (keeping session (now (order .entry)) (now (store .entry))) (now (part .entry)) (now (output .entry)) (keeping (r .session) (now (order .exit)) (now (store .exit))) (r .len) (now (output .exit)) ⌝ }
+    ensures { λ r. ⌜ ReadBytes (keeping session first (now (order .entry)) (now (store .entry))) (now (part .entry)) (now (output .entry)) (keeping (r .session) (r .number) (now (order .exit)) (now (store .exit))) (r .len) (now (output .exit)) ⌝ }
 {
     let mut next = session;
+    let mut number = first;
     let mut len = 0;
     let mut i = 0;
     while i < part.len() {
-        let written = next.read(part[i], order, store);
-        let text = written.text;
-        len = put(text, output, len);
-        next = written.session;
+        let taken = next.read(part[i], order, store);
+        let yielded = taken.yielded;
+        len = put_yield(number, yielded, output, len);
+        number = number_after(number, yielded);
+        next = taken.session;
         i += 1;
     }
-    Reached { session: next, len }
+    Reached {
+        session: next,
+        number,
+        len,
+    }
 }
 
 impl Program {
@@ -99,6 +137,7 @@ impl Program {
         Turn {
             program: Program {
                 session: Session::new(),
+                number: 0,
                 order: [0; ORDER_BYTES],
                 store: [0; STORE_BYTES],
             },
@@ -115,16 +154,17 @@ impl Program {
         let order = self.order;
         let mut store = self.store;
         let mut bytes = [0u8; OUTPUT_BYTES];
-        let written = session.end(&order, &mut store);
-        let text = written.text;
-        let last = written.session;
-        let len = put(text, &mut bytes, 0);
+        let taken = session.end(&order, &mut store);
+        let yielded = taken.yielded;
+        let last = taken.session;
+        let len = put_yield(self.number, yielded, &mut bytes, 0);
         Turn {
             program: Program {
                 session: Session {
                     place: Place::Over,
                     ..last
                 },
+                number: self.number,
                 order,
                 store,
             },
@@ -142,13 +182,22 @@ impl Program {
         let mut order = self.order;
         let mut store = self.store;
         let mut bytes = [0u8; OUTPUT_BYTES];
-        let reached = read_bytes(session, part, &mut order, &mut store, &mut bytes);
+        let reached = read_bytes(
+            session,
+            self.number,
+            part,
+            &mut order,
+            &mut store,
+            &mut bytes,
+        );
         let len = reached.len;
+        let number = reached.number;
         let session = reached.session;
         let over = session.is_over();
         Turn {
             program: Program {
                 session,
+                number,
                 order,
                 store,
             },

@@ -1,17 +1,15 @@
-// A session read from its input one byte at a time: line one, then a line for each period.
+// A session read from its input one byte at a time: line one, then a line for each period. A byte yields nothing, a refusal or
+// a period's line, as data; how it is written is for the caller.
 ghost use mathlib.Core.Path.{_≡_};
 ghost use Prim.Native.Nat.{min};
 ghost use lib.ListN.{length};
-ghost use Rattle.session.specs.Session.{fresh, quiet, refusedAt, receiverOpened, opens, counted, afterPeriod, periodWritten, coursed, kindAt, lineOneRead, over, Take, End};
+ghost use Rattle.session.specs.Session.{fresh, quiet, refusedAt, receiverOpened, opens, afterPeriod, periodTaken, coursed, kindAt, lineOneRead, over, Take, End};
 ghost use Rattle.session.specs.LineOne.{nextOrder};
 ghost use Rattle.line.specs.Receiving.{openReceiver};
 use crate::line_one::LineOne;
 use crate::period::Kind;
 use crate::period::Outcome;
 use crate::period::run_period;
-use crate::text::Text;
-use crate::text::outcome_text;
-use crate::text::refused_text;
 use line::marks::CodeSize;
 use line::marks::Marks;
 use line::receiver::Opening;
@@ -41,26 +39,22 @@ pub struct Session {
     pub opening: LineOne,
     pub sender: Sender,
     pub receiver: Receiver,
-    // The number of the next period.
-    pub period: u64,
 }
 
-pub struct Written {
+pub enum Yield {
+    Nothing,
+    Outcome(Outcome),
+}
+
+pub struct Taken {
     pub session: Session,
-    // What is to be written.
-    pub text: Text,
+    pub yielded: Yield,
 }
 
 pub fn least(a: usize, b: usize) -> usize
     ensures { λ r. ⌜ r ≡ min a b ⌝ }
 {
     if a < b { a } else { b }
-}
-
-fn next_period(n: u64) -> u64
-    ensures { λ r. ⌜ r ≡ counted n ⌝ }
-{
-    if n < u64::MAX { n + 1 } else { n }
 }
 
 // What the first byte of a line says.
@@ -109,33 +103,32 @@ impl Session {
                 finished: false,
             },
             receiver,
-            period: 0,
         }
     }
 
-    fn quiet(self, place: Place) -> Written
+    fn quiet(self, place: Place) -> Taken
         ensures { λ r. ⌜ r ≡ quiet self place ⌝ }
     {
-        Written {
+        Taken {
             session: Session { place, ..self },
-            text: Text::new(),
+            yielded: Yield::Nothing,
         }
     }
 
     // A refusal ends the run.
-    fn refused(self, number: u8) -> Written
+    fn refused(self, number: u8) -> Taken
         ensures { λ r. ⌜ r ≡ refusedAt self number ⌝ }
     {
-        Written {
+        Taken {
             session: Session {
                 place: Place::Over,
                 ..self
             },
-            text: refused_text(number),
+            yielded: Yield::Outcome(Outcome::Refused(number)),
         }
     }
 
-    fn open_receiver(self, sender: Sender) -> Written
+    fn open_receiver(self, sender: Sender) -> Taken
         ensures { λ r. ⌜ r ≡ receiverOpened self sender (openReceiver (self .opening .k) CodeSize.NotGiven) ⌝ }
     {
         let opening = self.opening;
@@ -144,21 +137,20 @@ impl Session {
         let answer = opened.answer;
         match answer {
             Opening::Refused(number) => self.refused(number),
-            Opening::Opened => Written {
+            Opening::Opened => Taken {
                 session: Session {
                     place: Place::LineStart,
                     opening,
                     sender,
                     receiver,
-                    period: 0,
                 },
-                text: Text::new(),
+                yielded: Yield::Nothing,
             },
         }
     }
 
     // Line one ends: both ends are opened, the sender first.
-    fn open(self, order: &[u8]) -> Written
+    fn open(self, order: &[u8]) -> Taken
         ensures { λ r. ⌜ r ≡ opens self (now (order .entry)) ⌝ }
     {
         let opening = self.opening;
@@ -181,8 +173,8 @@ impl Session {
     }
 
     // A line of a kind ends: a period.
-    fn line(self, kind: Kind, order: &[u8], store: &mut [u8]) -> Written
-        ensures { λ r. ⌜ r ≡ periodWritten self (coursed self kind (now (order .entry)) (now (store .entry))) ⌝ }
+    fn line(self, kind: Kind, order: &[u8], store: &mut [u8]) -> Taken
+        ensures { λ r. ⌜ r ≡ periodTaken self (coursed self kind (now (order .entry)) (now (store .entry))) ⌝ }
         ensures { λ _. ⌜ now (store .exit) ≡ coursed self kind (now (order .entry)) (now (store .entry)) .store ⌝ }
     {
         let opening = self.opening;
@@ -193,36 +185,35 @@ impl Session {
         let sender = period.sender;
         let receiver = period.receiver;
         let outcome = period.outcome;
-        Written {
+        Taken {
             session: Session {
                 place: after_period(outcome),
                 opening,
                 sender,
                 receiver,
-                period: next_period(self.period),
             },
-            text: outcome_text(self.period, outcome),
+            yielded: Yield::Outcome(outcome),
         }
     }
 
-    fn read_line_one(self, c: u8, order: &mut [u8]) -> Written
+    fn read_line_one(self, c: u8, order: &mut [u8]) -> Taken
         ensures { λ r. ⌜ r ≡ lineOneRead self c (length (now (order .entry))) ⌝ }
         ensures { λ _. ⌜ now (order .exit) ≡ nextOrder (self .opening) (self .opening .place) c (now (order .entry)) ⌝ }
     {
         let opening = self.opening;
         let opening = opening.read(c, order);
-        Written {
+        Taken {
             session: Session {
                 place: Place::LineOne,
                 opening,
                 ..self
             },
-            text: Text::new(),
+            yielded: Yield::Nothing,
         }
     }
 
-    // What a byte of input brings: the session after it and what is to be written.
-    pub fn read(self, c: u8, order: &mut [u8], store: &mut [u8]) -> Written
+    // What a byte of input brings: the session after it and what it yields.
+    pub fn read(self, c: u8, order: &mut [u8], store: &mut [u8]) -> Taken
         ensures { λ r. ⌜ Take self c (now (order .entry)) (now (store .entry)) r (now (order .exit)) (now (store .exit)) ⌝ }
     {
         let place = self.place;
@@ -245,7 +236,7 @@ impl Session {
     }
 
     // What the end of the input brings: a last line with no newline counts.
-    pub fn end(self, order: &[u8], store: &mut [u8]) -> Written
+    pub fn end(self, order: &[u8], store: &mut [u8]) -> Taken
         ensures { λ r. ⌜ End self (now (order .entry)) (now (store .entry)) r (now (store .exit)) ⌝ }
     {
         let place = self.place;

@@ -7,6 +7,7 @@ use native.Mathlib.Numerals.{add-one}
 use native.Mathlib.Omega.{arith}
 use lib.ListN.{length, getD, set}
 use lib.Seq.{paste, paste-zero, paste-suc, length-paste}
+use Rattle.session.proofs.Outputs.{puts-text}
 use Rattle.session.proofs.program.put.Statement.{statement}
 use Rattle.session.proofs.program.put.Tie as tie
 
@@ -16,9 +17,6 @@ same d b l at i h g e = ap length e ∙ length-paste d at b i h g
 turn : (d b l : List ℕ) (at i : ℕ) → at + i < length d → i < length b → l ≡ paste d at b i
     → set l (at + i) (getD b i 0) ≡ paste d at b (i + 1)
 turn d b l at i h g e = rw (e, add-one) (paste-suc d at b i 0 h g)
-
-whole : (d b l : List ℕ) (at i n m : ℕ) → i ≡ n → n ≡ m → l ≡ paste d at b i → l ≡ paste d at b m
-whole d b l at i n m h g e = rw (h, g) at e
 
 abbrev Inv-loop : tie.InvT-loop
 Inv-loop output₀ at bytes n i₀ output i =
@@ -73,7 +71,9 @@ returns : tie.Need-returns Inv-loop μ-loop
 returns c =
     let l = c .before .loop in
     let a = c .before .before .before .before .before .args in
-    (omega arith, whole (a .output .now) (a .text .bytes) (l .output) (a .at) (l .i) _ _ (omega arith) (c .before .before .least .ensures) (l .inv .4))
+    let n = c .before .before .least in
+    let e : l .i ≡ n .result = omega arith in
+    puts-text (a .text) (search needs) (a .output .now) (a .at) (n .result) (l .output) (n .ensures) (rw e at (l .inv .4))
 
 pub put-spec : {M : Type 1} → statement M
 put-spec =

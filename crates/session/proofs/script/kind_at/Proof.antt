@@ -1,6 +1,6 @@
 -- `kind_at` meets its contract. Assumes nothing.
 use borrow.Author.Tests.{ne-eqb}
-use Rattle.session.specs.Session.{letterKind}
+use Rattle.session.specs.Outcomes.{letterKind}
 use Rattle.session.proofs.script.kind_at.Statement.{statement}
 use Rattle.session.proofs.script.kind_at.Tie as tie
 

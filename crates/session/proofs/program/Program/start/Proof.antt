@@ -1,31 +1,28 @@
 -- `Program::start` meets its contract. Assumes nothing.
 use borrow.Author.Needs.{needs}
-use mathlib.Core.Path.{_≡_, ap, _∙_}
+use mathlib.Core.Path.{_≡_}
 use mathlib.Core.Bool.{false}
 use mathlib.Core.List.{List}
-use Prim.Native.Nat.{ℕ, _+_, min}
-use lib.ListN.{length, drop, replicate}
-use lib.Seq.{paste, take-append-seam}
-use Rattle.session.specs.Program.{keeping, outputRoom, firstTurn}
-use Rattle.session.specs.Run.{orderRoom, storeRoom}
+use Prim.Native.Nat.{ℕ}
+use lib.ListN.{replicate}
+use Rattle.session.specs.Program.{keeping, outputRoom, Puts, firstTurn}
+use Rattle.session.specs.Outcomes.{orderRoom, storeRoom}
 use Rattle.session.specs.Session.{fresh}
-use Rattle.session.specs.Text.{room, textBytes, holding, heading}
+use Rattle.session.specs.Text.{textBytes, holding, heading}
 use Rattle.session.specs.declared.script.Session.{Session}
 use Rattle.session.specs.declared.text.Text.{Text}
-use Rattle.session.proofs.Outputs.{made, made-of, put-first}
+use Rattle.session.proofs.Outputs.{puts-held, puts-first, made, made-of}
 use Rattle.session.proofs.program.Program.start.Statement.{statement}
 use Rattle.session.proofs.program.Program.start.Tie as tie
 
 -- the heading put into the output, and a new session
-begun : (s : Session) (text : Text) (bytes : List ℕ) (len : ℕ) → s ≡ fresh → text ≡ holding heading → length (text .bytes) ≡ room
-    → bytes ≡ paste (replicate outputRoom 0) 0 (text .bytes) (min (text .len) room) → len ≡ 0 + min (text .len) room
-    → made (keeping s (replicate orderRoom 0) (replicate storeRoom 0)) bytes len false ≡ firstTurn
+begun : (s : Session) (text : Text) (bytes : List ℕ) (len : ℕ) → s ≡ fresh → text ≡ holding heading
+    → Puts (textBytes text) (replicate outputRoom 0) 0 len bytes
+    → made (keeping s 0 (replicate orderRoom 0) (replicate storeRoom 0)) bytes len false ≡ firstTurn
 unfolding fresh
-begun s text bytes len e t h b l =
-    let f = put-first text h (replicate outputRoom 0) bytes len b l in
-    let g : textBytes text ≡ heading =
-    ap textBytes t ∙ take-append-seam heading (drop (length heading) (replicate room 0)) in
-    rw e (made-of (keeping fresh (replicate orderRoom 0) (replicate storeRoom 0)) heading bytes len false (rw g at (f .0)) (rw g at (f .1)))
+begun s text bytes len e t p =
+    let f = puts-first {text = heading} (puts-held t p) in
+    rw e (made-of (keeping fresh 0 (replicate orderRoom 0) (replicate storeRoom 0)) heading bytes len false (f .0) (f .1))
 
 heading-text-requires : tie.Need-heading-text-requires
 heading-text-requires c κs = search needs
@@ -42,9 +39,7 @@ new-requires c κs = search needs
 returns : tie.Need-returns
 returns c =
     let t = c .before .before .before .before .heading-text in
-    let n : length (t .result .bytes) ≡ 64 = search needs in
-    begun (c .new .result) (t .result) _ (c .before .before .put .result) (c .new .ensures) (t .ensures) n
-    (c .before .before .put .ensures .1) (c .before .before .put .ensures .0)
+    begun (c .new .result) (t .result) _ (c .before .before .put .result) (c .new .ensures) (t .ensures) (c .before .before .put .ensures)
 
 pub start-spec : {M : Type 1} → statement M
 start-spec =

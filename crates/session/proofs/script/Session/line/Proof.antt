@@ -22,23 +22,18 @@ run-period-requires c κs = search needs
 after-period-requires : tie.Need-after-period-requires
 after-period-requires c κs = search needs
 
-next-period-requires : tie.Need-next-period-requires
-next-period-requires c κs = search needs
-
-outcome-text-requires : tie.Need-outcome-text-requires
-outcome-text-requires c κs = search needs
-
 same-length : tie.Need-same-length
 same-length c = search needs
 
 returns : tie.Need-returns
 returns c =
-    let a = c .before .before .before .before .before .before .before .before .before .before .before .before .before .before .before .before .args in
-    let l : take (c .before .before .before .before .before .before .before .before .before .before .before .before .least .result) (a .order .now) ≡ orderOf (a .self) (a .order .now) =
-    ap (λ (n : _). take n (a .order .now)) (c .before .before .before .before .before .before .before .before .before .before .before .before .least .ensures) ∙ take-least (a .self .opening .kept) (a .order .now) in
-    let p = c .before .before .before .before .before .before .before .run-period .ensures in
+    let a = c .before .before .before .before .before .before .before .before .before .before .before .before .before .before .args in
+    let n = c .before .before .before .before .before .before .before .before .before .before .least in
+    let l : take (n .result) (a .order .now) ≡ orderOf (a .self) (a .order .now) =
+    ap (λ (m : _). take m (a .order .now)) (n .ensures) ∙ take-least (a .self .opening .kept) (a .order .now) in
+    let p = c .before .before .before .before .before .run-period .ensures in
     let r = rw l at (p .answers) in
-    (rw (c .before .before .after-period .ensures, c .before .next-period .ensures, c .outcome-text .ensures, r), rw l at (p .writes))
+    (rw (c .after-period .ensures, r), rw l at (p .writes))
 
 pub line-spec : {M : Type 1} → statement M
 line-spec =
@@ -48,7 +43,5 @@ line-spec =
     slice-aggregate-run-period
     run-period-requires
     after-period-requires
-    next-period-requires
-    outcome-text-requires
     same-length
     returns)

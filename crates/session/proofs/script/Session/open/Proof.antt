@@ -9,7 +9,8 @@ use Rattle.block.specs.Answer.{Answer, refused, done}
 use Rattle.line.specs.Sending.{openSender, openedAnswer}
 use Rattle.line.specs.declared.sender.Sender.{Sender}
 use Rattle.session.specs.LineOne.{readable}
-use Rattle.session.specs.Session.{speed, loop-ms, code-size, orderOf, opens}
+use Rattle.session.specs.Outcomes.{speed, loop-ms, code-size}
+use Rattle.session.specs.Session.{orderOf, opens}
 use Rattle.session.proofs.Parts.{take-least}
 use borrow.Author.Needs.{needs}
 use Rattle.session.proofs.script.Session.open.Statement.{statement}

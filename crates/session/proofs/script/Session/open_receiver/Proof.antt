@@ -2,7 +2,7 @@
 use mathlib.Core.Path.{_≡_, sym, ap, _∙_}
 use Rattle.block.specs.Answer.{refused, done}
 use Rattle.line.specs.Receiving.{openReceiver, openingAnswer}
-use Rattle.session.specs.Session.{code-size}
+use Rattle.session.specs.Outcomes.{code-size}
 use borrow.Author.Needs.{needs}
 use Rattle.session.proofs.script.Session.open_receiver.Statement.{statement}
 use Rattle.session.proofs.script.Session.open_receiver.Tie as tie
@@ -19,9 +19,6 @@ refused-requires c κs = search needs
 enum-told : tie.Need-enum-told
 enum-told c = search needs
 
-new-requires : tie.Need-new-requires
-new-requires c κs = search needs
-
 returns : tie.Need-returns
 returns c =
     let o = c .before .before .before .before .before .«open» .ensures in
@@ -30,9 +27,9 @@ returns c =
 
 returns-2 : tie.Need-returns-2
 returns-2 c =
-    let o = c .before .before .before .before .«open» .ensures in
-    let e : openReceiver (c .before .before .before .before .before .before .args .self .opening .k) code-size ≡ done tt = sym (o .answers) ∙ ap openingAnswer (c .before .enum-told .given .1) in
-    rw (o .state, e, c .new .ensures)
+    let o = c .before .before .before .«open» .ensures in
+    let e : openReceiver (c .before .before .before .before .before .args .self .opening .k) code-size ≡ done tt = sym (o .answers) ∙ ap openingAnswer (c .enum-told .given .1) in
+    rw (o .state, e)
 
 pub open-receiver-spec : {M : Type 1} → statement M
 open-receiver-spec =
@@ -42,6 +39,5 @@ open-receiver-spec =
     enum-known-answer
     refused-requires
     enum-told
-    new-requires
     returns
     returns-2)
