@@ -5,8 +5,8 @@ use mathlib.Core.List.{List, [], _∷_, _++_}
 use Prim.Native.Nat.{ℕ, _+_, _*_, _/_, _^_, _≤_, _<_}
 use native.Mathlib.Nat.{mod-eq-of-lt}
 use native.Mathlib.Omega.{arith}
-use borrow.Author.Tests.{eq-eqb, ne-eqb, le-leb, lt-leb}
-use lib.Dec.{eqb, leb}
+use borrow.Author.Tests.{eq-eqb, ne-eqb}
+use lib.Dec.{eqb}
 use lib.ListN.{length, take, drop, getD, length-append}
 use lib.Seq.{take-at, drop-at, length-take-le}
 use Rattle.crc.specs.Bits.{Bits, binary, number, numberFrom, bitsOf}
@@ -16,7 +16,7 @@ use Rattle.block.specs.Lengths.{isLength, blockLength}
 use Rattle.block.specs.Block.{serviceOf, serviceSync, syncSequence}
 use Rattle.block.proofs.Lengths.{length-facts}
 use Rattle.block.proofs.Packing.{service-number, block-parts}
-use Rattle.line.specs.Order.{longestOrder, validLength, version}
+use Rattle.line.specs.Order.{validLength, version}
 use Rattle.line.specs.Receiving.{Rule, ends, wrong-length, makesItems, lengthRule, endRule, looksSync}
 
 -- one byte more of a number
@@ -60,20 +60,14 @@ module _ (s : List ℕ) (h : 5 ≤ length s) (b : getD s 0 0 < 256) where
 -- ---- rule 6: the version read, its length against the items taken
 
 module _ (k r L : ℕ) where
-  pub length-zero : L ≡ 0 → lengthRule k r true L ≡ wrong-length
-  unfolding validLength
-  length-zero e = rw e
-
-  pub length-long : longestOrder < L → lengthRule k r true L ≡ wrong-length
-  unfolding validLength
-  length-long h = rw (lt-leb L longestOrder h, and-false (leb 1 L))
+  pub length-invalid : validLength L ≡ false → lengthRule k r true L ≡ wrong-length
+  length-invalid e = rw e
 
   pub length-other : makesItems k L r ≡ false → lengthRule k r true L ≡ wrong-length
   length-other e = rw (e, and-false (validLength L))
 
-  pub length-valid : 1 ≤ L → L ≤ longestOrder → makesItems k L r ≡ true → lengthRule k r true L ≡ ends L
-  unfolding validLength
-  length-valid h g e = rw (e, le-leb 1 L h, le-leb L longestOrder g)
+  pub length-valid : validLength L ≡ true → makesItems k L r ≡ true → lengthRule k r true L ≡ ends L
+  length-valid h e = rw (h, e)
 
   module _ (ended : Bool) (s : List ℕ) (h : 5 ≤ length s) (b : getD s 0 0 < 256) (open-end : ended ≡ false) (v : getD s 0 0 ≡ version)
       (l : L ≡ number (take 32 (drop 8 (bitsOf s)))) where

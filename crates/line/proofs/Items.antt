@@ -3,9 +3,9 @@ use mathlib.Core.Path.{_≡_, refl, ap, ap₂, sym, _∙_}
 use mathlib.Core.Bool.{Bool, true, false, cond}
 use mathlib.Core.List.{List, _++_}
 use Prim.Native.Nat.{ℕ, zero, suc, _+_, _-_, _*_, _≤_, _<_}
-use native.Mathlib.Nat.{div-mul-le-self, lt-div-mul-add, mul-le-mul, mul-le-mul-right, le-div-iff-mul-le}
+use native.Mathlib.Nat.{div-mul-le-self, lt-div-mul-add, mul-le-mul, mul-le-mul-right}
 use native.Mathlib.Omega.{arith}
-use borrow.Author.Tests.{leb-true, ltb-true, lt-ltb, le-ltb}
+use borrow.Author.Tests.{leb-true, le-leb, lt-leb, ltb-true, lt-ltb, le-ltb}
 use lib.Dec.{leb}
 use lib.ListN.{length, take, drop, length-append, length-drop, length-replicate}
 use lib.Seq.{length-take-le, take-add}
@@ -17,19 +17,31 @@ use Rattle.block.specs.Lengths.{isLength, blockLength}
 use Rattle.block.specs.Block.{blockBits, serviceOf, payloadOf}
 use Rattle.block.proofs.Lengths.{length-facts}
 use Rattle.block.proofs.Block.{length-blockBits, passes-blockBits, service-blockBits, payload-blockBits}
-use Rattle.block.proofs.Truth.{and-left, and-right, cond-case}
+use Rattle.block.proofs.Truth.{and-right, and-no, cond-case}
 use Rattle.line.specs.declared.marks.Marks.{Marks}
 use Rattle.line.proofs.ServiceBits.{service-lt16, service-not-sync}
 use Rattle.line.specs.Order.{longestOrder, mostItems, validLength, itemCount, endService, dataService, orderBits, filled, version, endPayload, isData, itemService, itemPayload, itemBits}
 
--- ---- the number of items
+-- ---- a length that an order may have
 
-pub valid-length : (L : ℕ) → validLength L ≡ true → (1 ≤ L) × (L ≤ longestOrder)
+pub valid-most : (L : ℕ) → validLength L ≡ true → L ≤ longestOrder
 unfolding validLength
-valid-length L h = (
-  leb-true 1 L (and-left (leb 1 L) (leb L longestOrder) h),
-  leb-true L longestOrder (and-right (leb 1 L) (leb L longestOrder) h),
-)
+valid-most L h = leb-true L longestOrder (and-right (leb 1 L) (leb L longestOrder) h)
+
+-- as the code tests it
+pub long-invalid : (L : ℕ) → longestOrder < L → validLength L ≡ false
+unfolding validLength
+long-invalid L h = simp (lt-leb L longestOrder h, and-no (leb 1 L))
+
+pub empty-invalid : (L : ℕ) → L ≡ 0 → validLength L ≡ false
+unfolding validLength
+empty-invalid L e = rw e
+
+pub other-valid : (L : ℕ) → (L ≡ 0 → ⊥) → L ≤ longestOrder → validLength L ≡ true
+unfolding validLength
+other-valid L n h = let one : 1 ≤ L = omega arith in simp (le-leb 1 L one, le-leb L longestOrder h)
+
+-- ---- the number of items
 
 -- the items hold the order, and one item fewer would not
 pub itemCount-holds : (k L : ℕ) → 0 < k → L ≤ itemCount k L * k
@@ -39,10 +51,6 @@ itemCount-holds k L h = let d = lt-div-mul-add {a = L + k - 1} {b = k} h in omeg
 pub itemCount-least : (k L : ℕ) → 0 < k → itemCount k L * k < L + k
 unfolding itemCount
 itemCount-least k L h = let d = div-mul-le-self (L + k - 1) k in omega arith
-
-pub itemCount-pos : (k L : ℕ) → 0 < k → 1 ≤ L → 1 ≤ itemCount k L
-unfolding itemCount
-itemCount-pos k L h g = le-div-iff-mul-le {k = k} {x = 1} {y = L + k - 1} h .1 (omega arith)
 
 -- item i of the data items ends within them
 pub item-within : (i n k : ℕ) → i < n → i * k + k ≤ n * k
@@ -57,7 +65,7 @@ pub itemCount-fits : (k L : ℕ) → isLength k ≡ true → validLength L ≡ t
 itemCount-fits k L h v =
     let f = length-facts k h in
     let d = itemCount-least k L (omega arith) in
-    let w = valid-length L v in
+    let w = valid-most L v in
     most (itemCount k L) k (f .1) (omega arith)
 
 -- ---- lengths

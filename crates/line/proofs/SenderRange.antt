@@ -28,10 +28,9 @@ use Rattle.line.specs.declared.sender.Next.the-variants.{Sync, Older, Ne
 use Rattle.line.specs.declared.sender.Opened.the-variants as O
 use Rattle.line.specs.declared.sender.Sent.the-variants as W
 use Rattle.line.specs.declared.sender.Step.{Step}
-use Rattle.block.proofs.Lengths.{length-facts}
 use Rattle.block.proofs.Truth.{and-left, and-right, or-false}
 use Rattle.block.proofs.Refusals.{passed-test}
-use Rattle.line.proofs.Items.{valid-length, itemCount-pos}
+use Rattle.line.proofs.Items.{other-valid}
 
 -- ---- what the range says
 
@@ -98,18 +97,16 @@ pub record Openable (k L : ℕ) (size : CodeSize) (order : List ℕ) (s : Sender
 
 pub opened : (k speed loop-ms L : ℕ) (size : CodeSize) (order : List ℕ) (s : Sender)
     → openSender k speed loop-ms L size order ≡ done s → Openable k L size order s
-unfolding openSender validLength
+unfolding openSender
 opened k speed loop-ms L size order s e =
     let p = passed-refusal (loopTime k speed loop-ms) _ s e in
     let q = passed-test (eqb L 0) Refusals.empty _ s (p .1) in
     let r = passed-test (ltb longestOrder L) Refusals.long _ s (q .1) in
     let m = passed-test (not (marksInRange (marksOf size))) Refusals.code-size _ s (r .1) in
     let t = passed-test (tooShort order L) A.short _ s (m .1) in
-    let n = eqb-false L 0 (q .0) in
-    let one : 1 ≤ L = omega arith in
     record {
       known = loop-goes k speed loop-ms (p .0 .0) (p .0 .1);
-      valid = simp (le-leb 1 L one, le-leb L longestOrder (ltb-false longestOrder L (r .0)));
+      valid = other-valid L (eqb-false L 0 (q .0)) (ltb-false longestOrder L (r .0));
       marks = not-false (marksInRange (marksOf size)) (m .0);
       lent = ltb-false (8 * length order) L (t .0);
       state = cc (t .1);
@@ -120,9 +117,6 @@ pub opened-in-range : (k speed loop-ms L : ℕ) (size : CodeSize) (order : List 
 unfolding freshSender
 opened-in-range k speed loop-ms L size order s p =
     let o = opened k speed loop-ms L size order s (sym (p .answers)) in
-    let f = length-facts k (o .known) in
-    let v = valid-length L (o .valid) in
-    let n = itemCount-pos k L (omega arith) (v .0) in
     rw (o .state)
     (range-in (freshSender k L (marksOf size))
     (record {

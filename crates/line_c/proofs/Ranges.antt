@@ -16,7 +16,7 @@ use Rattle.line.specs.declared.sender.Next.the-variants.{Sync, Older, Newer}
 use Rattle.line.specs.declared.sender.Sent.{Sent}
 use Rattle.line.specs.declared.sender.Sent.the-variants as W
 use Rattle.line.specs.declared.sender.Step.{Step}
-use Rattle.line.proofs.Items.{valid-length, itemCount-fits}
+use Rattle.line.proofs.Items.{valid-most, itemCount-fits}
 use Rattle.line.proofs.SenderRange.{in-range, opened-in-range, sendable, send-in-range}
 use Rattle.line_c.specs.State.{SenderFits}
 
@@ -29,7 +29,7 @@ pub sender-fits : (s : Sender) → senderInRange s ≡ true → SenderFits s
 sender-fits s h =
     let r = in-range s h in
     let k = length-facts (s .setup .k) (r .known) in
-    let L = valid-length (s .setup .length) (r .valid) in
+    let L = valid-most (s .setup .length) (r .valid) in
     let n = newer-most s h in
     record { k = omega arith; length = omega arith; newer = omega arith; run = omega (arith, r .cancels) }
 

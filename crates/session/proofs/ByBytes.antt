@@ -15,7 +15,7 @@ use Rattle.block.proofs.Truth.{either}
 use Rattle.line.specs.Marks.{marksOf}
 use Rattle.line.specs.Sending.{openSender, freshSender}
 use Rattle.line.specs.Receiving.{openReceiver, freshReceiver}
-use Rattle.line.proofs.Items.{valid-length}
+use Rattle.line.proofs.Items.{valid-most}
 use Rattle.line.proofs.SenderRange.{opened}
 use Rattle.line.specs.declared.marks.Marks.{Marks}
 use Rattle.line.specs.declared.sender.Sender.{Sender}
@@ -252,7 +252,7 @@ keep-course (some o) ls =
     by-answer (done s) e =
         let g = opened (o .k) speed loop-ms (o .order .bits) code-size (o .order .bytes) s e in
         let f = length-facts (o .k) (g .known) in
-        let v = valid-length (o .order .bits) (g .valid) in
+        let v = valid-most (o .order .bits) (g .valid) in
         let m : min (o .k) limit ≡ o .k = omega arith in
         let l : s .setup .length ≡ o .order .bits = fresh-length s (o .k) (o .order .bits) _ (g .state) in
         rw m (fresh-kept s (o .k) refl (omega arith) (openReceiver (o .k) code-size))

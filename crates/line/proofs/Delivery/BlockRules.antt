@@ -9,7 +9,7 @@ use native.Mathlib.Omega.{arith}
 use lib.ListN.{length, take, drop, length-append}
 use lib.Seq.{take-at, drop-at}
 use lib.Dec.{eqb, ltb}
-use borrow.Author.Tests.{eqb-true, eqb-false, ltb-true, ltb-false, le-leb, lt-ltb, eq-eqb, ne-eqb}
+use borrow.Author.Tests.{eqb-true, eqb-false, ltb-true, ltb-false, lt-ltb, eq-eqb, ne-eqb}
 use Rattle.crc.specs.Bits.{Bits, bit, number, binary, zeros}
 use Rattle.crc.specs.Check.{remainder, passes}
 use Rattle.crc.proofs.Rows.{length-binary, number-binary}
@@ -25,7 +25,7 @@ use Rattle.line.specs.declared.marks.Marks.{Marks}
 use Rattle.line.specs.declared.receiver.Receiver.{Receiver}
 use Rattle.line.proofs.OrWait.{same-data-or-end}
 use Rattle.line.proofs.ServiceBits.{place-expected, place-last, place-next, by-place}
-use Rattle.line.proofs.Items.{itemService-data, itemService-end, itemService-not-sync, itemPayload-end, service-itemBits, payload-itemBits, passes-itemBits}
+use Rattle.line.proofs.Items.{valid-most, itemCount-fits, itemService-data, itemService-end, itemService-not-sync, itemPayload-end, service-itemBits, payload-itemBits, passes-itemBits}
 use Rattle.line.proofs.Delivery.Ends.{Neighbour}
 
 -- ---- an item that arrives as it was before cancelling, with r items taken
@@ -73,17 +73,16 @@ module _ (k L : ℕ) where
       ∙ ap number (take-at (binary 32 L) (zeros (k - 40)) 32 (length-binary 32 L))
       ∙ number-binary 32 L (omega arith)
 
-  end-read : (in-use : Bool) (r : ℕ) (ended : Bool) (i : ℕ) → 1 ≤ L → L ≤ longestOrder → itemCount k L ≤ i
+  end-read : (in-use : Bool) (r : ℕ) (ended : Bool) (i : ℕ) → validLength L ≡ true → itemCount k L ≤ i
       → Unharmed k L r ended i (serviceRule in-use k r ended endService (endPayload k L))
-  unfolding serviceRule isLetter endRule validLength
-  end-read in-use r ended i low high h =
+  unfolding serviceRule isLetter endRule
+  end-read in-use r ended i valid h =
       cond-case (Unharmed k L r ended i) ended (end-again h)
-      (λ e. rw (end-version, end-length high, le-leb 1 L low, le-leb L longestOrder high)
+      (λ e. rw (end-version, end-length (valid-most L valid), valid)
       (cond-case (Unharmed k L r ended i) (makesItems k L r) (λ c. end-all h e (sym (eqb-true (itemCount k L) r c)))
       (λ c. end-short h e (λ m. eqb-false (itemCount k L) r c (sym m)))))
 
-module _ (m : Marks) (k L : ℕ) (content : Bits) (known : isLength k ≡ true) (low : 1 ≤ L) (high : L ≤ longestOrder)
-    (long : length content ≡ L) where
+module _ (m : Marks) (k L : ℕ) (content : Bits) (known : isLength k ≡ true) (long : length content ≡ L) where
   which : (i : ℕ) → (i < itemCount k L) ⊎ (itemCount k L ≤ i)
   which i =
       ⊎-elim (λ e. inl (ltb-true i (itemCount k L) e)) (λ e. inr (ltb-false i (itemCount k L) e)) (either (ltb i (itemCount k L)))
@@ -100,17 +99,17 @@ module _ (m : Marks) (k L : ℕ) (content : Bits) (known : isLength k ≡ true) 
   item-read r ended i =
       rw (item-never-sync i, passes-itemBits m k L content i, service-itemBits m k L i content, payload-itemBits k L content known long m i) refl
 
-  unharmed : (r : ℕ) (ended : Bool) (i : ℕ) → itemCount k L ≤ mostItems → (i < itemCount k L → Neighbour r (bit ended) i)
-      → (i < itemCount k L) ⊎ (itemCount k L ≤ i)
-      → Unharmed k L r ended i (serviceRule (m .«in_use») k r ended (itemService m k L i) (itemPayload k L content i))
-  unharmed r ended i few b (inl h) =
-      rw (itemService-data m k L i h) (data-read m k L r i h few ended (itemPayload k L content i) (b h))
-  unharmed r ended i few b (inr h) =
-      rw (itemService-end m k L i h, itemPayload-end k L i content h) (end-read k L (m .«in_use») r ended i low high h)
+  module _ (valid : validLength L ≡ true) (r : ℕ) (ended : Bool) (i : ℕ) (b : i < itemCount k L → Neighbour r (bit ended) i) where
+    unharmed : (i < itemCount k L) ⊎ (itemCount k L ≤ i)
+        → Unharmed k L r ended i (serviceRule (m .«in_use») k r ended (itemService m k L i) (itemPayload k L content i))
+    unharmed (inl h) =
+        rw (itemService-data m k L i h)
+        (data-read m k L r i h (itemCount-fits k L known valid) ended (itemPayload k L content i) (b h))
+    unharmed (inr h) =
+        rw (itemService-end m k L i h, itemPayload-end k L i content h) (end-read k L (m .«in_use») r ended i valid h)
 
-  pub judge-item : (r : ℕ) (ended : Bool) (i : ℕ) → itemCount k L ≤ mostItems
-      → (i < itemCount k L → Neighbour r (bit ended) i) → Unharmed k L r ended i (judge (m .«in_use») k r ended (itemBits m k L content i))
-  judge-item r ended i few b = rw (item-read r ended i) (unharmed r ended i few b (which i))
+    pub judge-item : Unharmed k L r ended i (judge (m .«in_use») k r ended (itemBits m k L content i))
+    judge-item = rw (item-read r ended i) (unharmed (which i))
 
 -- ---- a block that fails the check
 

@@ -6,7 +6,7 @@ use mathlib.Core.List.{List, [], _∷_, _++_}
 use Prim.Native.Nat.{ℕ, _+_, _*_}
 use native.Mathlib.Omega.{arith}
 use lib.ListN.{length, take}
-use borrow.Author.Tests.{le-leb, eq-eqb}
+use borrow.Author.Tests.{eq-eqb}
 use Rattle.crc.specs.Bits.{Bits, bit, bitsOf, xorBits}
 use Rattle.crc.specs.Damage.{Damage}
 use Rattle.block.specs.Answer as A
@@ -15,19 +15,19 @@ use Rattle.block.specs.Answer.{Answer, refused, done}
 use Rattle.block.specs.Lengths.{isLength, blockLength}
 use Rattle.block.specs.Calls.{tooShort}
 use Rattle.block.proofs.Truth.{cond-case, or-false, or-no}
-use Rattle.line.specs.Order.{longestOrder, validLength, itemCount, orderBits}
+use Rattle.line.specs.Order.{validLength, itemCount, orderBits}
 use Rattle.line.specs.Sending.{Block, transmit, gaveUp, send, senderInRange, plainBits}
 use Rattle.line.specs.Receiving.{meaning, Reception, byPhase, idleRule, idle, reception, receive, receiverInRange, heldInRange}
 use Rattle.line.specs.Course.{World, Call, sending, receiving, Heard, Entry, receive-refused, onHeard, sendEntry, sendAfter, receiveEntry, receiveAfter, entry, next}
 use Rattle.line.specs.Delivery.{OnlyRefused, isItem, readGood, isNew}
 use Rattle.line.specs.declared.sender.Sender.{Sender}
 use Rattle.line.specs.declared.receiver.Receiver.{Receiver}
+use Rattle.line.proofs.Items.{itemCount-fits}
 use Rattle.line.proofs.SenderRange.{range-in}
 use Rattle.line.proofs.ReceivingCall.{length-lent, range-in as receiver-range-in}
 use Rattle.line.proofs.Delivery.Ends.{LineBlock, Basic, Idle, Busy}
 use Rattle.line.proofs.Delivery.Invariant.{send-keeps, read-keeps}
 use Rattle.line.proofs.Delivery.SendStep.{sends-block, setup-kept, run-kept}
-use Rattle.line.proofs.Delivery.RuleOnLine.{few}
 use Rattle.line.proofs.Delivery.CallOnBlock.{quiet-idle, not-danger, still-same, still-told}
 use Rattle.line.proofs.Delivery.CallByPhase.{reception-guaranteed}
 use Rattle.line.proofs.Delivery.State.{Session, N, Fit, SenderSetup, alarmStands, endsOf, lost′, danger′, Base, IdleLine, BusyLine, Inv, Assumed, Guaranteed, Done, Result, Stays, Begins, Keeps}
@@ -96,14 +96,12 @@ module _ (o : Session) (fit : Fit o) where
   basic-of w l d h = ⊎-elim (λ g. g .idle .basic) (λ g. g .line .busy .basic) (h .phase)
 
   pub sender-in-range : (w : World) (l d : ℕ) → Inv o w l d → senderInRange (w .sender) ≡ true
-  unfolding validLength
   sender-in-range w l d h =
       let b = basic-of w l d h in
       range-in (w .sender)
       (record {
         known = ap isLength (h .base .sender-setup .k) ∙ fit .known;
-        valid = ap validLength (h .base .sender-setup .L)
-            ∙ ap₂ _&&_ (le-leb 1 (o .L) (fit .low)) (le-leb (o .L) longestOrder (fit .high));
+        valid = ap validLength (h .base .sender-setup .L) ∙ fit .valid;
         marks = h .base .sender-setup .in-range;
         first = b .low;
         last = omega (arith, b .high, ap₂ itemCount (h .base .sender-setup .k) (h .base .sender-setup .L));
@@ -113,14 +111,13 @@ module _ (o : Session) (fit : Fit o) where
   pub receiver-in-range : (w : World) (l d : ℕ) → Inv o w l d → receiverInRange (w .receiver) ≡ true
   receiver-in-range w l d h =
       let b = basic-of w l d h in
-      let few′ = few o fit in
       let s = h .base .receiver-setup in
       receiver-range-in (w .receiver)
       (record {
         known = ap isLength (s .k) ∙ fit .known;
         marks = s .in-range;
         bad-row = h .base .bad-row;
-        taken = omega (arith, b .taken, few′);
+        taken = omega (arith, b .taken, itemCount-fits (o .k) (o .L) (fit .known) (fit .valid));
         held = ap (λ (k : ℕ). heldInRange (w .receiver .phase) (blockLength k) (w .receiver .held)) (s .k) ∙ h .base .held;
       })
 

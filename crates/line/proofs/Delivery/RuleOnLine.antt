@@ -3,14 +3,14 @@
 use mathlib.Core.Path.{_≡_, refl, ap, ap₂, sym, _∙_, subst, subst₂}
 use mathlib.Core.Logic.{_⊎_, inl, inr, ⊎-elim}
 use mathlib.Core.Bool.{Bool, true, false, cond, _&&_, true≢false, false≢true}
-use Prim.Native.Nat.{ℕ, _≤_, _<_}
+use Prim.Native.Nat.{ℕ, _<_}
 use native.Mathlib.Omega.{arith}
-use borrow.Author.Tests.{eqb-true, le-leb}
+use borrow.Author.Tests.{eqb-true}
 use lib.ListN.{length}
 use Rattle.crc.specs.Bits.{Bits, bit}
 use Rattle.block.specs.Block.{syncBlock}
 use Rattle.block.proofs.Truth.{and-no, cond-case}
-use Rattle.line.specs.Order.{longestOrder, mostItems, validLength, itemCount, itemBits}
+use Rattle.line.specs.Order.{itemCount, itemBits}
 use Rattle.line.specs.Sending.{Block, synchronising, item}
 use Rattle.line.specs.Receiving.{Rule, sequence-found, sync-block, check-fails, accepts, previous, out-of-sequence, ends, wrong-length, ends-again, anything-else, waits, meaning, eventKind, after, judge, orWait}
 use Rattle.line.specs.Course.{World}
@@ -18,7 +18,6 @@ use Rattle.line.specs.Delivery.{isItem, readGood}
 use Rattle.line.specs.declared.receiver.Receiver.{Receiver}
 use Rattle.line.specs.declared.receiving.Phase.the-variants as P
 use Rattle.line.specs.declared.receiving.Event.the-variants as E
-use Rattle.line.proofs.Items.{itemCount-fits}
 use Rattle.line.proofs.OrWait.{same-data-or-end}
 use Rattle.line.proofs.Delivery.Ends.{LineBlock, Reads, During}
 use Rattle.line.proofs.Delivery.Ends as D
@@ -29,11 +28,6 @@ use Rattle.line.proofs.Delivery.BlockRules.{Unharmed, Judged, judged, j
 use Rattle.line.proofs.Delivery.BlockStep.{endsBlock, same-sender, good-in-step, unharmed-reads, waits-reads, fails-reads, other-reads}
 use Rattle.line.proofs.Delivery.State.{Session, N, Fit, alarmStands, endsOf, BusyLine, CopyOf, syncing, whole, damaged}
 use Rattle.line.proofs.Delivery.State as S
-
-pub few : (o : Session) → Fit o → N o ≤ mostItems
-unfolding validLength
-few o fit = itemCount-fits (o .k) (o .L) (fit .known)
-    (ap₂ _&&_ (le-leb 1 (o .L) (fit .low)) (le-leb (o .L) longestOrder (fit .high)))
 
 -- ---- an item as it was before cancelling
 
@@ -200,8 +194,8 @@ module _ (o : Session) (fit : Fit o) (w : World) (l d : ℕ) (copy : Bits) (f : 
         go (whole {i = i} z c) q =
             or-waits i q (ap isItem z) c ready rule
             (subst (λ (y : Bits). Unharmed (o .k) (o .L) (r .taken) (r .ended) i (judge (o .marks .«in_use») (o .k) (r .taken) (r .ended) y)) (sym c)
-            (judge-item (o .marks) (o .k) (o .L) (o .content) (fit .known) (fit .low) (fit .high) (fit .content) (r .taken) (r .ended) i
-            (few o fit) (neighbour (rw q at (line .busy)) (ap bit quiet))))
+            (judge-item (o .marks) (o .k) (o .L) (o .content) (fit .known) (fit .content) (fit .valid) (r .taken) (r .ended) i
+            (neighbour (rw q at (line .busy)) (ap bit quiet))))
         go (damaged {i = i} z p) q =
             ⊎-elim
             (λ y. absurd (not-item z (so (ap (λ (x : Rule). meaning (orWait ready x) .event) y))))

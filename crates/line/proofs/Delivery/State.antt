@@ -11,7 +11,7 @@ use Rattle.crc.specs.Check.{passes}
 use Rattle.block.specs.Lengths.{isLength, blockLength}
 use Rattle.block.specs.Block.{syncBlock}
 use Rattle.line.specs.Marks.{marksInRange}
-use Rattle.line.specs.Order.{longestOrder, itemCount, filled, itemBits}
+use Rattle.line.specs.Order.{validLength, itemCount, filled, itemBits}
 use Rattle.line.specs.Sending.{Block, synchronising, item, lastRun}
 use Rattle.line.specs.Receiving.{arrayBytes, eventKind, lastBad, heldBits, latest, heldInRange}
 pub use Rattle.line.specs.BitsUsed.{alarmStands}
@@ -43,8 +43,7 @@ N o = itemCount (o .k) (o .L)
 -- what the openings make sure of
 pub record Fit (o : Session) : Type 0 where
   pub known : isLength (o .k) ≡ true
-  pub low : 1 ≤ o .L
-  pub high : o .L ≤ longestOrder
+  pub valid : validLength (o .L) ≡ true
   pub content : length (o .content) ≡ o .L
   pub room : N o * o .k ≤ 8 * length (o .initialStore)
 

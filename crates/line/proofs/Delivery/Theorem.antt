@@ -28,7 +28,7 @@ use Rattle.line.specs.declared.sender.Sender.{Sender}
 use Rattle.line.specs.declared.receiver.Receiver.{Receiver}
 use Rattle.line.specs.declared.receiver.Opened as ReceiverOpened
 use Rattle.line.specs.declared.receiver.Opening.the-variants as Opening
-use Rattle.line.proofs.Items.{valid-length, length-orderBits}
+use Rattle.line.proofs.Items.{length-orderBits}
 use Rattle.line.proofs.SenderRange.{Openable, opened as sender-opened}
 use Rattle.line.proofs.Delivery.Ends.{Basic}
 use Rattle.line.proofs.Delivery.Invariant.{opened-idle}
@@ -188,8 +188,7 @@ module _ (k speed loop-ms L : ℕ) (senderSize receiverSize : CodeSize) (order :
   fit =
       record {
         known = opened-well .known;
-        low = valid-length L (opened-well .valid) .0;
-        high = valid-length L (opened-well .valid) .1;
+        valid = opened-well .valid;
         content = length-orderBits L order (opened-well .lent);
         room = h .room;
       }

@@ -2,7 +2,7 @@
 -- Assumes nothing.
 use mathlib.Core.Path.{_≡_, ap, sym, _∙_}
 use mathlib.Core.Bool.{Bool, true, false, true≢false}
-use Prim.Native.Nat.{ℕ, _≤_}
+use Prim.Native.Nat.{ℕ}
 use native.Mathlib.Omega.{arith}
 use lib.ListN.{length}
 use Rattle.crc.specs.Bits.{Bits}
@@ -11,7 +11,7 @@ use Rattle.block.specs.Lengths.{isLength}
 use Rattle.block.specs.Block.{syncBlock}
 use Rattle.block.proofs.Lengths.{length-facts}
 use Rattle.block.proofs.Block.{sync-fails}
-use Rattle.line.specs.Order.{longestOrder, itemService, itemPayload, itemBits}
+use Rattle.line.specs.Order.{itemService, itemPayload, itemBits}
 use Rattle.line.specs.Receiving.{Rule, sync-block, meaning, serviceRule, judge}
 use Rattle.line.specs.declared.marks.Marks.{Marks}
 use Rattle.line.proofs.Delivery.BlockRules.{item-read, judge-sync, service-case}
@@ -24,11 +24,11 @@ service-not-one =
     (λ q. let v : _≡_ {A = ℕ} 0 1 = cc in omega arith)
 
 -- an item is never read by rule 1
-pub item-not-one : (m : Marks) (k L : ℕ) (content : Bits) → isLength k ≡ true → 1 ≤ L → L ≤ longestOrder → length content ≡ L
+pub item-not-one : (m : Marks) (k L : ℕ) (content : Bits) → isLength k ≡ true → length content ≡ L
     → (r : ℕ) (ended : Bool) (i : ℕ) → judge (m .«in_use») k r ended (itemBits m k L content i) ≡ sync-block → ⊥
-item-not-one m k L content known low high long r ended i e =
+item-not-one m k L content known long r ended i e =
     service-not-one (m .«in_use») k r ended (itemService m k L i) (itemPayload k L content i)
-    (sym (item-read m k L content known low high long r ended i) ∙ e)
+    (sym (item-read m k L content known long r ended i) ∙ e)
 
 -- a synchronising block fails the check, and is read by rule 1 alone
 pub sync-not-read : (in-use : Bool) (k r : ℕ) (ended : Bool) → isLength k ≡ true

@@ -9,7 +9,7 @@ use Rattle.block.specs.Calls.{overwritten}
 use Rattle.block.proofs.Lengths.{length-facts}
 use Rattle.line.specs.Order.{itemCount, orderBits}
 use Rattle.line.proofs.ServiceBits.{service-lt16}
-use Rattle.line.proofs.Items.{valid-length, itemBits-end}
+use Rattle.line.proofs.Items.{valid-most, itemBits-end}
 use Rattle.line.proofs.ItemBlocks.{item-start, filled-item, unfilled-item, whole-item, last-item, data-item}
 use Rattle.line.proofs.order.write_item.Statement.{statement}
 use Rattle.line.proofs.order.write_item.Tie as tie
@@ -17,13 +17,13 @@ use Rattle.line.proofs.order.write_item.Tie as tie
 item-count-requires : tie.Need-item-count-requires
 item-count-requires c κs =
     let s = c .before .before in
-    let v = valid-length (s .args .bits) (s .pre .1) in
+    let v = valid-most (s .args .bits) (s .pre .1) in
     (s .pre .0, omega arith)
 
 write-end-requires : tie.Need-write-end-requires
 write-end-requires c κs =
     let s = c .before .before .before .before .before in
-    let v = valid-length (s .args .bits) (s .pre .1) in
+    let v = valid-most (s .args .bits) (s .pre .1) in
     (s .pre .0, omega arith, s .pre .3)
 
 same-length : tie.Need-same-length

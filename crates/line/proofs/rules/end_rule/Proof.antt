@@ -1,10 +1,10 @@
 -- `end_rule` answers rule 6 of an end block's data. Assumes nothing.
 use mathlib.Core.Path.{_≡_, sym, _∙_}
-use native.Mathlib.Omega.{arith}
 use mathlib.Core.Bool.{true}
 use Rattle.crc.specs.Bits.{bitsOf}
 use Rattle.line.specs.Receiving.{Rule, endRule, lengthRule}
-use Rattle.line.proofs.BlockFields.{version-not, length-zero, length-long, length-other, length-valid, end-by-length}
+use Rattle.line.proofs.Items.{empty-invalid, long-invalid, other-valid}
+use Rattle.line.proofs.BlockFields.{version-not, length-invalid, length-other, length-valid, end-by-length}
 use borrow.Author.Needs.{needs}
 use Rattle.line.proofs.rules.end_rule.Statement.{statement}
 use Rattle.line.proofs.rules.end_rule.Tie as tie
@@ -36,10 +36,10 @@ end-length-requires : tie.Need-end-length-requires
 end-length-requires c κs = search needs
 
 returns-3 : tie.Need-returns-3
-returns-3 c = read-length (c .before) _ (length-zero _ _ _ (c .if3 .taken))
+returns-3 c = read-length (c .before) _ (length-invalid _ _ _ (empty-invalid _ (c .if3 .taken)))
 
 returns-4 : tie.Need-returns-4
-returns-4 c = read-length (c .before .before) _ (length-long _ _ _ (c .if4 .taken))
+returns-4 c = read-length (c .before .before) _ (length-invalid _ _ _ (long-invalid _ (c .if4 .taken)))
 
 makes-items-requires : tie.Need-makes-items-requires
 makes-items-requires c κs = search needs
@@ -47,7 +47,7 @@ makes-items-requires c κs = search needs
 returns-5 : tie.Need-returns-5
 returns-5 c =
     read-length (c .before .before .before .before) _
-    (length-valid _ _ _ (omega arith) (c .before .before .if4 .left) (sym (c .before .makes-items .ensures) ∙ c .if5 .taken))
+    (length-valid _ _ _ (other-valid _ (c .before .before .before .if3 .left) (c .before .before .if4 .left)) (sym (c .before .makes-items .ensures) ∙ c .if5 .taken))
 
 returns-6 : tie.Need-returns-6
 returns-6 c = read-length (c .before .before .before .before) _ (length-other _ _ _ (sym (c .before .makes-items .ensures) ∙ c .if5 .left))

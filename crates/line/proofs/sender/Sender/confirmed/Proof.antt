@@ -6,7 +6,7 @@ use Prim.Native.Nat.{ℕ, _+_}
 use native.Mathlib.Omega.{arith}
 use Rattle.line.specs.Sending.{senderItems, atLast}
 use Rattle.line.specs.declared.sender.Sender.{Sender}
-use Rattle.line.proofs.Items.{valid-length, itemCount-fits}
+use Rattle.line.proofs.Items.{valid-most, itemCount-fits}
 use Rattle.line.proofs.SenderRange.{in-range}
 use Rattle.line.proofs.sender.Sender.confirmed.Statement.{statement}
 use Rattle.line.proofs.sender.Sender.confirmed.Tie as tie
@@ -14,7 +14,7 @@ use Rattle.line.proofs.sender.Sender.confirmed.Tie as tie
 item-count-requires : tie.Need-item-count-requires
 item-count-requires c κs =
     let r = in-range (c .before .args .self) (c .before .pre .range) in
-    (r .known, valid-length _ (r .valid) .1)
+    (r .known, valid-most _ (r .valid))
 
 add-if1 : tie.Need-add-if1
 add-if1 c =

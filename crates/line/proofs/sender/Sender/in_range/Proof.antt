@@ -3,29 +3,17 @@ use borrow.Author.Needs.{needs}
 use borrow.Author.Tests.{le-leb, lt-leb, not-true, not-false}
 use mathlib.Core.Path.{_≡_, sym, _∙_}
 use mathlib.Core.Bool.{true, false}
-use Prim.Native.Nat.{ℕ, _+_, _≤_, _<_}
+use Prim.Native.Nat.{_+_, _≤_, _<_}
 use native.Mathlib.Omega.{arith}
 use lib.Dec.{leb}
 use Rattle.block.specs.Lengths.{isLength}
 use Rattle.line.specs.Marks.{marksInRange}
-use Rattle.line.specs.Order.{longestOrder, validLength}
+use Rattle.line.specs.Order.{validLength}
 use Rattle.line.specs.Sending.{senderItems, lastRun, senderInRange}
 use Rattle.line.specs.declared.sender.Sender.{Sender}
-use Rattle.line.proofs.Items.{itemCount-fits}
+use Rattle.line.proofs.Items.{long-invalid, empty-invalid, other-valid, itemCount-fits}
 use Rattle.line.proofs.sender.Sender.in_range.Statement.{statement}
 use Rattle.line.proofs.sender.Sender.in_range.Tie as tie
-
-valid : (L : ℕ) → (L ≡ 0 → ⊥) → L ≤ longestOrder → validLength L ≡ true
-unfolding validLength
-valid L n h = let one : 1 ≤ L = omega arith in simp (le-leb 1 L one, le-leb L longestOrder h)
-
-empty : (L : ℕ) → L ≡ 0 → validLength L ≡ false
-unfolding validLength
-empty L n = rw n
-
-long : (L : ℕ) → (L ≡ 0 → ⊥) → longestOrder < L → validLength L ≡ false
-unfolding validLength
-long L n h = let one : 1 ≤ L = omega arith in simp (le-leb 1 L one, lt-leb L longestOrder h)
 
 -- the tests one after the other
 module _ (s : Sender) where
@@ -72,13 +60,13 @@ known : (c : tie.Else1) → isLength (c .before .before .before .args .self .set
 known c = sym (c .before .known-length .ensures) ∙ not-false _ (c .if1 .left)
 
 right : (c : tie.Else3) → validLength (c .before .before .before .before .before .args .self .setup .length) ≡ true
-right c = valid _ (c .before .if2 .left) (c .if3 .left)
+right c = other-valid _ (c .before .if2 .left) (c .if3 .left)
 
 returns-2 : tie.Need-returns-2
-returns-2 c = invalid _ (known (c .before)) (empty _ (c .if2 .taken))
+returns-2 c = invalid _ (known (c .before)) (empty-invalid _ (c .if2 .taken))
 
 returns-3 : tie.Need-returns-3
-returns-3 c = invalid _ (known (c .before .before)) (long _ (c .before .if2 .left) (c .if3 .taken))
+returns-3 c = invalid _ (known (c .before .before)) (long-invalid _ (c .if3 .taken))
 
 in-range-requires : tie.Need-in-range-requires
 in-range-requires c κs = search needs

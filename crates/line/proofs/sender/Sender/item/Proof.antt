@@ -7,7 +7,7 @@ use lib.Dec.{leb, ltb}
 use Rattle.block.specs.Answer.{done}
 use Rattle.line.specs.Sending.{item, itemBlock, senderItems}
 use Rattle.line.specs.declared.sender.Sender.{Sender}
-use Rattle.line.proofs.Items.{valid-length}
+use Rattle.line.proofs.Items.{valid-most}
 use Rattle.line.proofs.SenderRange.{in-range}
 use Rattle.line.proofs.sender.Sender.item.Statement.{statement}
 use Rattle.line.proofs.sender.Sender.item.Tie as tie
@@ -15,7 +15,7 @@ use Rattle.line.proofs.sender.Sender.item.Tie as tie
 item-count-requires : tie.Need-item-count-requires
 item-count-requires c κs =
     let r = in-range (c .before .args .self) (c .before .pre .range) in
-    (r .known, valid-length _ (r .valid) .1)
+    (r .known, valid-most _ (r .valid))
 
 not-before : (n i : ℕ) (t : Bool) → leb n i ≡ t → t ≡ not (ltb i n)
 not-before n i true e = ap not (sym (le-ltb i n (leb-true n i e)))

@@ -10,7 +10,6 @@ use Rattle.block.specs.Calls.{tooShort}
 use Rattle.block.proofs.Lengths.{length-facts}
 use Rattle.line.specs.Sending.{senderInRange, gaveUp, transmit, send}
 use Rattle.line.specs.Code.SendSteps.{Lent}
-use Rattle.line.proofs.Items.{valid-length}
 use Rattle.line.proofs.SenderRange.{in-range, refused-call, sent-call, spoiled-call, rest-call, goes-on, order-call, slice-call, going-call}
 use Rattle.line.proofs.sender.Sender.send.Statement.{statement}
 use Rattle.line.proofs.sender.Sender.send.Tie as tie
