@@ -20,7 +20,7 @@ one-of : (test : ℕ → Bool) (l : ℕ) (b : Bool) (k : ℕ) (hit : Bool) → e
 one-of test l b k true e t next = rw (eqb-true k l e) (and-left (test l) b t)
 one-of test l b k false e t next = next refl (and-right (test l) b t)
 
-among-each : (test : ℕ → Bool) (ls : List ℕ) → each test ls ≡ true → (k : ℕ) → among k ls ≡ true → test k ≡ true
+pub among-each : (test : ℕ → Bool) (ls : List ℕ) → each test ls ≡ true → (k : ℕ) → among k ls ≡ true → test k ≡ true
 among-each test [] t k h = absurd (let z : _≡_ {A = ℕ} 0 1 = cc in omega arith)
 among-each test (l ∷ ls) t k h =
     one-of test l (each test ls) k (eqb k l) refl t (λ e r. among-each test ls r k (rw e at h))
