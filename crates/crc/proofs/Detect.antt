@@ -4,21 +4,21 @@ use mathlib.Core.Path.{_≡_, refl, sym, ap, ap₂, _∙_}
 use mathlib.Core.Bool.{Bool, true, false, false≢true}
 use mathlib.Core.List.{[], _∷_, _++_}
 use Prim.Native.Nat.{ℕ, zero, suc, _+_, _*_, _/_, _^_, _≤_, _<_}
-use native.Mathlib.Nat.{lt-of-lt-of-le, div-one, div-eq-of-lt}
+use native.Mathlib.Nat.{div-one, div-eq-of-lt}
 use native.Mathlib.Numerals.{one-add}
 use native.Mathlib.Omega.{arith}
 use lib.Bits.{bitXor}
 use lib.Dec.{lit<, lit≤}
 use lib.ListN.{length, length-replicate, replicate-append-replicate}
-use lib.Pow.{pow-mono, high, shr-shr}
-use Rattle.crc.specs.Bits.{Bits, zeros, bit, odd, binary, number, xor, xorBits, parity}
+use lib.Pow.{high, shr-shr}
+use Rattle.crc.specs.Bits.{Bits, zeros, bit, odd, binary, xor, xorBits, parity}
 use Rattle.crc.specs.Polynomial.{generator}
 use Rattle.crc.specs.Check.{reduce, divideBit, divide, remainder, passes}
 use Rattle.crc.specs.Damage.{Damage, nothing, odd-number, burst}
-use Rattle.crc.proofs.Rows.{bit-lt, odd-behind, xor-bits-assoc, xor-bits-false, binary-xor, number-lt, number-zero, length-xorBits, xorBits-none}
-use Rattle.crc.proofs.Linear.{behind-lt, reduce-lt, divideBit-lt, divide-append, divide-zeros, divide-short, remainder-lt, remainder-append, remainder-xor}
+use Rattle.crc.proofs.Rows.{bit-lt, odd-behind, xor-bits-assoc, xor-bits-false, binary-xor, number-zero, length-xorBits, xorBits-none}
+use Rattle.crc.proofs.Linear.{behind-lt, reduce-lt, divideBit-lt, remainder-short, remainder-xor}
 use Rattle.crc.proofs.Division.{passes-remainder}
-use Rattle.crc.proofs.Codeword.{divide-zeros-zero}
+use Rattle.crc.proofs.Zeros.{any-place}
 
 -- ---- an odd number of ones: the generator has an even number of terms, so each step keeps the parity
 
@@ -90,13 +90,7 @@ odd-found e h z = false≢true (sym (ap (λ (x : ℕ). parity (binary 16 x)) z) 
 -- ---- within 16 adjacent places
 
 pub burst-found : (i j : ℕ) (e : Bits) → length e ≤ 16 → remainder (zeros i ++ (e ++ zeros j)) ≡ 0 → e ≡ zeros (length e)
-unfolding remainder number
-burst-found i j e h z =
-    let p : number e < 2 ^ 16 = lt-of-lt-of-le (number-lt e) (pow-mono {j = 16} h) in
-    let r : remainder (e ++ zeros j) ≡ 0 =
-    ap (λ (x : ℕ). divide x (e ++ zeros j)) (sym (divide-zeros i)) ∙ sym (divide-append 0 (zeros i) (e ++ zeros j)) ∙ z in
-    let s : remainder e ≡ 0 = divide-zeros-zero (remainder e) j (remainder-lt e) (sym (remainder-append e (zeros j)) ∙ r) in
-    number-zero e (sym (divide-short 0 e p) ∙ s)
+burst-found i j e h z = number-zero e (sym (remainder-short e h) ∙ any-place .no-remainder i j e .0 z)
 
 -- ---- the damage that demand 3 admits
 

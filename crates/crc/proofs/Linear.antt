@@ -2,16 +2,18 @@
 use mathlib.Core.Path.{_≡_, refl, sym, ap, _∙_}
 use mathlib.Core.Bool.{Bool}
 use mathlib.Core.List.{[], _∷_, _++_}
-use Prim.Native.Nat.{ℕ, zero, suc, _+_, _*_, _/_, _^_, _<_}
+use Prim.Native.Nat.{ℕ, zero, suc, _+_, _*_, _/_, _^_, _≤_, _<_}
+use native.Mathlib.Nat.{lt-of-lt-of-le}
 use native.Mathlib.Omega.{arith}
 use lib.Bits.{bitXor, xor-shr, xor-block}
 use lib.Dec.{lit<}
 use lib.ListN.{length}
-use Rattle.crc.specs.Bits.{Bits, zeros, bit, xor, xorBits, numberFrom}
+use lib.Pow.{pow-mono}
+use Rattle.crc.specs.Bits.{Bits, zeros, bit, xor, xorBits, number, numberFrom}
 use Rattle.crc.specs.Polynomial.{generator}
 use Rattle.crc.specs.Check.{reduce, divideBit, divide, remainder}
 use Rattle.crc.proofs.Xor.{xor-swap}
-use Rattle.crc.proofs.Rows.{bit-lt, bit-xor, numberFrom-ge}
+use Rattle.crc.proofs.Rows.{bit-lt, bit-xor, number-lt, numberFrom-ge}
 
 -- a bit behind each of two numbers
 pub behind-xor : (c d : ℕ) (a b : Bool) → bitXor (c * 2 + bit a) (d * 2 + bit b) ≡ bitXor c d * 2 + bit (xor a b)
@@ -84,6 +86,11 @@ divide-short c (b ∷ l) h =
 pub remainder-lt : (l : Bits) → remainder l < 2 ^ 16
 unfolding remainder
 remainder-lt l = divide-lt l (lit< tt)
+
+-- a row of at most 16 bits is its own remainder
+pub remainder-short : (t : Bits) → length t ≤ 16 → remainder t ≡ number t
+unfolding remainder number
+remainder-short t h = divide-short 0 t (lt-of-lt-of-le (number-lt t) (pow-mono {j = 16} h))
 
 pub remainder-append : (l m : Bits) → remainder (l ++ m) ≡ divide (remainder l) m
 unfolding remainder

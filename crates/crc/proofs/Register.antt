@@ -14,8 +14,7 @@ use Rattle.crc.specs.Bits.{Bits, zeros, bit, binary, bitsOf, xor, xorBit
 use Rattle.crc.specs.Check.{reduce, divideBit, divide, remainder, check, registerBit, register}
 use Rattle.crc.proofs.Xor.{xor-swap}
 use Rattle.crc.proofs.Bytes.{bitsOf-append, bitsOf-last}
-use Rattle.crc.proofs.Linear.{reduce-xor, divideBit-lt, divideBit-xor, divide-lt, divide-xor}
-use Rattle.crc.proofs.Codeword.{check-divide}
+use Rattle.crc.proofs.Linear.{reduce-xor, divideBit-lt, divideBit-xor, divide-lt, divide-xor, remainder-append}
 
 -- x^16, reduced
 abbrev x16 : ℕ
@@ -99,8 +98,8 @@ register-divide r (b ∷ l) h =
     ap (λ (x : ℕ). register x l) (registerBit-ahead r b h) ∙ register-divide (divideBit r b) l (divideBit-lt b h)
 
 pub register-check : (l : Bits) → register 0 l ≡ check l
-unfolding remainder
-register-check l = register-divide 0 l (lit< tt) ∙ sym (check-divide l)
+unfolding remainder check
+register-check l = register-divide 0 l (lit< tt) ∙ sym (remainder-append l (zeros 16))
 
 -- ---- bytes into the register
 

@@ -3,3 +3,4 @@ pub mod Words
 pub mod Polynomial
 pub mod Check
 pub mod Damage
+pub mod AnyPlace
