@@ -2,8 +2,8 @@
 use mathlib.Core.Path.{_≡_, refl, ap, ap₂, sym, _∙_}
 use mathlib.Core.Bool.{Bool, true, false, cond}
 use mathlib.Core.List.{List, _++_}
-use Prim.Native.Nat.{ℕ, zero, suc, _+_, _-_, _*_, _≤_, _<_}
-use native.Mathlib.Nat.{div-mul-le-self, lt-div-mul-add, mul-le-mul, mul-le-mul-right}
+use Prim.Native.Nat.{ℕ, zero, suc, _+_, _-_, _*_, _/_, _≤_, _<_}
+use native.Mathlib.Nat.{add-div-right, div-zero, div-eq-of-lt, div-mul-le-self, lt-div-mul-add, mul-le-mul, mul-le-mul-right}
 use native.Mathlib.Omega.{arith}
 use borrow.Author.Tests.{leb-true, le-leb, lt-leb, ltb-true, lt-ltb, le-ltb}
 use lib.Dec.{leb}
@@ -52,6 +52,20 @@ pub itemCount-least : (k L : ℕ) → 0 < k → itemCount k L * k < L + k
 unfolding itemCount
 itemCount-least k L h = let d = div-mul-le-self (L + k - 1) k in omega arith
 
+-- divided by 0, a length makes none
+pub itemCount-none : (k L : ℕ) → k ≡ 0 → itemCount k L ≡ 0
+unfolding itemCount
+itemCount-none k L e = ap (λ (x : ℕ). (L + x - 1) / x) e ∙ div-zero (L + 0 - 1)
+
+pub itemCount-empty : (k L : ℕ) → 0 < k → L ≡ 0 → itemCount k L ≡ 0
+unfolding itemCount
+itemCount-empty k L h e = div-eq-of-lt (omega arith)
+
+-- the last bit of an order is in its last item
+pub itemCount-last : (k L : ℕ) → 0 < k → 1 ≤ L → itemCount k L ≡ (L - 1) / k + 1
+unfolding itemCount
+itemCount-last k L h g = let e : L + k - 1 ≡ L - 1 + k = omega arith in ap (λ (x : ℕ). x / k) e ∙ add-div-right (L - 1) h
+
 -- item i of the data items ends within them
 pub item-within : (i n k : ℕ) → i < n → i * k + k ≤ n * k
 item-within i n k h = let d : suc i * k ≤ n * k = mul-le-mul-right k h in omega arith
@@ -67,6 +81,11 @@ itemCount-fits k L h v =
     let d = itemCount-least k L (omega arith) in
     let w = valid-most L v in
     most (itemCount k L) k (f .1) (omega arith)
+
+-- and the longest order makes as many at the shortest k
+pub itemCount-most : itemCount 240 longestOrder ≡ mostItems
+unfolding itemCount
+itemCount-most = refl
 
 -- ---- lengths
 

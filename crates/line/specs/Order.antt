@@ -9,12 +9,13 @@ use Rattle.block.specs.Block.{blockBits}
 use Rattle.line.specs.Marks.{mark}
 use Rattle.line.specs.declared.marks.Marks.{Marks}
 
--- the longest order in bits, and the most data items that an order makes
+-- the longest order in bits
 abbrev pub longestOrder : ℕ
 longestOrder = 262144
 
+-- the most data items that an order makes: those of the longest at the shortest k
 abbrev pub mostItems : ℕ
-mostItems = 1093
+mostItems = (longestOrder + 240 - 1) / 240
 
 -- a length that an order may have
 unfoldable pub validLength : ℕ → Bool

@@ -3,7 +3,7 @@ pub mod head;
 mod hold;
 pub mod loop_time;
 pub mod marks;
-mod order;
+pub mod order;
 pub mod receiver;
 pub mod receiving;
 mod rules;

@@ -4,7 +4,7 @@ ghost use Prim.Native.Nat.{_<_};
 ghost use lib.ListN.{getD};
 ghost use Rattle.block.specs.Lengths.{lengths};
 ghost use Rattle.line.specs.Code.Table.{place};
-ghost use Rattle.line.specs.LoopTime.{speeds, hasEntry, longestLoop, LoopTest};
+ghost use Rattle.line.specs.LoopTime.{speeds, isSpeed, hasEntry, longestLoop, LoopTest};
 use crate::LOOP_TIME;
 use crate::SPEED;
 
@@ -55,6 +55,13 @@ fn speed_column(speed: u32) -> usize
         4800 => 5,
         _ => 6,
     }
+}
+
+// Whether a speed is one of the table's.
+pub fn is_speed(speed: u32) -> bool
+    ensures { λ r. ⌜ r ≡ isSpeed speed ⌝ }
+{
+    speed_column(speed) < 6
 }
 
 // Whether the table has an entry.

@@ -13,10 +13,11 @@ use crate::marks::Marks;
 use crate::marks::mark;
 use block::packed;
 
-// The longest order in bits, and the most data items that an order makes.
-pub(crate) const LONGEST_ORDER: usize = 262144;
+// The longest order in bits.
+pub const LONGEST_ORDER: usize = 262144;
 
-pub(crate) const MOST_ITEMS: usize = 1093;
+// The most data items that an order makes: those of the longest at the shortest k.
+pub(crate) const MOST_ITEMS: usize = (LONGEST_ORDER + 239) / 240;
 
 pub(crate) const LETTER_A: u8 = 0b0011;
 
@@ -29,8 +30,21 @@ pub(crate) const END: u8 = 0b1000;
 // The version that an end block carries.
 pub(crate) const VERSION: u8 = 1;
 
-// The number of data items that an order of these bits makes.
-pub(crate) fn item_count(k: usize, bits: usize) -> usize
+// The number of data items that these bits make, 0 if k is 0.
+pub fn item_count(k: usize, bits: usize) -> usize
+    ensures { λ r. ⌜ r ≡ itemCount k bits ⌝ }
+{
+    if k == 0 {
+        return 0;
+    }
+    if bits == 0 {
+        return 0;
+    }
+    (bits - 1) / k + 1
+}
+
+// The same of an order as both ends judge it: the sum fits, and nothing is left to test.
+pub(crate) fn order_items(k: usize, bits: usize) -> usize
     requires { ⌜ (isLength k ≡ true) × (bits ≤ longestOrder) ⌝ }
     ensures { λ r. ⌜ r ≡ itemCount k bits ⌝ }
 {
@@ -142,7 +156,7 @@ pub(crate) fn write_item(
     requires { ⌜ (isLength k ≡ true) × (validLength bits ≡ true) × (bits ≤ 8 * length (now order)) × (blockLength k ≤ 8 * length (now block)) ⌝ }
     ensures { λ _. ⌜ now (block .exit) ≡ overwritten (blockBytes k) (itemBits marks k bits (orderBits bits (now (order .entry))) i) (now (block .entry)) ⌝ }
 {
-    if item_count(k, bits) <= i {
+    if order_items(k, bits) <= i {
         write_end(k, bits, block);
         return;
     }

@@ -18,8 +18,8 @@ use crate::order::LETTER_C;
 use crate::order::LONGEST_ORDER;
 use crate::order::MOST_ITEMS;
 use crate::order::VERSION;
-use crate::order::item_count;
 use crate::order::letter;
+use crate::order::order_items;
 use block::SEQUENCE;
 use block::SYNC;
 
@@ -129,7 +129,7 @@ fn makes_items(k: usize, bits: usize, taken: usize) -> bool
     requires { ⌜ (isLength k ≡ true) × (bits ≤ longestOrder) ⌝ }
     ensures { λ r. ⌜ r ≡ makesItems k bits taken ⌝ }
 {
-    item_count(k, bits) == taken
+    order_items(k, bits) == taken
 }
 
 fn end_rule(k: usize, taken: usize, ended: bool, payload: &[u8]) -> Rule

@@ -17,7 +17,7 @@ use crate::loop_time::loop_time;
 use crate::marks::CodeSize;
 use crate::marks::Marks;
 use crate::order::LONGEST_ORDER;
-use crate::order::item_count;
+use crate::order::order_items;
 use crate::order::write_item;
 use block::OVERHEAD;
 use block::packed;
@@ -137,7 +137,7 @@ impl Sender {
         if self.newer == 0 {
             return false;
         }
-        if item_count(k, length) + 1 < self.newer {
+        if order_items(k, length) + 1 < self.newer {
             return false;
         }
         self.run <= LAST_RUN
@@ -156,7 +156,7 @@ impl Sender {
         ensures { λ r. ⌜ r ≡ confirmed self ⌝ }
     {
         let setup = self.setup;
-        if self.newer == item_count(setup.k, setup.length) + 1 {
+        if self.newer == order_items(setup.k, setup.length) + 1 {
             return Sender {
                 run: 0,
                 opening: false,
@@ -210,7 +210,7 @@ impl Sender {
         let setup = self.setup;
         Sent::Item {
             number,
-            end: item_count(setup.k, setup.length) <= number,
+            end: order_items(setup.k, setup.length) <= number,
             used,
             cancelled,
         }

@@ -14,8 +14,8 @@ use Rattle.line.proofs.ItemBlocks.{item-start, filled-item, unfilled-it
 use Rattle.line.proofs.order.write_item.Statement.{statement}
 use Rattle.line.proofs.order.write_item.Tie as tie
 
-item-count-requires : tie.Need-item-count-requires
-item-count-requires c κs =
+order-items-requires : tie.Need-order-items-requires
+order-items-requires c κs =
     let s = c .before .before in
     let v = valid-most (s .args .bits) (s .pre .1) in
     (s .pre .0, omega arith)
@@ -33,7 +33,7 @@ returns : tie.Need-returns
 returns c =
     let e = c .before .before .before .before .before in
     let a = e .before .before .before .args in
-    let n : itemCount (a .k) (a .bits) ≤ a .i = omega (arith, e .item-count .ensures, c .before .before .before .before .if1 .taken) in
+    let n : itemCount (a .k) (a .bits) ≤ a .i = omega (arith, e .order-items .ensures, c .before .before .before .before .if1 .taken) in
     c .before .before .write-end .ensures
     ∙ ap (λ (b : Bits). overwritten (blockBytes (a .k)) b (a .block .now))
     (sym (itemBits-end (a .marks) (a .k) (a .bits) (orderBits (a .bits) (a .order .now)) (a .i) n))
@@ -55,7 +55,7 @@ write-last-requires c κs =
     let f = length-facts (a .k) (s .pre .0) in
     let pos : 0 < a .k = omega arith in
     let n : a .i < itemCount (a .k) (a .bits) =
-    omega (arith, d .before .before .item-count .ensures, d .before .if1 .left)
+    omega (arith, d .before .before .order-items .ensures, d .before .if1 .left)
     in
     let from = item-start (a .k) (a .bits) (a .i) pos n in
     let to = unfilled-item (a .k) (a .bits) (a .i) pos (c .before .if2 .taken) in
@@ -73,7 +73,7 @@ returns-2 c =
     let a = s .args in
     let f = length-facts (a .k) (s .pre .0) in
     let pos : 0 < a .k = omega arith in
-    let n : a .i < itemCount (a .k) (a .bits) = omega (arith, e .item-count .ensures, d .before .if1 .left) in
+    let n : a .i < itemCount (a .k) (a .bits) = omega (arith, e .order-items .ensures, d .before .if1 .left) in
     let to = unfilled-item (a .k) (a .bits) (a .i) pos (t .if2 .taken) in
     c .before .before .write-last .ensures
     ∙ ap (λ (b : Bits). overwritten (blockBytes (a .k)) b (a .block .now))
@@ -100,7 +100,7 @@ returns-3 c =
     let a = s .args in
     let f = length-facts (a .k) (s .pre .0) in
     let pos : 0 < a .k = omega arith in
-    let n : a .i < itemCount (a .k) (a .bits) = omega (arith, e .item-count .ensures, d .before .if1 .left) in
+    let n : a .i < itemCount (a .k) (a .bits) = omega (arith, e .order-items .ensures, d .before .if1 .left) in
     let w = filled-item (a .k) (a .bits) (a .i) (t .if2 .left) in
     c .before .before .write-whole .ensures
     ∙ ap (λ (b : Bits). overwritten (blockBytes (a .k)) b (a .block .now))
@@ -111,7 +111,7 @@ pub write-item-spec : {M : Type 1} → statement M
 write-item-spec =
     tie.close
     (tie.spec
-    item-count-requires
+    order-items-requires
     write-end-requires
     same-length
     returns

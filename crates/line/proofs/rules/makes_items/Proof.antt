@@ -3,11 +3,11 @@ use borrow.Author.Needs.{needs}
 use Rattle.line.proofs.rules.makes_items.Statement.{statement}
 use Rattle.line.proofs.rules.makes_items.Tie as tie
 
-item-count-requires : tie.Need-item-count-requires
-item-count-requires c κs = search needs
+order-items-requires : tie.Need-order-items-requires
+order-items-requires c κs = search needs
 
 returns : tie.Need-returns
-returns c = simp (c .item-count .ensures)
+returns c = simp (c .order-items .ensures)
 
 pub makes-items-spec : {M : Type 1} → statement M
-makes-items-spec = tie.close (tie.spec item-count-requires returns)
+makes-items-spec = tie.close (tie.spec order-items-requires returns)

@@ -85,14 +85,14 @@ returns-5 c =
     let e = m .before .before in
     first _ (known (e .before .before)) (right e) (sized m) (c .if5 .taken)
 
-item-count-requires : tie.Need-item-count-requires
-item-count-requires c κs = (known (c .before .before .before .before .before .before), search needs)
+order-items-requires : tie.Need-order-items-requires
+order-items-requires c κs = (known (c .before .before .before .before .before .before), search needs)
 
 add-if6 : tie.Need-add-if6
 add-if6 c =
     let e = c .before .before .before .before .before in
     let f = itemCount-fits _ _ (known (e .before .before)) (right e) in
-    omega (arith, c .item-count .ensures)
+    omega (arith, c .order-items .ensures)
 
 returns-6 : tie.Need-returns-6
 returns-6 c =
@@ -100,7 +100,7 @@ returns-6 c =
     let m = n .before .before .before in
     let e = m .before .before in
     last _ (known (e .before .before)) (right e) (sized m) (n .before .if5 .left)
-    (rw (n .item-count .ensures) at (c .if6 .taken))
+    (rw (n .order-items .ensures) at (c .if6 .taken))
 
 returns-7 : tie.Need-returns-7
 returns-7 c =
@@ -108,7 +108,7 @@ returns-7 c =
     let m = n .before .before .before in
     let e = m .before .before in
     run _ (known (e .before .before)) (right e) (sized m) (n .before .if5 .left)
-    (rw (n .item-count .ensures) at (c .before .if6 .left))
+    (rw (n .order-items .ensures) at (c .before .if6 .left))
 
 pub in-range-spec : {M : Type 1} → statement M
 in-range-spec =
@@ -121,7 +121,7 @@ in-range-spec =
     in-range-requires
     returns-4
     returns-5
-    item-count-requires
+    order-items-requires
     add-if6
     returns-6
     returns-7)

@@ -12,8 +12,8 @@ use Rattle.line.proofs.SenderRange.{in-range}
 use Rattle.line.proofs.sender.Sender.item.Statement.{statement}
 use Rattle.line.proofs.sender.Sender.item.Tie as tie
 
-item-count-requires : tie.Need-item-count-requires
-item-count-requires c κs =
+order-items-requires : tie.Need-order-items-requires
+order-items-requires c κs =
     let r = in-range (c .before .args .self) (c .before .pre .range) in
     (r .known, valid-most _ (r .valid))
 
@@ -30,7 +30,7 @@ answer s i n used cancelled e =
 returns : tie.Need-returns
 returns c =
     let a = c .before .before .args in
-    answer (a .self) (a .number) (c .item-count .result) (a .used) (a .cancelled) (c .item-count .ensures)
+    answer (a .self) (a .number) (c .order-items .result) (a .used) (a .cancelled) (c .order-items .ensures)
 
 pub item-spec : {M : Type 1} → statement M
-item-spec = tie.close (tie.spec item-count-requires returns)
+item-spec = tie.close (tie.spec order-items-requires returns)
