@@ -84,15 +84,16 @@ uint32_t order_line_version(void);
 /* ---- sizes ---- */
 
 #define ORDER_LINE_LONGEST_ORDER 262144 /* bits */
-#define ORDER_LINE_MOST_ITEMS 1093      /* data items of an order */
 #define ORDER_LINE_MOST_DOSES 12        /* doses of a tint order */
+
+#define ORDER_LINE_MOST_ITEMS ((ORDER_LINE_LONGEST_ORDER + 239) / 240) /* data items of an order: at k 240 */
 
 #define ORDER_LINE_PAYLOAD_BYTES(k) ((k) / 8)   /* the data of one block: 30, 60, 120 or 480 */
 #define ORDER_LINE_BLOCK_BYTES(k) ((k) / 8 + 3) /* a packed block: 33, 63, 123 or 483 */
 
 #define ORDER_LINE_TINT_BYTES(count) (3 + 3 * (count)) /* a tint order of so many doses: 6 to 39 */
 
-/* A store with room for any order at this k: 32790, 32820, 32880 or 33120. */
+/* A store with room for any order at this k: the bytes of the longest, its last item filled. */
 #define ORDER_LINE_STORE_BYTES(k) ((ORDER_LINE_LONGEST_ORDER + (k) - 1) / (k) * ORDER_LINE_PAYLOAD_BYTES(k))
 
 /*

@@ -11,11 +11,20 @@
 
 #define HOLDS(condition, why) extern char holds[(condition) ? 1 : -1] /* static_assert, in every standard */
 
-HOLDS(ORDER_LINE_STORE_BYTES(240) == 32790, "1,093 items of 30 bytes");
-HOLDS(ORDER_LINE_STORE_BYTES(480) == 32820, "547 items of 60 bytes");
-HOLDS(ORDER_LINE_STORE_BYTES(960) == 32880, "274 items of 120 bytes");
-HOLDS(ORDER_LINE_STORE_BYTES(3840) == 33120, "69 items of 480 bytes");
-HOLDS(ORDER_LINE_STORE_BYTES(240) == ORDER_LINE_MOST_ITEMS * ORDER_LINE_PAYLOAD_BYTES(240), "the most items");
+/* Whole items that hold the longest order, of which one fewer would not. */
+#define HOLDS_LONGEST(items, k)                                                                                        \
+    ((items) * (k) >= ORDER_LINE_LONGEST_ORDER && ((items) - 1) * (k) < ORDER_LINE_LONGEST_ORDER)
+#define STORES_LONGEST(k)                                                                                              \
+    (ORDER_LINE_STORE_BYTES(k) % ORDER_LINE_PAYLOAD_BYTES(k) == 0 &&                                                   \
+     HOLDS_LONGEST(ORDER_LINE_STORE_BYTES(k) / ORDER_LINE_PAYLOAD_BYTES(k), k))
+
+HOLDS(STORES_LONGEST(240) && STORES_LONGEST(480), "the store's room in short blocks");
+HOLDS(STORES_LONGEST(960) && STORES_LONGEST(3840), "and in long ones");
+HOLDS(HOLDS_LONGEST(ORDER_LINE_MOST_ITEMS, 240), "the most items");
+HOLDS(ORDER_LINE_LONGEST_ORDER / ORDER_LINE_MOST_ITEMS > 0, "brackets around the macro");
+#if ORDER_LINE_MOST_ITEMS * 240 < ORDER_LINE_LONGEST_ORDER
+#error "the preprocessor computes the most items too"
+#endif
 
 HOLDS(ORDER_LINE_SENDER_BYTES == 16 + 2, "a head and the marks");
 HOLDS(ORDER_LINE_RECEIVER_BYTES == 16 + ORDER_LINE_BLOCK_BYTES(3840) + 2, "a head, a block and the marks");
@@ -28,13 +37,16 @@ HOLDS(2 * ORDER_LINE_TINT_BYTES(1 + 1) == 18, "brackets around the macro and aro
 #define EVENT(answer) (ORDER_LINE_IS_EVENT(answer) && !ORDER_LINE_IS_REFUSED(answer))
 #define NEITHER(answer) (!ORDER_LINE_IS_REFUSED(answer) && !ORDER_LINE_IS_EVENT(answer))
 
+/* The word of the longest order's second end block, without the flags that tell more of it. */
+#define LAST_SENT (ORDER_LINE_SENT | ORDER_LINE_SENT_ITEM | (ORDER_LINE_MOST_ITEMS + 1u) << 16)
+
 HOLDS(NEITHER(0), "done");
 HOLDS(REFUSED(ORDER_LINE_REFUSED_BLOCK) && REFUSED(ORDER_LINE_REFUSED_GENERATOR), "refusals");
 HOLDS(EVENT(ORDER_LINE_EVENT_NONE) && EVENT(ORDER_LINE_EVENT_WAIT), "events");
 HOLDS(NEITHER(ORDER_LINE_GOING_ON) && NEITHER(ORDER_LINE_FINISHED) && NEITHER(ORDER_LINE_GAVE_UP), "rest");
 HOLDS(NEITHER(ORDER_LINE_RETURN_0) && NEITHER(ORDER_LINE_RETURN_1), "return bit");
 HOLDS(NEITHER(ORDER_LINE_PASSED) && NEITHER(ORDER_LINE_PASSED + 15) && NEITHER(ORDER_LINE_FAILED), "read");
-HOLDS(NEITHER(ORDER_LINE_SENT) && NEITHER(ORDER_LINE_SENT | ORDER_LINE_SENT_ITEM | 1094u << 16), "sent");
+HOLDS(NEITHER(ORDER_LINE_SENT) && NEITHER(ORDER_LINE_SENT | LAST_SENT), "sent");
 HOLDS(NEITHER(ORDER_LINE_NOISE) && NEITHER(ORDER_LINE_NOISE | ORDER_LINE_NOISE_TURNED), "noise without a span");
 HOLDS(NEITHER(ORDER_LINE_NOISE | 1u << 16) && NEITHER(ORDER_LINE_NOISE | 16u << 16), "noise with a span");
 
@@ -42,13 +54,13 @@ HOLDS(ORDER_LINE_RETURN_BIT(ORDER_LINE_RETURN_0) == 0, "return bit 0");
 HOLDS(ORDER_LINE_RETURN_BIT(ORDER_LINE_RETURN_1) == 1, "return bit 1");
 HOLDS(ORDER_LINE_RETURN_BIT(ORDER_LINE_REFUSED_SPOILED) == 1, "a spoiled state asks for a repeat");
 
-HOLDS(ORDER_LINE_SENT_NUMBER(ORDER_LINE_SENT | ORDER_LINE_SENT_ITEM | 1094u << 16) == 1094, "an item's number");
+HOLDS(ORDER_LINE_SENT_NUMBER(LAST_SENT) == ORDER_LINE_MOST_ITEMS + 1, "an item's number");
 HOLDS(ORDER_LINE_NOISE_INVERTED(ORDER_LINE_NOISE | 16u << 16) == 16, "the bits of a span");
 HOLDS(ORDER_LINE_NOISE_INVERTED(ORDER_LINE_NOISE | ORDER_LINE_NOISE_TURNED) == 0, "a turned reading alone");
 HOLDS(2 * ORDER_LINE_NOISE_INVERTED(ORDER_LINE_NOISE + 65536u) == 2, "brackets around the macro");
 
-/* Beyond the largest answer, which is the word of the longest order's second end block: its number is 1094. */
-#define BEYOND (1095ul << 16)
+/* Beyond the largest answer, which is that word with all its flags. */
+#define BEYOND ((ORDER_LINE_MOST_ITEMS + 2ul) << 16)
 
 /* How many numbers from 0 on a type is tried with: all that it holds, or those before BEYOND. */
 #define TRIED(type) (sizeof(type) > 2 ? BEYOND : 1ul << (8 * sizeof(type) - ((type)-1 < (type)1)))

@@ -3,7 +3,7 @@
 //! them against each other; these tests do, by their text.
 
 use crate::interface::{RECEIVER_BYTES, SENDER_BYTES};
-use crate::reference::order::{LONGEST, MOST_ITEMS};
+use crate::reference::order::LONGEST;
 use crate::reference::tint::MOST_DOSES;
 use std::collections::BTreeMap;
 use std::fs;
@@ -116,8 +116,18 @@ fn header_functions() -> Vec<Function> {
 #[test]
 fn the_header_and_the_wrapper_have_the_same_numbers() {
     let header = header_numbers();
-    assert_eq!(header.len(), 42);
+    assert_eq!(header.len(), 41);
     assert_eq!(header, constants("examples/rust/src/numbers.rs"));
+}
+
+/// The one number that both compute, from the longest order; `tests/header.c` tries the header's.
+#[test]
+fn the_header_and_the_wrapper_compute_the_most_items() {
+    let header = "#define ORDER_LINE_MOST_ITEMS ((ORDER_LINE_LONGEST_ORDER + 239) / 240)";
+    assert!(text("include/order_line.h").contains(header), "{header}");
+    let wrapper = "pub const MOST_ITEMS: usize = LONGEST_ORDER.div_ceil(240);";
+    let numbers = text("examples/rust/src/numbers.rs");
+    assert!(numbers.contains(wrapper), "{wrapper}");
 }
 
 #[test]
@@ -135,7 +145,6 @@ fn the_page_and_the_package_have_the_version_of_the_header() {
 fn the_header_has_the_numbers_that_are_compared_with_the_library() {
     let sizes = [
         ("LONGEST_ORDER", LONGEST),
-        ("MOST_ITEMS", MOST_ITEMS),
         ("MOST_DOSES", MOST_DOSES),
         ("SENDER_BYTES", SENDER_BYTES),
         ("RECEIVER_BYTES", RECEIVER_BYTES),

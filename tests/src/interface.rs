@@ -339,6 +339,7 @@ pub fn receive(
 #[cfg(test)]
 mod tests {
     use super::*;
+    use crate::reference::order::MOST_ITEMS;
     use crate::rng::Rng;
 
     #[test]
@@ -376,7 +377,7 @@ mod tests {
             used: flags & 2 == 2,
             cancelled: flags & 4 == 4,
         };
-        let items = (0..8).flat_map(|flags| [item(0, flags), item(1094, flags)]);
+        let items = (0..8).flat_map(|flags| [item(0, flags), item(MOST_ITEMS + 1, flags)]);
         for answer in items.chain([Sent::Synchronising, Sent::Refused(8)]) {
             assert_eq!(decode_sent(encode_sent(answer)), answer);
         }

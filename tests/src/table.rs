@@ -9,6 +9,7 @@ pub use calls::TableDriven;
 
 use crate::reference::block::Read;
 use crate::reference::marks::Marks;
+use crate::reference::order::{LONGEST, MOST_ITEMS};
 
 const BLOCK: u8 = 1;
 const SHORT: u8 = 6;
@@ -20,9 +21,8 @@ const END: u8 = 0b1000;
 /// The marks of the code sizes from this one on.
 const MARKS: [u8; 4] = [0b0001, 0b1010, 0b1011, 0b0010];
 const FIRST_SIZE: usize = 5;
-/// The version of an end block, and the longest order in bits.
+/// The version of an end block.
 const VERSION: u8 = 1;
-const LONGEST: usize = 262_144;
 
 /// For each byte, the remainder of that byte times x to the 16th.
 static TABLE: [u16; 256] = table();

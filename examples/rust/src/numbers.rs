@@ -20,7 +20,7 @@ pub const REFUSED_GENERATOR: u32 = 13;
 /// Bits of the longest order.
 pub const LONGEST_ORDER: usize = 262144;
 /// Data items of the longest order in the shortest blocks.
-pub const MOST_ITEMS: usize = 1093;
+pub const MOST_ITEMS: usize = LONGEST_ORDER.div_ceil(240);
 /// Doses of a tint order at most.
 pub const MOST_DOSES: usize = 12;
 /// Bytes of a sender's state.

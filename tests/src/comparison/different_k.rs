@@ -10,6 +10,7 @@ use super::marks::KINDS;
 use super::{same, Difference, GroupFailure, Tally};
 use crate::calls::{ReceivingEnd, SendingEnd};
 use crate::reference::block::LENGTHS;
+use crate::reference::order::LONGEST;
 use crate::rng::Rng;
 use Office::{Finished, GaveUp};
 
@@ -95,11 +96,12 @@ fn is_of_a_misread_block(event: &str) -> bool {
     event == "sync" || event.starts_with("bad")
 }
 
-/// The random order of this number: one to forty items, the last one not whole.
+/// The random order of this number: one to forty items, or as many as an order may fill, the last one
+/// not whole.
 fn order(k: usize, number: usize) -> Vec<u8> {
     let mut rng = Rng::for_case(SEED, number);
     let most = rng.pick(&[2, 4, 9, 40]);
-    let items = rng.between(1, most);
+    let items = rng.between(1, most).min(LONGEST / k);
     let missing = rng.below(k / 8);
     rng.bytes(items * k / 8 - missing)
 }

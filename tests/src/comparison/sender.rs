@@ -42,7 +42,7 @@ const KINDS: [&str; 23] = [
     "flags and enums out of range",
     "fields changed",
     "orders of 1 bit",
-    "orders of 262144 bits",
+    "orders of the most bits",
     "orders with ones behind L",
 ];
 
@@ -216,7 +216,7 @@ impl<'a, S: SendingEnd> Session<'a, S> {
 fn count_order(order: &Order, tally: &mut Tally) {
     match order.length {
         1 => tally.count("orders of 1 bit"),
-        LONGEST => tally.count("orders of 262144 bits"),
+        LONGEST => tally.count("orders of the most bits"),
         _ => {}
     }
     let behind = order.length..order.length.next_multiple_of(8);

@@ -150,7 +150,8 @@ const HUGE: &str = "123456789012345678901234567890";
 /// First lines that are read, though what they say may be refused.
 fn readable_line(rng: &mut Rng) -> String {
     let k = rng.pick(&["240", "240", "240", "0240", "3840", "0", "241", HUGE]);
-    let length = rng.pick(&["1", "8", "16", "17", "0", "000", "262144", "262145", HUGE]);
+    let (longest, above) = (LONGEST.to_string(), (LONGEST + 1).to_string());
+    let length = rng.pick(&["1", "8", "16", "17", "0", "000", &longest, &above, HUGE]);
     let order = rng.pick(&["", " a5", " a5ff", " A5Ff", " a5ff00112233"]);
     let end = rng.pick(&["", " "]);
     let lines = periods(rng, 6);

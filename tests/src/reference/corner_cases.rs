@@ -2,7 +2,7 @@
 
 use super::bits::pack;
 use super::block::{assemble, synchronising_block, A, B, C, END};
-use super::order::end_payload;
+use super::order::{end_payload, letter, LONGEST, MOST_ITEMS};
 use super::receiver::{self, Alarm, Event, Received, Receiver};
 use super::sender::{self, Sent};
 use super::session::run;
@@ -43,7 +43,7 @@ pub fn end_block(version: u8, length: usize) -> Vec<u8> {
 
 /// One whole block to a machine that is ready, with a store that has room for every item.
 pub fn receive_block(state: Receiver, block: &[u8]) -> (Receiver, Event) {
-    let mut store = vec![0; 1094 * K / 8];
+    let mut store = vec![0; (MOST_ITEMS + 1) * K / 8];
     match state.receive(block, N, true, &mut store) {
         (state, Received::Reported { event, used: N }) => (state, event),
         (_, other) => panic!("{other:?}"),
@@ -189,19 +189,24 @@ fn rule_five_holds_at_no_item() {
 
 #[test]
 fn no_item_is_taken_behind_the_most() {
-    // 1093 leaves 1 divided by 3: the next would carry B, the previous carries A.
-    let (_, event) = receive_block(in_step(1092), &block(A));
+    let [previous, next, behind] = [MOST_ITEMS - 1, MOST_ITEMS, MOST_ITEMS + 1]
+        .map(letter)
+        .map(block);
+    let (_, event) = receive_block(in_step(MOST_ITEMS - 1), &previous);
     assert_eq!(event, Event::Accepted);
-    let (state, event) = receive_block(in_step(1093), &block(B));
-    assert_eq!((event, state.taken), (Event::Bad(0), 1093));
-    let (_, event) = receive_block(in_step(1093), &block(A));
+    let (state, event) = receive_block(in_step(MOST_ITEMS), &next);
+    assert_eq!((event, state.taken), (Event::Bad(0), MOST_ITEMS));
+    let (_, event) = receive_block(in_step(MOST_ITEMS), &previous);
     assert_eq!(event, Event::Previous);
-    let (_, event) = receive_block(in_step(1093), &block(C));
+    let (_, event) = receive_block(in_step(MOST_ITEMS), &behind);
     assert_eq!(event, Event::SequenceAlarm);
-    let (_, event) = receive_block(in_step(1093), &end_block(1, 262_144));
-    assert_eq!(event, Event::Ended(262_144));
-    let (state, received) = in_step(1094).receive(&[], 0, true, &mut []);
-    assert_eq!((state.taken, received), (1094, Received::Refused(7)));
+    let (_, event) = receive_block(in_step(MOST_ITEMS), &end_block(1, LONGEST));
+    assert_eq!(event, Event::Ended(LONGEST));
+    let (state, received) = in_step(MOST_ITEMS + 1).receive(&[], 0, true, &mut []);
+    assert_eq!(
+        (state.taken, received),
+        (MOST_ITEMS + 1, Received::Refused(7))
+    );
 }
 
 #[test]
@@ -303,11 +308,12 @@ fn an_unreadable_line_one_gets_the_heading_alone() {
 
 #[test]
 fn a_readable_line_one_is_judged_by_value() {
+    let long = format!("240 {}", LONGEST + 1);
     let refused = [
         ("241 8 a5", 1),
         ("99999999999999999999999999 0", 1),
         ("240 0", 4),
-        ("240 262145", 5),
+        (&long, 5),
         ("240 99999999999999999999999999 a5", 5),
         ("240 8", 6),
         ("240 8 ", 6),

@@ -29,6 +29,7 @@ fn check_bits_of_four_service_bits_alone() {
 
 #[test]
 fn orders_make_their_items() {
+    // The paper's own, the longest order last.
     let examples = [(1, 1), (240, 1), (241, 2), (262_144, 1_093)];
     for (length, number) in examples {
         assert_eq!(items(240, length), number, "L {length}");

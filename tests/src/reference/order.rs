@@ -8,7 +8,7 @@ use super::marks::{is_mark, mark, Marks};
 /// The longest order, in bits.
 pub const LONGEST: usize = 262_144;
 /// The most data items that an order makes: the longest one at k 240.
-pub const MOST_ITEMS: usize = 1_093;
+pub const MOST_ITEMS: usize = LONGEST.div_ceil(240);
 
 const VERSION: usize = 1;
 const VERSION_BITS: usize = 8;

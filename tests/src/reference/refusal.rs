@@ -10,7 +10,7 @@ pub const SPEED: Refusal = 2;
 pub const LOOP: Refusal = 3;
 /// L is 0.
 pub const EMPTY: Refusal = 4;
-/// L is above 262,144.
+/// L is above that of the longest order.
 pub const LONG: Refusal = 5;
 /// A lent slice cannot hold what the call reads or writes.
 pub const SHORT: Refusal = 6;

@@ -2,8 +2,9 @@
 
 use super::bits::{bits_of, number, pack, unpack, Bits};
 use super::block::{assemble, block_bits, cancel, check_bits, read_block, remainder};
-use super::block::{synchronising_block, Read, A, B, C, CHECK_BITS, LENGTHS};
+use super::block::{synchronising_block, Read, A, C, CHECK_BITS, LENGTHS};
 use super::marks::MARKS;
+use super::order::{letter, MOST_ITEMS};
 use super::receiver::{self, Event, Received, Receiver};
 use crate::damage::{at_powers, invert, times_x};
 
@@ -62,7 +63,7 @@ fn in_step(k: usize, taken: usize) -> Receiver {
 fn event(state: &Receiver, block: &[bool]) -> Event {
     let n = block.len();
     let receive = |state: &Receiver, bits: &[bool], ready| {
-        let store = &mut vec![0; 1094 * state.k / 8];
+        let store = &mut vec![0; (MOST_ITEMS + 1) * state.k / 8];
         match state.clone().receive(&pack(bits), bits.len(), ready, store) {
             (state, Received::Reported { event, .. }) => (state, event),
             (_, refused) => panic!("{refused:?}"),
@@ -153,7 +154,12 @@ fn a_cancelled_and_damaged_block_shows_the_sum() {
 #[test]
 fn rule_7_shows_0() {
     for k in LENGTHS {
-        for (taken, service) in [(0, 0), (0, C), (1, 0b1111), (1093, B)] {
+        for (taken, service) in [
+            (0, 0),
+            (0, C),
+            (1, 0b1111),
+            (MOST_ITEMS, letter(MOST_ITEMS)),
+        ] {
             let event = event(&in_step(k, taken), &passing(k, service));
             assert_eq!(event, Event::Bad(0), "r {taken}, service bits {service}");
         }

@@ -3,6 +3,7 @@
 
 use super::bits::{pack, unpack, Bits};
 use super::block::{block_bits, block_bytes};
+use super::order::LONGEST;
 use super::receiver::{self, Event, Received, Receiver};
 use super::refusal::Refusal;
 use super::sender::{self, Sender, Sent};
@@ -10,8 +11,8 @@ use super::sender::{self, Sender, Sent};
 const HEADING: &str = "period sent read event back\n";
 const SPEED: usize = 200;
 const LOOP_MS: usize = 0;
-/// The bytes of the longest order with its last item filled, at any k.
-const STORE_BYTES: usize = 33_120;
+/// The bytes of the longest order with its last item filled, at any k: each of them divides 3840.
+const STORE_BYTES: usize = LONGEST.next_multiple_of(3840) / 8;
 
 /// Line one: k, L and the order. Numbers too large to hold stand as the largest.
 #[derive(Debug, PartialEq, Eq)]

@@ -4,6 +4,7 @@ use super::bits::{pack, unpack};
 use super::block::{synchronising_block, A, B, C};
 use super::corner_cases::{block, damaged, end_block, in_step, receive_block, DAMAGED, K, N};
 use super::marks::{Marks, MARKS};
+use super::order::{letter, MOST_ITEMS};
 use super::receiver::{self, Alarm, Event, Received, Receiver, HELD_BYTES};
 use super::sender::{self, Sent};
 
@@ -168,7 +169,11 @@ fn no_other_block_waits() {
         (ended, end_block(1, 241), Event::Previous),
         (in_step(2), block(0), Event::Bad(0)),
         (in_step(0), block(0), Event::Bad(0)),
-        (in_step(1093), block(B), Event::Bad(0)),
+        (
+            in_step(MOST_ITEMS),
+            block(letter(MOST_ITEMS)),
+            Event::Bad(0),
+        ),
     ];
     for (state, line, expected) in cases {
         for bad_row in [0, 7] {

@@ -1,12 +1,11 @@
 //! The table-driven sibling of the receiving call: bytes are moved, not bits, while it is in step.
 
 use super::{are_spoiled, check_bits, copy_payload, is_length, remainder};
-use super::{END, LETTERS, LONGEST, MARKS, SHORT, SPOILED, VERSION};
+use super::{END, LETTERS, LONGEST, MARKS, MOST_ITEMS, SHORT, SPOILED, VERSION};
 use crate::reference::marks::Marks;
 use crate::reference::receiver::{self, Alarm, Event, Received};
 
 const HELD_BYTES: usize = 483;
-const MOST_ITEMS: usize = 1093;
 const BAD_ROW_LIMIT: usize = 8;
 const SYNCHRONISING: u8 = 0b0101;
 const SEQUENCE: u16 = 0x50A5;

@@ -3,11 +3,11 @@
 //!
 //!     send_file [--noise FIRST SECOND] [FILE [K [SIZE]]]
 //!
-//! FIRST and SECOND are the words that the noise starts from; it is the same from the same words. FILE has 1 to 32,768
-//! bytes; K is 240 (as without it), 480, 960 or 3840 data bits a block. With SIZE, a code size of 5 to 8, both ends use
-//! start-of-message marks. Numbers are decimal digits alone. Exit status 0 means that the file arrived whole, 1 that it did
-//! not, 2 that the arguments or the file could not be read, or the order, the line or the words were refused. The office
-//! and the machine are in `session/mod.rs`.
+//! FIRST and SECOND are the words that the noise starts from; it is the same from the same words. FILE has at least one
+//! byte and at most `LONGEST_ORDER` bits; K is 240 (as without it), 480, 960 or 3840 data bits a block. With SIZE, a code
+//! size of 5 to 8, both ends use start-of-message marks. Numbers are decimal digits alone. Exit status 0 means that the file
+//! arrived whole, 1 that it did not, 2 that the arguments or the file could not be read, or the order, the line or the words
+//! were refused. The office and the machine are in `session/mod.rs`.
 
 mod session;
 
