@@ -3,13 +3,13 @@ use mathlib.Core.Path.{_≡_, refl}
 use mathlib.Core.Bool.{Bool, true, false, cond}
 use mathlib.Core.List.{List, [], _∷_, _++_, map}
 use native.Mathlib.Omega.{arith}
-use Prim.Native.Nat.{ℕ}
+use Prim.Native.Nat.{ℕ, _+_, _-_}
 use lib.ListN.{length, take, drop, replicate}
 use Rattle.crc.specs.Bits.{Bits, binary, bytesOf, zeros}
 use Rattle.block.specs.Answer as A
 use Rattle.block.specs.Answer.{Answer, refused, done}
 use Rattle.block.specs.Block.{blockBits, syncBlock, syncSequence}
-use Rattle.line.specs.Order.{letterA, letterB, letterC, endPayload, endService}
+use Rattle.line.specs.Order.{longestOrder, mostItems, letterA, letterB, letterC, letter, endPayload, endService}
 use Rattle.line.specs.Receiving.{Rule, sequence-found, sync-block, check-fails, accepts, previous, out-of-sequence, ends, wrong-length, ends-again, anything-else, waits, unfinished, standing, Reception, idle, searching, receive}
 use Rattle.line.specs.declared.receiver.Receiver.{Receiver}
 use Rattle.line.specs.declared.receiving.Phase.the-variants as P
@@ -100,15 +100,15 @@ cases =
     ∷ reads (bad 2 0) (damaged (zeroBlock letterA)) (check-fails damagedRemainder) (bad 3 0)
     ∷ reads (good 0 false) (zeroBlock letterB) out-of-sequence (receiver 0 true 0 false P.SequenceAlarm)
     ∷ reads (good 0 false) (endBlock 240) wrong-length (receiver 0 true 0 false P.LengthAlarm)
-    -- r at 1,093: no further item; the letters of items 1,092 and 1,094 as ever
-    ∷ reads (good 1093 false) (zeroBlock letterB) anything-else (bad 1 1093)
-    ∷ reads (good 1093 false) (zeroBlock letterA) previous (good 1093 false)
-    ∷ reads (good 1093 false) (zeroBlock letterC) out-of-sequence (receiver 0 true 1093 false P.SequenceAlarm)
-    ∷ takes (good 1093 false) (endBlock 262144) (ends 262144) (good 1093 true)
+    -- r at the most items: no further item; the letters of the item before and of the one behind as ever
+    ∷ reads (good mostItems false) (zeroBlock (letter mostItems)) anything-else (bad 1 mostItems)
+    ∷ reads (good mostItems false) (zeroBlock (letter (mostItems - 1))) previous (good mostItems false)
+    ∷ reads (good mostItems false) (zeroBlock (letter (mostItems + 1))) out-of-sequence (receiver 0 true mostItems false P.SequenceAlarm)
+    ∷ takes (good mostItems false) (endBlock longestOrder) (ends longestOrder) (good mostItems true)
     -- an end block: its L makes r items or another number; its version and L are within range or not
     ∷ takes (good 2 false) (endBlock 241) (ends 241) (good 2 true)
     ∷ reads (good 2 false) (endBlock 240) wrong-length (receiver 0 true 2 false P.LengthAlarm)
-    ∷ reads (good 1093 false) (endBlock 262145) wrong-length (receiver 0 true 1093 false P.LengthAlarm)
+    ∷ reads (good mostItems false) (endBlock (longestOrder + 1)) wrong-length (receiver 0 true mostItems false P.LengthAlarm)
     ∷ reads (good 1 false) (zeroBlock endService) wrong-length (receiver 0 true 1 false P.LengthAlarm)
     -- after the end: an end block again, and any letter
     ∷ reads (good 2 true) (endBlock 240) ends-again (good 2 true)
