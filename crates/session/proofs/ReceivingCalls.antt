@@ -178,7 +178,7 @@ length-invertFirst : (bits : Bits) → length (invertFirst bits) ≡ length bits
 length-invertFirst [] = refl
 length-invertFirst (b ∷ bs) = refl
 
-length-arriving : (kind : Kind) (bits : Bits) → length (arriving kind bits) ≡ length bits
+pub length-arriving : (kind : Kind) (bits : Bits) → length (arriving kind bits) ≡ length bits
 length-arriving K.Undisturbed bits = refl
 length-arriving K.Turned bits = refl
 length-arriving K.Damaged bits = length-invertFirst bits
