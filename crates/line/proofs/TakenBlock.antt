@@ -16,7 +16,7 @@ use Rattle.block.proofs.Lengths.{length-facts}
 use Rattle.block.proofs.Truth.{cond-case, or-no, or-yes}
 use Rattle.line.specs.Marks.{isMark}
 use Rattle.line.specs.Order.{mostItems, validLength, isLetter, endService, version}
-use Rattle.line.specs.Receiving.{Rule, unfinished, standing, sequence-found, sync-block, check-fails, accepts, previous, out-of-sequence, ends, wrong-length, ends-again, anything-else, waits, meaning, eventKind, withLength, Place, expected, last, next, other, place, placeRule, makesItems, endRule, markRule, serviceRule, verdictRule, looksSync, judge, orWait, blockRule, afterGood, lastBad, afterBad, after, finishedRow, Reception, idleRule, receive}
+use Rattle.line.specs.Receiving.{Rule, unfinished, standing, sequence-found, sync-block, check-fails, accepts, previous, out-of-sequence, ends, wrong-length, ends-again, anything-else, waits, meaning, isAccepted, isEnded, Place, expected, last, next, other, place, placeRule, makesItems, endRule, markRule, serviceRule, verdictRule, looksSync, judge, orWait, blockRule, afterGood, lastBad, afterBad, after, finishedRow, Reception, idleRule, receive}
 use Rattle.line.specs.declared.receiver.Receiver.{Receiver}
 use Rattle.line.specs.declared.receiving.Phase.{Phase}
 use Rattle.line.specs.declared.receiving.Phase.the-variants as P
@@ -75,12 +75,6 @@ block-room s row ready =
     (judge-room (s .setup .marks .«in_use») (s .setup .k) (s .taken) (s .ended) row)
 
 -- ---- what is taken
-
-abbrev isAccepted : Event → Bool
-isAccepted e = eventKind e .new
-
-abbrev isEnded : Event → Bool
-isEnded e = withLength false (λ (L : ℕ). true) (eventKind e .length)
 
 -- in step, in range, nothing held
 pub record Blank (t : Receiver) : Type 0 where

@@ -140,6 +140,12 @@ abbrev pub withLength : {A : Type 0} → A → (ℕ → A) → Option ℕ → A
 withLength other f none = other
 withLength other f (some L) = f L
 
+abbrev pub isAccepted : Event → Bool
+isAccepted e = eventKind e .new
+
+abbrev pub isEnded : Event → Bool
+isEnded e = withLength false (λ L. true) (eventKind e .length)
+
 -- ---- in step, at each n-th bit: whether marks are in use, k, the items taken and whether the end is, and the row of n bits
 
 -- with marks: any of the four is item 0's, whatever the receiver's own code size; item i + 1 has the letter of i

@@ -1,17 +1,17 @@
 -- The reader over the bytes of a line keeps what the line says. Assumes nothing.
-use mathlib.Core.Path.{_≡_, refl, sym, ap, ap₂, _∙_}
+use mathlib.Core.Path.{_≡_, refl, _∙_}
 use mathlib.Core.Bool.{Bool, true, false, cond}
 use mathlib.Core.List.{List, [], _∷_, _++_, append-assoc, append-nil}
 use mathlib.Core.Logic.{⊎-elim}
 use mathlib.Core.Option.{Option, none, some, Option·map}
-use Prim.Native.Nat.{ℕ, suc, _+_, _*_, _%_, _≤_, _<_, min}
+use Prim.Native.Nat.{ℕ, _+_, _*_, _%_, _≤_, _<_, min}
 use native.Mathlib.Nat.{mod-eq-of-lt}
 use native.Mathlib.Numerals.{add-one}
 use native.Mathlib.Omega.{arith}
 use lib.Dec.{ltb}
 use lib.ListN.{length, take, set, length-set}
 use lib.Seq.{take-all, take-append-le, take-suc-set, take-nil, length-take-le}
-use borrow.Author.Tests.{ltb-true, ltb-false, lt-ltb, le-ltb}
+use borrow.Author.Tests.{ltb-true, ltb-false}
 use Rattle.block.proofs.Truth.{either}
 use Rattle.session.specs.LineOne.{isBlank, isDecimal, isHex, decimalValue, hexValue, lineEnd, hexBytes, halfByte, orderField, Order, lengthField, lengthStart, Opening, kField, lineOne, limit, keep, grown, nextAt, nextOrder, start, readAll}
 use Rattle.session.specs.declared.line_one.LineOne.{LineOne}

@@ -1,21 +1,20 @@
 -- Opening the sender by what is kept of line one is opening it by what the line says. Assumes nothing.
-use mathlib.Core.Path.{_≡_, refl, sym, ap, _∙_}
-use mathlib.Core.Bool.{Bool, true, false, not}
+use mathlib.Core.Path.{_≡_, refl, _∙_}
+use mathlib.Core.Bool.{Bool, true, false}
 use mathlib.Core.List.{List}
-use mathlib.Core.Logic.{_⊎_, inl, inr, ⊎-elim}
+use mathlib.Core.Logic.{_⊎_, ⊎-elim}
 use Prim.Native.Nat.{ℕ, _*_, _≤_, _<_, min}
 use native.Mathlib.Omega.{arith}
-use lib.Dec.{eqb, ltb}
+use lib.Dec.{eqb}
 use lib.ListN.{take}
 use borrow.Author.Tests.{lt-ltb, ne-eqb}
 use Rattle.block.specs.Answer as A
-use Rattle.block.specs.Answer.{Answer, refused, done, refuseIf}
+use Rattle.block.specs.Answer.{Answer, refused}
 use Rattle.block.specs.Lengths.{isLength}
-use Rattle.block.specs.Calls.{tooShort}
 use Rattle.block.proofs.Lengths.{length-facts}
 use Rattle.line.specs.Order.{longestOrder}
 use Rattle.line.specs.LoopTime.{loopTime}
-use Rattle.line.specs.Sending.{unless-refused, freshSender, openSender}
+use Rattle.line.specs.Sending.{openSender}
 use Rattle.session.specs.LineOne.{limit}
 use Rattle.session.specs.Outcomes.{speed, loop-ms, code-size, orderRoom}
 use Rattle.line.specs.declared.sender.Sender.{Sender}

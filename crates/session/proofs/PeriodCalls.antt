@@ -7,16 +7,15 @@ use native.Mathlib.Omega.{arith}
 use lib.ListN.{length, take, replicate}
 use Rattle.crc.specs.Bits.{Bits, bitsOf, bytesOf}
 use Rattle.block.specs.Answer.{Answer, refused, done}
-use Rattle.block.specs.Lengths.{isLength, blockLength}
 use Rattle.block.proofs.Lengths.{length-facts}
 use Rattle.line.specs.Order.{orderBits}
 use Rattle.line.specs.Sending as S
-use Rattle.line.specs.Sending.{send, sendState, sendBytes, sentBits, sentAnswer, Send}
+use Rattle.line.specs.Sending.{send, sendBytes, sentBits, sentAnswer, Send}
 use Rattle.line.specs.declared.sender.Sender.{Sender}
 use Rattle.line.specs.declared.sender.Step.{Step}
 use Rattle.line.specs.declared.receiver.Receiver.{Receiver}
 use Rattle.line.specs.declared.receiving.Event.the-variants as E
-use Rattle.session.specs.Period.{readingOf, lineBytes, Lent, arriving, hear, shownBlock, shownReading, shownSending, Course, heardCourse, period}
+use Rattle.session.specs.Period.{readingOf, lineBytes, Lent, arriving, hear, shownBlock, shownReading, shownSending, heardCourse, period}
 use Rattle.session.specs.declared.period.Block.{Block}
 use Rattle.session.specs.declared.period.Kind.{Kind}
 use Rattle.session.specs.declared.period.Outcome.the-variants as O

@@ -3,7 +3,7 @@ use mathlib.Core.Path.{_≡_, refl, sym, ap, _∙_}
 use mathlib.Core.List.{List, [], _∷_, _++_}
 use Prim.Native.Nat.{ℕ, zero, suc, _+_, _-_, _*_, _≤_, _<_}
 use native.Mathlib.Omega.{arith}
-use lib.ListN.{length, take, drop, length-drop, length-append}
+use lib.ListN.{length, take, drop, length-drop}
 use lib.Seq.{take-at, drop-append-le, length-take-le}
 use Rattle.crc.specs.Bits.{Bits, bitsOf, bytesOf, zeros}
 use Rattle.crc.proofs.Bytes.{length-bitsOf, length-bytesOf, bitsOf-bytesOf, bytesOf-zeros}

@@ -7,10 +7,10 @@ use native.Mathlib.Nat.{sub-zero, zero-sub, suc-sub-suc}
 use native.Mathlib.Omega.{arith}
 use lib.Bits.{bitXor, xor-block, xor-zero-r}
 use lib.ListN.{length, getD, set, take, drop, replicate, drop-of-length-le, length-append}
-use lib.Seq.{length-take-le, drop-nil}
+use lib.Seq.{length-take-le}
 use Rattle.crc.specs.Bits.{Bits, bit, number, bytesOf, zeros}
 use Rattle.crc.proofs.Rows.{number-cons, number-lt}
-use Rattle.block.specs.Answer.{Answer, refused, done}
+use Rattle.block.specs.Answer.{Answer, done}
 use Rattle.block.specs.Lengths.{isLength, blockLength, blockBytes}
 use Rattle.block.specs.Block.{cancelled}
 use Rattle.block.proofs.Lengths.{length-facts}

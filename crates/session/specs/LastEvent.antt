@@ -1,7 +1,7 @@
 -- What a period's line tells of its receiving calls. The line shows one event of a period, the last other than none; accepted and
 -- ended are never hidden by a later one, so that counting them over the lines counts every one. Assumes nothing.
 use mathlib.Core.Path.{_≡_}
-use mathlib.Core.Bool.{Bool, true, false, _||_}
+use mathlib.Core.Bool.{Bool, true, _||_}
 use mathlib.Core.List.{List, [], _∷_, _++_}
 use Prim.Native.Nat.{ℕ, zero, suc, _+_}
 use lib.ListN.{length, drop, replicate}
@@ -10,7 +10,7 @@ use Rattle.block.specs.Answer.{Answer, refused, done}
 use Rattle.line.specs.Order.{orderBits}
 use Rattle.line.specs.Sending as S
 use Rattle.line.specs.Sending.{send, sentBits}
-use Rattle.line.specs.Receiving.{Reception, meaning, eventKind, withLength, receive, receiveStore}
+use Rattle.line.specs.Receiving.{Reception, meaning, isAccepted, isEnded, receive, receiveStore}
 use Rattle.line.specs.Delivery.{All, some}
 use Rattle.line.specs.declared.sender.Sender.{Sender}
 use Rattle.line.specs.declared.receiver.Receiver.{Receiver}
@@ -46,12 +46,6 @@ unfoldable pub periodEvents : Kind → Sender → Receiver → List ℕ → List
 periodEvents kind s r order store = sentEvents kind s r order store (send s order (readingOf kind (r .back)) (replicate lineBytes 0))
 
 -- ---- what is said of them
-
-abbrev pub isAccepted : Event → Bool
-isAccepted e = eventKind e .new
-
-abbrev pub isEnded : Event → Bool
-isEnded e = withLength false (λ (L : ℕ). true) (eventKind e .length)
 
 -- the machine took something
 abbrev pub takesBlock : Event → Bool

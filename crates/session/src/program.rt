@@ -13,8 +13,7 @@ use crate::script::least;
 use crate::text::Text;
 use crate::text::heading_text;
 use crate::text::outcome_text;
-
-const LONGEST_ORDER: usize = 262144;
+use line::order::LONGEST_ORDER;
 
 const ORDER_BYTES: usize = LONGEST_ORDER / 8;
 

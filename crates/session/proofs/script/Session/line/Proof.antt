@@ -1,7 +1,7 @@
 -- `Session::line` meets its contract. Assumes nothing.
 use mathlib.Core.Path.{_≡_, sym, ap, _∙_}
 use native.Mathlib.Omega.{arith}
-use lib.ListN.{length, take}
+use lib.ListN.{take}
 use lib.Seq.{length-take-le}
 use Rattle.session.specs.Session.{orderOf}
 use Rattle.session.proofs.Parts.{take-least}
