@@ -22,7 +22,7 @@ use Rattle.line.specs.declared.sender.Sender.{Sender}
 use Rattle.line.specs.declared.receiver.Receiver.{Receiver}
 use Rattle.session.specs.LineOne.{Opening, lineOne, keep, limit, readable, said, readAll, start, next, nextOrder}
 use Rattle.session.specs.Lines.{newline, firstLine, afterLine, joined, lines}
-use Rattle.session.specs.Period.{Course, period}
+use Rattle.session.specs.Period.{PeriodResult, period}
 use Rattle.session.specs.Outcomes.{speed, loop-ms, code-size, orderRoom, storeRoom, letterKind, kindOf, unlessRefused, lineOutcomes, periods, receiverOutcomes, senderOutcomes, openingOutcomes, outcomes}
 use Rattle.session.specs.Session.{placed, opens, senderOpened, receiverOpened, afterPeriod, fresh, takes, takesOrder, takesStore, ends, listed, yields, ByBytes}
 use Rattle.session.specs.declared.line_one.LineOne.{LineOne}
@@ -81,7 +81,7 @@ letter-no-newline c kind e = by-test (eqb c newline) refl
     by-test false h = h
 
 -- after a period: the lines that follow, or the end
-after-period : (o : LineOne) (c : Course) (order ds : List ℕ) (out : Outcome) (rest : List Outcome)
+after-period : (o : LineOne) (c : PeriodResult) (order ds : List ℕ) (out : Outcome) (rest : List Outcome)
     → yields (session P.LineStart o (c .period .sender) (c .period .receiver)) order (c .store) ds ≡ rest
     → yields (session (afterPeriod out) o (c .period .sender) (c .period .receiver)) order (c .store) ds ≡ unlessRefused out rest
 after-period o c order ds (O.Refused m) rest e =
@@ -122,13 +122,13 @@ module _ (o : LineOne) (order : List ℕ) where
 
   -- a byte behind a letter: a newline brings the period and the lines that follow
   letter-then : (kind : Kind) (c : ℕ) (s : Sender) (r : Receiver) (store : List ℕ) (d : ℕ) (ds : List ℕ) → letterKind c ≡ some kind
-      → (let x : Course = period kind s r lent store in
+      → (let x : PeriodResult = period kind s r lent store in
       yields (session P.LineStart o (x .period .sender) (x .period .receiver)) order (x .store) ds
       ≡ periods (x .period .sender) (x .period .receiver) lent (x .store) (lines ds))
       → yields (session (P.Kind kind) o s r) order store (d ∷ ds) ≡ periods s r lent store (joined c (lines (d ∷ ds)))
   unfolding yields takes takesOrder takesStore periods
   letter-then kind c s r store d ds e rest =
-      let x : Course = period kind s r lent store in
+      let x : PeriodResult = period kind s r lent store in
       let out : Outcome = x .period .outcome in
       ⊎-elim
       (λ (t : eqb d newline ≡ true).
@@ -150,7 +150,7 @@ module _ (o : LineOne) (order : List ℕ) where
         → yields (session (P.Kind kind) o s r) order store cs ≡ periods s r lent store (joined c (lines cs))
     letter-read kind c e s r store [] = letter-last kind c s r store e
     letter-read kind c e s r store (d ∷ ds) =
-        let x : Course = period kind s r lent store in
+        let x : PeriodResult = period kind s r lent store in
         letter-then kind c s r store d ds e (line-start (x .period .sender) (x .period .receiver) (x .store) ds)
 
 -- ---- line one ends
@@ -216,7 +216,7 @@ periods-kept (l ∷ ls) s r order store h = by-kind (kindOf l)
     periods-kept ls (period kind s r order store .period .sender) (period kind s r order store .period .receiver) order
     (period kind s r order store .store) (rw (period-setup kind s r order store) h))
   where
-    following : List ℕ → Course → List Outcome
+    following : List ℕ → PeriodResult → List Outcome
     following order c = periods (c .period .sender) (c .period .receiver) order (c .store) ls
 
     by-kind : (k : Option Kind)

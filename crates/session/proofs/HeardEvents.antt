@@ -160,7 +160,7 @@ pub record Told (s : Receiver) (bits : Bits) (last : Event) (events : List Event
   pub shown : (e : Event) → h .heard .last ≡ L.Event e → e ≡ lastOf last events
   -- bits that complete no block bring no event and no refusal
   pub quiet : Quiet s bits → All IsNone events × (h .heard .last ≡ L.Event last)
-  -- of the bits of one block at most: ...
+  -- of bits that are one block at most, an event that takes a block is the last but none, and so is told
   pub last-taken : length bits ≤ blockLength (s .setup .k) → (before : List Event) (e : Event) (after : List Event)
       → events ≡ before ++ (e ∷ after) → takesBlock e ≡ true → All IsNone after × (h .heard .last ≡ L.Event e)
   pub number : length bits ≤ blockLength (s .setup .k) → (p : Event → Bool) → ((e : Event) → p e ≡ true → takesBlock e ≡ true) → p last ≡ false

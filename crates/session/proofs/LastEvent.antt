@@ -16,7 +16,7 @@ use Rattle.line.specs.declared.sender.Sender.{Sender}
 use Rattle.line.specs.declared.receiver.Receiver.{Receiver}
 use Rattle.line.specs.declared.receiving.Event.{Event}
 use Rattle.line.specs.declared.receiving.Event.the-variants as E
-use Rattle.session.specs.Period.{readingOf, arriving, lineBytes, hear, shownBlock, shownReading, lineOf, sentCourse, period}
+use Rattle.session.specs.Period.{readingOf, arriving, lineBytes, hear, shownBlock, shownReading, lineOf, sentResult, period}
 use Rattle.session.specs.LastEvent.{heardEvents, sentEvents, periodEvents, takesBlock, howMany, lastOf, shownEvents, Tells, LastEvent}
 use Rattle.session.specs.declared.period.Block as B
 use Rattle.session.specs.declared.period.Kind.{Kind}
@@ -63,16 +63,16 @@ module _ (kind : Kind) (s : Sender) (r : Receiver) (reading : Bool) (order store
         → length (arriving kind bits) ≤ blockLength (r .setup .k)
     fits e same = omega (arith, length-arriving kind bits, on-line s order reading b e .count, ap blockLength same)
 
-  course-tells : (a : Answer Block) → send s order reading (replicate lineBytes 0) ≡ a → s .setup .k ≡ r .setup .k
-      → Tells r (sentEvents kind s r order store a) (sentCourse kind s r reading order store a .period)
-  course-tells (refused n) e same =
+  sent-tells : (a : Answer Block) → send s order reading (replicate lineBytes 0) ≡ a → s .setup .k ≡ r .setup .k
+      → Tells r (sentEvents kind s r order store a) (sentResult kind s r reading order store a .period)
+  sent-tells (refused n) e same =
       record {
         last = λ before ev after h w. absurd (no-event before ev after h);
         number = λ p only. refl;
         taken = omega arith;
         ended = sym (or-no (r .ended));
       }
-  course-tells (done b) e same =
+  sent-tells (done b) e same =
       let t = sent-told b in
       let h = hear (length (bits b)) r (arriving kind (bits b)) store E.None .heard in
       let events = heardEvents (length (bits b)) r (arriving kind (bits b)) store in
@@ -87,14 +87,14 @@ module _ (kind : Kind) (s : Sender) (r : Receiver) (reading : Bool) (order store
         ended = t .ended ∙ ap (λ (x : Bool). r .ended || x) (some-same isEnded events (shownEvents outcome) (told-number isEnded only-ended));
       }
 
-  course-shows : (a : Answer Block) (l : Line) → sentCourse kind s r reading order store a .period .outcome ≡ O.Line l
+  sent-shows : (a : Answer Block) (l : Line) → sentResult kind s r reading order store a .period .outcome ≡ O.Line l
       → l .event ≡ lastOf E.None (sentEvents kind s r order store a)
-  course-shows (refused n) l h = absurd (let z : _≡_ {A = ℕ} 0 1 = cc in omega arith)
-  course-shows (done b) l h = sent-told b .shown (l .event) (line-event _ _ _ _ l h)
+  sent-shows (refused n) l h = absurd (let z : _≡_ {A = ℕ} 0 1 = cc in omega arith)
+  sent-shows (done b) l h = sent-told b .shown (l .event) (line-event _ _ _ _ l h)
 
-  course-setup : (a : Answer Block) → sentCourse kind s r reading order store a .period .receiver .setup ≡ r .setup
-  course-setup (refused n) = refl
-  course-setup (done b) = sent-told b .setup
+  sent-setup : (a : Answer Block) → sentResult kind s r reading order store a .period .receiver .setup ≡ r .setup
+  sent-setup (refused n) = refl
+  sent-setup (done b) = sent-told b .setup
 
 -- ---- a period
 
@@ -103,14 +103,14 @@ pub receiver-setup : (kind : Kind) (s : Sender) (r : Receiver) (order store : Li
     → period kind s r order store .period .receiver .setup ≡ r .setup
 unfolding period
 receiver-setup kind s r order store =
-    course-setup kind s r (readingOf kind (r .back)) order store (send s order (readingOf kind (r .back)) (replicate lineBytes 0))
+    sent-setup kind s r (readingOf kind (r .back)) order store (send s order (readingOf kind (r .back)) (replicate lineBytes 0))
 
 pub last-event : LastEvent
 unfolding period periodEvents
 last-event =
     record {
       tells = λ kind s r order store.
-          course-tells kind s r (readingOf kind (r .back)) order store (send s order (readingOf kind (r .back)) (replicate lineBytes 0)) refl;
+          sent-tells kind s r (readingOf kind (r .back)) order store (send s order (readingOf kind (r .back)) (replicate lineBytes 0)) refl;
       shows = λ kind s r order store.
-          course-shows kind s r (readingOf kind (r .back)) order store (send s order (readingOf kind (r .back)) (replicate lineBytes 0));
+          sent-shows kind s r (readingOf kind (r .back)) order store (send s order (readingOf kind (r .back)) (replicate lineBytes 0));
     }

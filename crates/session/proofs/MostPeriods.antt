@@ -22,7 +22,7 @@ use Rattle.line.specs.declared.receiver.Receiver.{Receiver}
 use Rattle.session.specs.LineOne.{Opening, lineOne}
 use Rattle.session.specs.Lines.{firstLine, afterLine, lines}
 use Rattle.session.specs.Outcomes.{speed, loop-ms, code-size, storeRoom, kindOf, unlessRefused, lineOutcomes, periods, receiverOutcomes, senderOutcomes, openingOutcomes, outcomes, lineCount, itemsOf, MostPeriods}
-use Rattle.session.specs.Period.{Course, readingOf, lineBytes, sentCourse, period}
+use Rattle.session.specs.Period.{PeriodResult, readingOf, lineBytes, sentResult, period}
 use Rattle.session.specs.declared.period.Kind.{Kind}
 use Rattle.session.specs.declared.period.Line.{Line}
 use Rattle.session.specs.declared.period.Outcome.{Outcome}
@@ -42,8 +42,8 @@ few-refused most n = record { lines-few = omega arith; one-refusal = omega arith
 -- ---- a period with a line is one with a block sent
 
 sent-lowers : (kind : Kind) (s : Sender) (r : Receiver) (reading : Bool) (order store : List ℕ) (a : Answer S.Block)
-    → send s order reading (replicate lineBytes 0) ≡ a → (l : Line) → sentCourse kind s r reading order store a .period .outcome ≡ O.Line l
-    → blocksLeft (sentCourse kind s r reading order store a .period .sender) < blocksLeft s
+    → send s order reading (replicate lineBytes 0) ≡ a → (l : Line) → sentResult kind s r reading order store a .period .outcome ≡ O.Line l
+    → blocksLeft (sentResult kind s r reading order store a .period .sender) < blocksLeft s
 sent-lowers kind s r reading order store (refused n) e l o = absurd (let z : _≡_ {A = ℕ} 0 1 = cc in omega arith)
 sent-lowers kind s r reading order store (done b) e l o = send-lowers s order reading (replicate lineBytes 0) b e
 
@@ -66,11 +66,11 @@ periods-few (l ∷ ls) s r order store =
     by-kind (kindOf l) (λ c. periods (c .period .sender) (c .period .receiver) order (c .store) ls)
     (λ c. periods-few ls (c .period .sender) (c .period .receiver) order (c .store))
   where
-    by-kind : (k : Option Kind) (next : Course → List Outcome) → ((c : Course) → Few (blocksLeft (c .period .sender)) (next c))
+    by-kind : (k : Option Kind) (next : PeriodResult → List Outcome) → ((c : PeriodResult) → Few (blocksLeft (c .period .sender)) (next c))
         → Few (blocksLeft s) (lineOutcomes s r order store next k)
     by-kind none next few = few-none (blocksLeft s)
     by-kind (some kind) next few =
-        let c : Course = period kind s r order store in
+        let c : PeriodResult = period kind s r order store in
         few-more (blocksLeft s) (blocksLeft (c .period .sender)) (c .period .outcome) (next c)
         (λ l e. period-lowers kind s r order store l e) (few c)
 

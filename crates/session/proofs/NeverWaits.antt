@@ -14,7 +14,7 @@ use Rattle.line.specs.declared.receiver.Receiver.{Receiver}
 use Rattle.line.specs.declared.receiving.Event.{Event}
 use Rattle.line.specs.declared.receiving.Event.the-variants as E
 use Rattle.line.proofs.Readiness.{readiness}
-use Rattle.session.specs.Period.{lineBytes, readingOf, arriving, lastEvent, answered, ready, hear, shownBlock, shownReading, lineOf, sentCourse, period, showsWait, NeverWaits}
+use Rattle.session.specs.Period.{lineBytes, readingOf, arriving, lastEvent, answered, ready, hear, shownBlock, shownReading, lineOf, sentResult, period, showsWait, NeverWaits}
 use Rattle.session.specs.declared.period.Block as B
 use Rattle.session.specs.declared.period.Reading as R
 use Rattle.session.specs.declared.period.Kind.{Kind}
@@ -59,7 +59,7 @@ shown block reading back (L.Refused n) h = refl
 shown block reading back (L.Event e) h = h
 
 sent : (kind : Kind) (s : Sender) (r : Receiver) (reading : Bool) (order store : List ℕ) (a : Answer Block)
-    → showsWait (sentCourse kind s r reading order store a .period .outcome) ≡ false
+    → showsWait (sentResult kind s r reading order store a .period .outcome) ≡ false
 sent kind s r reading order store (refused n) = refl
 sent kind s r reading order store (done b) =
     let bits : Bits = sentBits (s .setup .marks) (s .setup .k) (s .setup .length) (orderBits (s .setup .length) order) b in

@@ -18,7 +18,7 @@ use Rattle.line.specs.Sending.{send}
 use Rattle.line.specs.declared.sender.Sender.{Sender}
 use Rattle.line.specs.declared.receiver.Receiver.{Receiver}
 use Rattle.line.proofs.Delivery.SendStep.{setup-kept}
-use Rattle.session.specs.Period.{readingOf, lineBytes, sentCourse, period}
+use Rattle.session.specs.Period.{readingOf, lineBytes, sentResult, period}
 use Rattle.session.specs.declared.period.Kind.{Kind}
 use Rattle.session.proofs.Decimal.{below-or}
 
@@ -39,27 +39,27 @@ send-kept : (m : ℕ) (s : Sender) (order : List ℕ) (reading : Bool) (slice : 
 unfolding send
 send-kept m s order reading slice h = rw (short-kept m order (s .setup .length) h)
 
-course-kept : (m : ℕ) (kind : Kind) (s : Sender) (r : Receiver) (reading : Bool) (order store : List ℕ) (a : Answer S.Block)
+sent-kept : (m : ℕ) (kind : Kind) (s : Sender) (r : Receiver) (reading : Bool) (order store : List ℕ) (a : Answer S.Block)
     → s .setup .length ≤ 8 * m
-    → sentCourse kind s r reading (take m order) store a ≡ sentCourse kind s r reading order store a
-course-kept m kind s r reading order store (refused n) h = refl
-course-kept m kind s r reading order store (done b) h = rw (bits-kept m order (s .setup .length) h)
+    → sentResult kind s r reading (take m order) store a ≡ sentResult kind s r reading order store a
+sent-kept m kind s r reading order store (refused n) h = refl
+sent-kept m kind s r reading order store (done b) h = rw (bits-kept m order (s .setup .length) h)
 
 pub period-kept : (m : ℕ) (kind : Kind) (s : Sender) (r : Receiver) (order store : List ℕ) → s .setup .length ≤ 8 * m
     → period kind s r (take m order) store ≡ period kind s r order store
 unfolding period
 period-kept m kind s r order store h =
     rw (send-kept m s order (readingOf kind (r .back)) (replicate lineBytes 0) h)
-    (course-kept m kind s r (readingOf kind (r .back)) order store (send s order (readingOf kind (r .back)) (replicate lineBytes 0)) h)
+    (sent-kept m kind s r (readingOf kind (r .back)) order store (send s order (readingOf kind (r .back)) (replicate lineBytes 0)) h)
 
 -- a period leaves what the sender's opening fixed
-course-setup : (kind : Kind) (s : Sender) (r : Receiver) (reading : Bool) (order store : List ℕ) (a : Answer S.Block)
-    → sentCourse kind s r reading order store a .period .sender .setup ≡ s .setup
-course-setup kind s r reading order store (refused n) = refl
-course-setup kind s r reading order store (done b) = setup-kept s (s .next) reading
+sent-setup : (kind : Kind) (s : Sender) (r : Receiver) (reading : Bool) (order store : List ℕ) (a : Answer S.Block)
+    → sentResult kind s r reading order store a .period .sender .setup ≡ s .setup
+sent-setup kind s r reading order store (refused n) = refl
+sent-setup kind s r reading order store (done b) = setup-kept s (s .next) reading
 
 pub period-setup : (kind : Kind) (s : Sender) (r : Receiver) (order store : List ℕ)
     → period kind s r order store .period .sender .setup ≡ s .setup
 unfolding period
 period-setup kind s r order store =
-    course-setup kind s r (readingOf kind (r .back)) order store (send s order (readingOf kind (r .back)) (replicate lineBytes 0))
+    sent-setup kind s r (readingOf kind (r .back)) order store (send s order (readingOf kind (r .back)) (replicate lineBytes 0))

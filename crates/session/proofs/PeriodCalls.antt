@@ -15,7 +15,7 @@ use Rattle.line.specs.declared.sender.Sender.{Sender}
 use Rattle.line.specs.declared.sender.Step.{Step}
 use Rattle.line.specs.declared.receiver.Receiver.{Receiver}
 use Rattle.line.specs.declared.receiving.Event.the-variants as E
-use Rattle.session.specs.Period.{readingOf, lineBytes, Lent, arriving, hear, shownBlock, shownReading, shownSending, heardCourse, period}
+use Rattle.session.specs.Period.{readingOf, lineBytes, Lent, arriving, hear, shownBlock, shownReading, shownSending, heardResult, period}
 use Rattle.session.specs.declared.period.Block.{Block}
 use Rattle.session.specs.declared.period.Kind.{Kind}
 use Rattle.session.specs.declared.period.Outcome.the-variants as O
@@ -51,8 +51,8 @@ module _ (kind : Kind) (s : Sender) (r : Receiver) (order store : List ℕ) (rea
   pub record BlockSent (block : Block) (used : Reading) : Type 0 where
     pub count : s .setup .k ≤ 3840
     pub lent : Lent line (s .setup .k + 20)
-    pub course : period kind s r order store
-        ≡ heardCourse (step .state) block used
+    pub result : period kind s r order store
+        ≡ heardResult (step .state) block used
         (hear (s .setup .k + 20) r (arriving kind (take (s .setup .k + 20) (bitsOf line))) store E.None)
 
   sent-at : (b : S.Block) (block : Block) (used : Reading) → sentAnswer (step .answer) ≡ done b → block ≡ shownBlock b
@@ -68,7 +68,7 @@ module _ (kind : Kind) (s : Sender) (r : Receiver) (order store : List ℕ) (rea
       record {
         count = omega arith;
         lent = rw (l, ← o .count) (lent-packed bits m);
-        course = rw (sb, sr, l, ← o .count, held-bits bits m, kept .state, g, ← e, g);
+        result = rw (sb, sr, l, ← o .count, held-bits bits m, kept .state, g, ← e, g);
       }
 
   pub sent : (block : Block) (used : Reading) → sending ≡ W.Sent block used → BlockSent block used

@@ -18,7 +18,7 @@ use Rattle.line.specs.declared.sender.Sender.{Sender}
 use Rattle.line.specs.declared.receiver.Receiver.{Receiver}
 use Rattle.session.specs.LineOne.{Opening, lineOne}
 use Rattle.session.specs.Lines.{firstLine, afterLine, lines}
-use Rattle.session.specs.Period.{Course, period}
+use Rattle.session.specs.Period.{PeriodResult, period}
 use Rattle.session.specs.declared.period.Kind.{Kind}
 use Rattle.session.specs.declared.period.Kind.the-variants as K
 use Rattle.session.specs.declared.period.Outcome.{Outcome}
@@ -61,10 +61,10 @@ unlessRefused (O.Refused n) rest = []
 unlessRefused (O.Line l) rest = rest
 
 -- a line of another kind ends the run with no outcome
-abbrev pub lineOutcomes : Sender → Receiver → List ℕ → List ℕ → (Course → List Outcome) → Option Kind → List Outcome
+abbrev pub lineOutcomes : Sender → Receiver → List ℕ → List ℕ → (PeriodResult → List Outcome) → Option Kind → List Outcome
 lineOutcomes s r order store next none = []
 lineOutcomes s r order store next (some kind) =
-    let c : Course = period kind s r order store in
+    let c : PeriodResult = period kind s r order store in
     c .period .outcome ∷ unlessRefused (c .period .outcome) (next c)
 
 -- the periods of these lines

@@ -123,13 +123,13 @@ abbrev pub lineOf : Block → Shown.Reading → Bool → Last → Outcome
 lineOf block reading back (L.Refused n) = O.Refused n
 lineOf block reading back (L.Event e) = O.Line (record { block = block; reading = reading; event = e; back = back })
 
--- both ends and what is written, and the store
-pub record Course : Type 0 where
+-- both ends and the outcome, and the store
+pub record PeriodResult : Type 0 where
   pub period : Period
   pub store : List ℕ
 
-abbrev pub heardCourse : Sender → Block → Shown.Reading → Hearing → Course
-heardCourse s block reading h =
+abbrev pub heardResult : Sender → Block → Shown.Reading → Hearing → PeriodResult
+heardResult s block reading h =
     record {
       period =
           record {
@@ -140,18 +140,18 @@ heardCourse s block reading h =
       store = h .store;
     }
 
-abbrev pub sentCourse : Kind → Sender → Receiver → Bool → List ℕ → List ℕ → Answer S.Block → Course
-sentCourse kind s r reading order store (refused n) =
+abbrev pub sentResult : Kind → Sender → Receiver → Bool → List ℕ → List ℕ → Answer S.Block → PeriodResult
+sentResult kind s r reading order store (refused n) =
     record { period = record { sender = s; receiver = r; outcome = O.Refused n }; store = store }
-sentCourse kind s r reading order store (done b) =
+sentResult kind s r reading order store (done b) =
     let bits : Bits = sentBits (s .setup .marks) (s .setup .k) (s .setup .length) (orderBits (s .setup .length) order) b in
-    heardCourse (sendState s reading (done b)) (shownBlock b) (shownReading b reading)
+    heardResult (sendState s reading (done b)) (shownBlock b) (shownReading b reading)
     (hear (length bits) r (arriving kind bits) store E.None)
 
-unfoldable pub period : Kind → Sender → Receiver → List ℕ → List ℕ → Course
+unfoldable pub period : Kind → Sender → Receiver → List ℕ → List ℕ → PeriodResult
 period kind s r order store =
     let reading : Bool = readingOf kind (r .back) in
-    sentCourse kind s r reading order store (send s order reading (replicate lineBytes 0))
+    sentResult kind s r reading order store (send s order reading (replicate lineBytes 0))
 
 -- what a period answers, hands back and leaves in the store
 pub record RunPeriod (kind : Kind) (s : Sender) (r : Receiver) (order store : List ℕ) (result : Period) (store′ : List ℕ) : Type 0 where

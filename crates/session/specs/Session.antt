@@ -16,7 +16,7 @@ use Rattle.session.specs.LineOne as One
 use Rattle.session.specs.LineOne.{next, nextOrder, readable}
 use Rattle.session.specs.Lines.{newline}
 use Rattle.session.specs.Outcomes.{speed, loop-ms, code-size, orderRoom, storeRoom, letterKind, outcomes}
-use Rattle.session.specs.Period.{Course, period}
+use Rattle.session.specs.Period.{PeriodResult, period}
 use Rattle.session.specs.declared.period.Kind.{Kind}
 use Rattle.session.specs.declared.period.Outcome.{Outcome}
 use Rattle.session.specs.declared.period.Outcome.the-variants as O
@@ -85,7 +85,7 @@ abbrev pub afterPeriod : Outcome → Place
 afterPeriod (O.Refused n) = P.Over
 afterPeriod (O.Line l) = P.LineStart
 
-abbrev pub periodTaken : Session → Course → Taken
+abbrev pub periodTaken : Session → PeriodResult → Taken
 periodTaken s c =
     yielding
     (record {
@@ -96,8 +96,8 @@ periodTaken s c =
     })
     (Y.Outcome (c .period .outcome))
 
-abbrev pub coursed : Session → Kind → List ℕ → List ℕ → Course
-coursed s kind order store = period kind (s .sender) (s .receiver) (orderOf s order) store
+abbrev pub periodOf : Session → Kind → List ℕ → List ℕ → PeriodResult
+periodOf s kind order store = period kind (s .sender) (s .receiver) (orderOf s order) store
 
 -- ---- a byte of input
 
@@ -119,7 +119,7 @@ unfoldable pub takes : Session → Place → ℕ → List ℕ → List ℕ → T
 takes s P.LineOne c order store = cond (eqb c newline) (opens s order) (lineOneRead s c (length order))
 takes s P.LineStart c order store = quiet s (kindAt c)
 takes s (P.Kind kind) c order store =
-    cond (eqb c newline) (periodTaken s (coursed s kind order store)) (quiet s P.Over)
+    cond (eqb c newline) (periodTaken s (periodOf s kind order store)) (quiet s P.Over)
 takes s P.Over c order store = quiet s P.Over
 
 unfoldable pub takesOrder : Session → Place → ℕ → List ℕ → List ℕ
@@ -131,7 +131,7 @@ takesOrder s P.Over c order = order
 unfoldable pub takesStore : Session → Place → ℕ → List ℕ → List ℕ → List ℕ
 takesStore s P.LineOne c order store = store
 takesStore s P.LineStart c order store = store
-takesStore s (P.Kind kind) c order store = cond (eqb c newline) (coursed s kind order store .store) store
+takesStore s (P.Kind kind) c order store = cond (eqb c newline) (periodOf s kind order store .store) store
 takesStore s P.Over c order store = store
 
 -- ---- the end of the input: a last line with no newline counts
@@ -139,13 +139,13 @@ takesStore s P.Over c order store = store
 unfoldable pub ends : Session → Place → List ℕ → List ℕ → Taken
 ends s P.LineOne order store = opens s order
 ends s P.LineStart order store = quiet s P.Over
-ends s (P.Kind kind) order store = periodTaken s (coursed s kind order store)
+ends s (P.Kind kind) order store = periodTaken s (periodOf s kind order store)
 ends s P.Over order store = quiet s P.Over
 
 unfoldable pub endsStore : Session → Place → List ℕ → List ℕ → List ℕ
 endsStore s P.LineOne order store = store
 endsStore s P.LineStart order store = store
-endsStore s (P.Kind kind) order store = coursed s kind order store .store
+endsStore s (P.Kind kind) order store = periodOf s kind order store .store
 endsStore s P.Over order store = store
 
 abbrev pub over : Place → Bool

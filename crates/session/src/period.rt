@@ -5,7 +5,7 @@ ghost use lib.ListN.{length, take};
 ghost use Rattle.crc.specs.Bits.{bitsOf};
 ghost use Rattle.line.specs.Sending.{sentAnswer};
 ghost use Rattle.session.specs.Period as P;
-ghost use Rattle.session.specs.Period.{Lent, readingOf, arriving, disturbed, lastEvent, ifUsed, shownSending, lineOf, heardCourse, RunPeriod};
+ghost use Rattle.session.specs.Period.{Lent, readingOf, arriving, disturbed, lastEvent, ifUsed, shownSending, lineOf, heardResult, RunPeriod};
 use crate::shift::drop_bits;
 use block::OVERHEAD;
 use line::receiver::Receiver;
@@ -212,7 +212,7 @@ fn heard_period(
     store: &mut [u8],
 ) -> Period
     requires { ⌜ Lent (now line) count × (0 < count) ⌝ }
-    ensures { λ r. ⌜ r ≡ heardCourse sender block reading (P.hear count receiver (arriving kind (take count (bitsOf (now (line .entry))))) (now (store .entry)) Event.None) .period ⌝ }
+    ensures { λ r. ⌜ r ≡ heardResult sender block reading (P.hear count receiver (arriving kind (take count (bitsOf (now (line .entry))))) (now (store .entry)) Event.None) .period ⌝ }
     ensures { λ _. ⌜ now (store .exit) ≡ P.hear count receiver (arriving kind (take count (bitsOf (now (line .entry))))) (now (store .entry)) Event.None .store ⌝ }
 {
     disturb(kind, line);

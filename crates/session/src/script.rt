@@ -3,7 +3,7 @@
 ghost use mathlib.Core.Path.{_≡_};
 ghost use Prim.Native.Nat.{min};
 ghost use lib.ListN.{length};
-ghost use Rattle.session.specs.Session.{fresh, quiet, refusedAt, receiverOpened, opens, afterPeriod, periodTaken, coursed, kindAt, lineOneRead, over, Take, End};
+ghost use Rattle.session.specs.Session.{fresh, quiet, refusedAt, receiverOpened, opens, afterPeriod, periodTaken, periodOf, kindAt, lineOneRead, over, Take, End};
 ghost use Rattle.session.specs.LineOne.{nextOrder};
 ghost use Rattle.line.specs.Receiving.{openReceiver};
 use crate::line_one::LineOne;
@@ -174,8 +174,8 @@ impl Session {
 
     // A line of a kind ends: a period.
     fn line(self, kind: Kind, order: &[u8], store: &mut [u8]) -> Taken
-        ensures { λ r. ⌜ r ≡ periodTaken self (coursed self kind (now (order .entry)) (now (store .entry))) ⌝ }
-        ensures { λ _. ⌜ now (store .exit) ≡ coursed self kind (now (order .entry)) (now (store .entry)) .store ⌝ }
+        ensures { λ r. ⌜ r ≡ periodTaken self (periodOf self kind (now (order .entry)) (now (store .entry))) ⌝ }
+        ensures { λ _. ⌜ now (store .exit) ≡ periodOf self kind (now (order .entry)) (now (store .entry)) .store ⌝ }
     {
         let opening = self.opening;
         let kept = least(opening.kept, order.len());

@@ -1,7 +1,7 @@
 -- `run_period` meets its contract: by what the sending call promises, the receiving calls follow. Assumes nothing.
 use mathlib.Core.Path.{_≡_, sym, ap, _∙_}
 use native.Mathlib.Omega.{arith}
-use Rattle.session.specs.Period.{Course}
+use Rattle.session.specs.Period.{PeriodResult}
 use Rattle.session.proofs.PeriodCalls.{not-sent, BlockSent, sent}
 use borrow.Author.Needs.{needs}
 use Rattle.session.proofs.period.run_period.Statement.{statement}
@@ -53,7 +53,7 @@ returns c =
     let m =
     not-sent (a .kind) (a .sender) (a .receiver) (a .order .now) (a .store .now) (r .result) (w .result) (w .last .1 .1 .1 .0)
     (g .result) (r .ensures) (w .ensures) (g .ensures) _ (c .before .sending .given .1) in
-    record { answers = sym (ap (λ (x : Course). x .period) m); writes = sym (ap (λ (x : Course). x .store) m) }
+    record { answers = sym (ap (λ (x : PeriodResult). x .period) m); writes = sym (ap (λ (x : PeriodResult). x .store) m) }
 
 same-length : tie.Need-same-length
 same-length c = search needs
@@ -63,8 +63,8 @@ returns-2 c =
     let g = block-sent (c .before .before .before .before .before .before .before .before) in
     let h = c .before .before .before .heard-period in
     record {
-      answers = h .ensures .0 ∙ sym (ap (λ (x : Course). x .period) (g .course));
-      writes = h .ensures .1 ∙ sym (ap (λ (x : Course). x .store) (g .course));
+      answers = h .ensures .0 ∙ sym (ap (λ (x : PeriodResult). x .period) (g .result));
+      writes = h .ensures .1 ∙ sym (ap (λ (x : PeriodResult). x .store) (g .result));
     }
 
 pub run-period-spec : {M : Type 1} → statement M
