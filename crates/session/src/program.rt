@@ -6,19 +6,15 @@ ghost use Prim.Native.Nat.{_+_, _*_, _≤_, _<_};
 ghost use lib.ListN.{length, take};
 ghost use Rattle.session.specs.Text.{room, textBytes};
 ghost use Rattle.session.specs.Program.{partRoom, keeping, yieldText, counted, numberAfter, firstTurn, turn, Puts, ReadBytes};
+use crate::script::ORDER_BYTES;
 use crate::script::Place;
+use crate::script::STORE_BYTES;
 use crate::script::Session;
 use crate::script::Yield;
 use crate::script::least;
 use crate::text::Text;
 use crate::text::heading_text;
 use crate::text::outcome_text;
-use line::order::LONGEST_ORDER;
-
-const ORDER_BYTES: usize = LONGEST_ORDER / 8;
-
-// The bytes of the longest order in items of 3840 bits, the last one filled: the most over the four block lengths.
-const STORE_BYTES: usize = (LONGEST_ORDER + 3839) / 3840 * 480;
 
 // The most bytes of a part: what one read of the input brings.
 pub const PART_BYTES: usize = 2048;

@@ -12,12 +12,19 @@ use crate::period::Outcome;
 use crate::period::run_period;
 use line::marks::CodeSize;
 use line::marks::Marks;
+use line::order::LONGEST_ORDER;
 use line::receiver::Opening;
 use line::receiver::Receiver;
 use line::sender::Next;
 use line::sender::Opened;
 use line::sender::Sender;
 use line::sender::Setup;
+
+// The room that a session is lent for the order, and for the store: the longest order in items of 3840 bits, the last one
+// filled, which is the most over the four block lengths.
+pub const ORDER_BYTES: usize = LONGEST_ORDER / 8;
+
+pub const STORE_BYTES: usize = (LONGEST_ORDER + 3839) / 3840 * 480;
 
 // Speed and loop of every session; none has marks.
 const SPEED: u32 = 200;
@@ -41,6 +48,7 @@ pub struct Session {
     pub receiver: Receiver,
 }
 
+// What comes of a byte of input, or of its end.
 pub enum Yield {
     Nothing,
     Outcome(Outcome),
