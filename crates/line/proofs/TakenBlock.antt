@@ -16,7 +16,7 @@ use Rattle.block.proofs.Lengths.{length-facts}
 use Rattle.block.proofs.Truth.{cond-case, or-no, or-yes}
 use Rattle.line.specs.Marks.{isMark}
 use Rattle.line.specs.Order.{mostItems, validLength, isLetter, endService, version}
-use Rattle.line.specs.Receiving.{Rule, unfinished, standing, sequence-found, sync-block, check-fails, accepts, previous, out-of-sequence, ends, wrong-length, ends-again, anything-else, waits, meaning, isAccepted, isEnded, Place, expected, last, next, other, place, placeRule, makesItems, endRule, markRule, serviceRule, verdictRule, looksSync, judge, orWait, blockRule, afterGood, lastBad, afterBad, after, finishedRow, Reception, idleRule, receive}
+use Rattle.line.specs.Receiving.{Rule, unfinished, standing, sequence-found, sync-block, check-fails, accepts, previous, out-of-sequence, ends, wrong-length, ends-again, anything-else, waits, meaning, isAccepted, isEnded, takesBlock, Place, expected, last, next, other, place, placeRule, makesItems, endRule, markRule, serviceRule, verdictRule, looksSync, judge, orWait, blockRule, afterGood, lastBad, afterBad, after, finishedRow, Reception, idleRule, receive}
 use Rattle.line.specs.declared.receiver.Receiver.{Receiver}
 use Rattle.line.specs.declared.receiving.Phase.{Phase}
 use Rattle.line.specs.declared.receiving.Phase.the-variants as P
@@ -85,7 +85,7 @@ pub record Blank (t : Receiver) : Type 0 where
 pub record Takes (s : Receiver) (event : Event) (t : Receiver) : Type 0 where
   pub taken : t .taken ≡ s .taken + bit (isAccepted event)
   pub ended : t .ended ≡ s .ended || isEnded event
-  pub blank : isAccepted event || isEnded event ≡ true → Blank t
+  pub blank : takesBlock event ≡ true → Blank t
 
 module _ (s : Receiver) where
   -- nothing

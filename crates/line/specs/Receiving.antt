@@ -146,6 +146,10 @@ isAccepted e = eventKind e .new
 abbrev pub isEnded : Event → Bool
 isEnded e = withLength false (λ L. true) (eventKind e .length)
 
+-- the machine took a block
+abbrev pub takesBlock : Event → Bool
+takesBlock e = isAccepted e || isEnded e
+
 -- ---- in step, at each n-th bit: whether marks are in use, k, the items taken and whether the end is, and the row of n bits
 
 -- with marks: any of the four is item 0's, whatever the receiver's own code size; item i + 1 has the letter of i

@@ -15,7 +15,7 @@ use Rattle.block.specs.Lengths.{blockLength}
 use Rattle.block.specs.Calls.{tooShort}
 use Rattle.block.proofs.Lengths.{length-facts}
 use Rattle.block.proofs.Truth.{either, or-no}
-use Rattle.line.specs.Receiving.{isAccepted, isEnded, meaning, Reception, holding, heldInRange, reception, receive, receiveStore}
+use Rattle.line.specs.Receiving.{isAccepted, isEnded, takesBlock, meaning, Reception, holding, heldInRange, reception, receive, receiveStore}
 use Rattle.line.specs.Delivery.{All, some}
 use Rattle.line.specs.declared.receiver.Receiver.{Receiver}
 use Rattle.line.specs.declared.receiving.Event.{Event}
@@ -27,7 +27,7 @@ use Rattle.line.proofs.KeptSetup.{received-setup}
 use Rattle.line.proofs.ReceivingCall.{InRange, range-in, reception-some}
 use Rattle.line.proofs.TakenBlock.{received-takes}
 use Rattle.session.specs.Period.{lineBytes, lastEvent, ready, Hearing, hearing, answered, hear}
-use Rattle.session.specs.LastEvent.{answeredEvents, heardEvents, takesBlock, lastOf, howMany}
+use Rattle.session.specs.LastEvent.{answeredEvents, heardEvents, lastOf, howMany}
 use Rattle.session.specs.declared.period.Last.{Last}
 use Rattle.session.specs.declared.period.Last.the-variants as L
 use Rattle.session.proofs.ReceivingCalls.{held-bits}

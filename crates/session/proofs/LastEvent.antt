@@ -10,14 +10,14 @@ use Rattle.block.specs.Answer.{Answer, refused, done}
 use Rattle.block.specs.Lengths.{blockLength}
 use Rattle.block.proofs.Truth.{or-no, or-yes}
 use Rattle.line.specs.Order.{orderBits}
-use Rattle.line.specs.Receiving.{isAccepted, isEnded}
+use Rattle.line.specs.Receiving.{isAccepted, isEnded, takesBlock}
 use Rattle.line.specs.Sending.{Block, sentBits, send}
 use Rattle.line.specs.declared.sender.Sender.{Sender}
 use Rattle.line.specs.declared.receiver.Receiver.{Receiver}
 use Rattle.line.specs.declared.receiving.Event.{Event}
 use Rattle.line.specs.declared.receiving.Event.the-variants as E
 use Rattle.session.specs.Period.{readingOf, arriving, lineBytes, hear, shownBlock, shownReading, lineOf, sentResult, period}
-use Rattle.session.specs.LastEvent.{heardEvents, sentEvents, periodEvents, takesBlock, howMany, lastOf, shownEvents, Tells, LastEvent}
+use Rattle.session.specs.LastEvent.{heardEvents, sentEvents, periodEvents, howMany, lastOf, shownEvents, Tells, LastEvent}
 use Rattle.session.specs.declared.period.Block as B
 use Rattle.session.specs.declared.period.Kind.{Kind}
 use Rattle.session.specs.declared.period.Last.{Last}

@@ -10,7 +10,7 @@ use Rattle.block.specs.Answer.{Answer, refused, done}
 use Rattle.line.specs.Order.{orderBits}
 use Rattle.line.specs.Sending as S
 use Rattle.line.specs.Sending.{send, sentBits}
-use Rattle.line.specs.Receiving.{Reception, meaning, isAccepted, isEnded, receive, receiveStore}
+use Rattle.line.specs.Receiving.{Reception, meaning, isAccepted, isEnded, takesBlock, receive, receiveStore}
 use Rattle.line.specs.Delivery.{All, some}
 use Rattle.line.specs.declared.sender.Sender.{Sender}
 use Rattle.line.specs.declared.receiver.Receiver.{Receiver}
@@ -46,10 +46,6 @@ unfoldable pub periodEvents : Kind → Sender → Receiver → List ℕ → List
 periodEvents kind s r order store = sentEvents kind s r order store (send s order (readingOf kind (r .back)) (replicate lineBytes 0))
 
 -- ---- what is said of them
-
--- the machine took something
-abbrev pub takesBlock : Event → Bool
-takesBlock e = isAccepted e || isEnded e
 
 -- the last of them other than none
 abbrev pub lastOf : Event → List Event → Event

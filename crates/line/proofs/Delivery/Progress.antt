@@ -2,11 +2,11 @@
 -- that is at most 5. Assumes nothing.
 use mathlib.Core.Path.{_≡_, refl}
 use mathlib.Core.Logic.{_⊎_, inl, inr, ⊎-elim}
-use mathlib.Core.Bool.{Bool, true, false, _||_, true≢false}
+use mathlib.Core.Bool.{Bool, true, false, true≢false}
 use Prim.Native.Nat.{ℕ, _+_, _*_, _≤_, _<_}
 use native.Mathlib.Omega.{arith}
 use lib.Dec.{eqb}
-use Rattle.line.specs.Receiving.{EventKind, eventKind, withLength}
+use Rattle.line.specs.Receiving.{EventKind, eventKind, withLength, takesBlock}
 use Rattle.line.specs.declared.sender.Next.{Next}
 use Rattle.line.specs.declared.sender.Next.the-variants.{Sync, Older, Newer}
 use Rattle.line.specs.declared.receiving.Event.{Event}
@@ -21,10 +21,6 @@ ending v = withLength false (λ M. true) (v .length)
 
 abbrev pub endingWith : ℕ → EventKind → Bool
 endingWith L v = withLength false (λ M. eqb M L) (v .length)
-
--- a new block or the end
-abbrev pub isNewOrEnd : Event → Bool
-isNewOrEnd e = eventKind e .new || ending (eventKind e)
 
 abbrev pub rank : Ends → Next → ℕ
 rank s Sync = 3
@@ -71,7 +67,7 @@ module _ {N : ℕ} {s t : Ends} where
 module _ {N : ℕ} {s t : Ends} {n : Next} where
   -- a whole item read in step, with nothing lost, brings news, or it is the one before, or it waits
   whole-read : {i w : ℕ} {e : Event} → Busy N s n (item i w) → Reads N s t (item i w) e → w ≡ 1 → s .lost ≡ 0
-      → s .search ≡ 0 → s .ended ≡ 0 → eventKind e .wait ≡ false → (isNewOrEnd e ≡ true) ⊎ ((t .back ≡ 0) × (i < s .taken))
+      → s .search ≡ 0 → s .ended ≡ 0 → eventKind e .wait ≡ false → (takesBlock e ≡ true) ⊎ ((t .back ≡ 0) × (i < s .taken))
   whole-read h (D.under-alarm q r a) w1 n0 z0 e0 nw = absurd (⊎-elim (λ b. omega arith) (λ b. omega arith) (h .state))
   whole-read h (D.searches q r d a z) w1 n0 z0 e0 nw = absurd (omega arith)
   whole-read {i} {w} h (D.bad-step q a lt f r) w1 n0 z0 e0 nw = absurd (not-whole i w f w1)
@@ -99,7 +95,7 @@ older-newer p = let z : _≡_ {A = ℕ} 0 1 = cc in omega arith
 
 module _ {N : ℕ} {s t u : Ends} {reading : ℕ} where
   pub rank-falls : {n n′ : Next} {f : LineBlock} {e : Event} → Idle N s n → Sends N s reading t n n′ f → Reads N t u f e
-      → Undisturbed s n reading f e → s .lost ≡ 0 → t .lost ≡ 0 → s .ended ≡ 0 → (isNewOrEnd e ≡ true)
+      → Undisturbed s n reading f e → s .lost ≡ 0 → t .lost ≡ 0 → s .ended ≡ 0 → (takesBlock e ≡ true)
       ⊎ (rank u n′ < rank s n)
   rank-falls h (D.syncs r q d) y c m n e0 =
       let b = between-of h m in

@@ -13,7 +13,7 @@ use Rattle.block.specs.Block.{syncBlock}
 use Rattle.line.specs.Marks.{marksInRange}
 use Rattle.line.specs.Order.{validLength, itemCount, filled, itemBits}
 use Rattle.line.specs.Sending.{Block, synchronising, item, lastRun}
-use Rattle.line.specs.Receiving.{arrayBytes, eventKind, lastBad, heldBits, latest, heldInRange}
+use Rattle.line.specs.Receiving.{arrayBytes, eventKind, takesBlock, lastBad, heldBits, latest, heldInRange}
 pub use Rattle.line.specs.BitsUsed.{alarmStands}
 use Rattle.line.specs.Course.{World, Entry}
 use Rattle.line.specs.Delivery.{OnLine, SameOrder, SameStore, Admitted, NotWhole, SyncAtLast, SyncNotData, OnlyRefused, isNew, isEnd, isAlarm, isLost, isWait, isGood, reportsEnd}
@@ -27,7 +27,6 @@ use Rattle.line.specs.declared.receiving.Phase.the-variants as P
 use Rattle.line.specs.declared.receiving.Event.{Event}
 use Rattle.line.specs.declared.receiving.Event.the-variants as E
 use Rattle.line.proofs.Delivery.Ends.{Ends, LineBlock, Sends, Reads, Idle, Busy}
-use Rattle.line.proofs.Delivery.Progress.{isNewOrEnd}
 
 -- what a session is about: the marks that the sender sends, k, L, the order's bits, and the store as first lent
 pub record Session : Type 0 where
@@ -180,7 +179,7 @@ pub record Done (o : Session) (w : World) (l d : ℕ) (copy : Bits) (f : LineBlo
   pub sender : w′ .sender ≡ w .sender
   pub event : Event
   pub reads : Reads (N o) (endsOf w l d) (endsOf w′ (lost′ l e) (danger′ d e)) f event
-  pub news : isNewOrEnd event ≡ (isNew e || isEnd e)
+  pub news : takesBlock event ≡ (isNew e || isEnd e)
   pub wait : eventKind event .wait ≡ isWait e
   pub clean : f ≡ LineBlock.sync → copy ≡ syncBlock (o .k) → alarmStands (w .receiver .phase) ≡ false → event ≡ E.Sync
 
