@@ -10,38 +10,38 @@ use lib.Bits.{bit_xor, xor_zero_r}
 use lib.Dec.{eqb}
 use lib.ListN.{length, take, drop, length-append}
 use lib.Seq.{take_at, drop_at}
-use Rattle.crc.specs.Bits.{Bits, zeros, binary, xor, xorBits}
+use Rattle.crc.specs.Bits.{Bits, zeros, binary, xor, xor_bits}
 use Rattle.crc.specs.Check.{divide, check, remainder, passes}
-use Rattle.crc.proofs.Rows.{length-binary, xor-bits-self}
+use Rattle.crc.proofs.Rows.{length-binary, xor_bit_self}
 use Rattle.crc.proofs.Linear.{divide-zeros, remainder-append, remainder-xor}
 use Rattle.crc.proofs.Division.{passes-remainder}
-use Rattle.crc.proofs.Codeword.{passes-checked}
-use Rattle.block.specs.Lengths.{blockLength}
-use Rattle.block.specs.Block.{block_bits, serviceOf, payloadOf, failed, verdict, tens, serviceSync, syncSequence, syncBlock, cancelled}
+use Rattle.crc.proofs.Codeword.{passes_checked}
+use Rattle.block.specs.Lengths.{block_length}
+use Rattle.block.specs.Block.{block_bits, service_of, payload_of, failed, verdict, tens, service_sync, sync_sequence, sync_block, cancelled}
 use Rattle.block.proofs.Truth.{and_left, and_right}
 
 -- ---- a block built
 
-pub length-blockBits : (service payload : Bits) → length (block_bits service payload) ≡ length service + length payload + 16
+pub length-block_bits : (service payload : Bits) → length (block_bits service payload) ≡ length service + length payload + 16
 unfolding block_bits
-length-blockBits service payload =
+length-block_bits service payload =
     length-append (service ++ payload) (binary 16 (check (service ++ payload)))
     ∙ ap₂ (λ (x y : ℕ). x + y) (length-append service payload) (length-binary 16 (check (service ++ payload)))
 
-pub passes-blockBits : (service payload : Bits) → passes (block_bits service payload) ≡ true
+pub passes-block_bits : (service payload : Bits) → passes (block_bits service payload) ≡ true
 unfolding block_bits
-passes-blockBits service payload = passes-checked (service ++ payload)
+passes-block_bits service payload = passes_checked (service ++ payload)
 
-pub service-blockBits : (service payload : Bits) → length service ≡ 4 → serviceOf (block_bits service payload) ≡ service
+pub service_block_bits : (service payload : Bits) → length service ≡ 4 → service_of (block_bits service payload) ≡ service
 unfolding block_bits
-service-blockBits service payload h =
+service_block_bits service payload h =
     ap (take 4) (append_assoc service payload (binary 16 (check (service ++ payload))))
     ∙ take_at service (payload ++ binary 16 (check (service ++ payload))) 4 h
 
-pub payload-blockBits : (k : ℕ) (service payload : Bits) → length service ≡ 4 → length payload ≡ k
-    → payloadOf k (block_bits service payload) ≡ payload
+pub payload_block_bits : (k : ℕ) (service payload : Bits) → length service ≡ 4 → length payload ≡ k
+    → payload_of k (block_bits service payload) ≡ payload
 unfolding block_bits
-payload-blockBits k service payload h e =
+payload_block_bits k service payload h e =
     ap (λ (l : Bits). take k (drop 4 l)) (append_assoc service payload (binary 16 (check (service ++ payload))))
     ∙ ap (take k) (drop_at service (payload ++ binary 16 (check (service ++ payload))) 4 h)
     ∙ take_at payload (binary 16 (check (service ++ payload))) k e
@@ -52,13 +52,13 @@ length-tens : (n : ℕ) → length (tens n) ≡ n * 2
 length-tens zero = refl
 length-tens (suc n) = ap (λ (x : ℕ). suc (suc x)) (length-tens n) ∙ omega arith
 
-pub length-syncBlock : (k : ℕ) → k % 8 ≡ 0 → length (syncBlock k) ≡ blockLength k
-unfolding syncBlock
-length-syncBlock k h =
+pub length-sync_block : (k : ℕ) → k % 8 ≡ 0 → length (sync_block k) ≡ block_length k
+unfolding sync_block
+length-sync_block k h =
     omega (
       arith,
-      length-append (serviceSync ++ tens (k / 2)) syncSequence,
-      length-append serviceSync (tens (k / 2)),
+      length-append (service_sync ++ tens (k / 2)) sync_sequence,
+      length-append service_sync (tens (k / 2)),
       length-tens (k / 2),
     )
 
@@ -66,34 +66,34 @@ length-syncBlock k h =
 -- after each of n lengths more, does not bring the register to zero.
 none_passes : ℕ → ℕ → Bool
 none_passes zero c = true
-none_passes (suc n) c = not (eqb (divide (divide c (tens 4)) syncSequence) 0) && none_passes n (divide c (tens 4))
+none_passes (suc n) c = not (eqb (divide (divide c (tens 4)) sync_sequence) 0) && none_passes n (divide c (tens 4))
 
-eight-more : (c j : ℕ) → divide c (tens (4 * suc j)) ≡ divide (divide c (tens 4)) (tens (4 * j))
-eight-more c j =
+eight_more : (c j : ℕ) → divide c (tens (4 * suc j)) ≡ divide (divide c (tens 4)) (tens (4 * j))
+eight_more c j =
     let e : 4 * suc j ≡ suc (suc (suc (suc (4 * j)))) = omega arith in
     ap (λ (n : ℕ). divide c (tens n)) e
 
-one-fails : (n c i : ℕ) → none_passes n c ≡ true → i < n → eqb (divide (divide c (tens (4 * suc i))) syncSequence) 0 ≡ false
+one_fails : (n c i : ℕ) → none_passes n c ≡ true → i < n → eqb (divide (divide c (tens (4 * suc i))) sync_sequence) 0 ≡ false
 unfolding none_passes
-one-fails zero c i t h = absurd (omega arith)
-one-fails (suc n) c zero t h = not-true (eqb (divide (divide c (tens 4)) syncSequence) 0) (and_left _ (none_passes n (divide c (tens 4))) t)
-one-fails (suc n) c (suc i) t h =
-    ap (λ (x : ℕ). eqb (divide x syncSequence) 0) (eight-more c (suc i))
-    ∙ one-fails n (divide c (tens 4)) i (and_right (not (eqb (divide (divide c (tens 4)) syncSequence) 0)) _ t) (omega arith)
+one_fails zero c i t h = absurd (omega arith)
+one_fails (suc n) c zero t h = not-true (eqb (divide (divide c (tens 4)) sync_sequence) 0) (and_left _ (none_passes n (divide c (tens 4))) t)
+one_fails (suc n) c (suc i) t h =
+    ap (λ (x : ℕ). eqb (divide x sync_sequence) 0) (eight_more c (suc i))
+    ∙ one_fails n (divide c (tens 4)) i (and_right (not (eqb (divide (divide c (tens 4)) sync_sequence) 0)) _ t) (omega arith)
 
-all-fail : none_passes 480 (divide 0 serviceSync) ≡ true
+all_fail : none_passes 480 (divide 0 service_sync) ≡ true
 unfolding none_passes
-all-fail = refl
+all_fail = refl
 
-pub sync-fails : (k : ℕ) → k % 8 ≡ 0 → 8 ≤ k → k ≤ 3840 → passes (syncBlock k) ≡ false
-unfolding syncBlock passes remainder
-sync-fails k whole low high =
+pub sync_fails : (k : ℕ) → k % 8 ≡ 0 → 8 ≤ k → k ≤ 3840 → passes (sync_block k) ≡ false
+unfolding sync_block passes remainder
+sync_fails k whole low high =
     let i : ℕ = k / 8 - 1 in
     let e : k / 2 ≡ 4 * suc i = omega arith in
     ap (λ (x : ℕ). eqb x 0)
-    (remainder-append (serviceSync ++ tens (k / 2)) syncSequence
-    ∙ ap (λ (x : ℕ). divide x syncSequence) (remainder-append serviceSync (tens (k / 2)) ∙ ap (λ (n : ℕ). divide (divide 0 serviceSync) (tens n)) e))
-    ∙ one-fails 480 (divide 0 serviceSync) i all-fail (omega arith)
+    (remainder-append (service_sync ++ tens (k / 2)) sync_sequence
+    ∙ ap (λ (x : ℕ). divide x sync_sequence) (remainder-append service_sync (tens (k / 2)) ∙ ap (λ (n : ℕ). divide (divide 0 service_sync) (tens n)) e))
+    ∙ one_fails 480 (divide 0 service_sync) i all_fail (omega arith)
 
 -- ---- a block cancelled
 
@@ -118,29 +118,29 @@ xor-not : (b : Bool) → xor (not b) b ≡ true
 xor-not true = refl
 xor-not false = refl
 
-pub cancelled-last : (b : Bits) → 0 < length b → xorBits (cancelled b) b ≡ zeros (length b - 1) ++ true ∷ []
-unfolding cancelled xorBits
-cancelled-last [] h = absurd (omega arith)
-cancelled-last (b ∷ []) h = ap (λ (x : Bool). x ∷ []) (xor-not b)
-cancelled-last (b ∷ c ∷ bs) h =
+pub cancelled_last : (b : Bits) → 0 < length b → xor_bits (cancelled b) b ≡ zeros (length b - 1) ++ true ∷ []
+unfolding cancelled xor_bits
+cancelled_last [] h = absurd (omega arith)
+cancelled_last (b ∷ []) h = ap (λ (x : Bool). x ∷ []) (xor-not b)
+cancelled_last (b ∷ c ∷ bs) h =
     let e : suc (suc (length bs)) - 1 ≡ suc (suc (length bs) - 1) = omega arith in
-    ap₂ (λ (x : Bool) (l : Bits). x ∷ l) (xor-bits-self b) (cancelled-last (c ∷ bs) (omega arith))
+    ap₂ (λ (x : Bool) (l : Bits). x ∷ l) (xor_bit_self b) (cancelled_last (c ∷ bs) (omega arith))
     ∙ ap (λ (n : ℕ). zeros n ++ true ∷ []) (sym e)
 
 -- the first bits stay
-pub cancelled-front : (m : ℕ) (b : Bits) → m < length b → take m (cancelled b) ≡ take m b
+pub cancelled_front : (m : ℕ) (b : Bits) → m < length b → take m (cancelled b) ≡ take m b
 unfolding cancelled
-cancelled-front m [] h = absurd (omega arith)
-cancelled-front zero (b ∷ bs) h = refl
-cancelled-front (suc m) (b ∷ []) h = absurd (omega arith)
-cancelled-front (suc m) (b ∷ c ∷ bs) h = ap (λ (l : Bits). b ∷ l) (cancelled-front m (c ∷ bs) (omega arith))
+cancelled_front m [] h = absurd (omega arith)
+cancelled_front zero (b ∷ bs) h = refl
+cancelled_front (suc m) (b ∷ []) h = absurd (omega arith)
+cancelled_front (suc m) (b ∷ c ∷ bs) h = ap (λ (l : Bits). b ∷ l) (cancelled_front m (c ∷ bs) (omega arith))
 
 -- of a row that passes, the inverted last bit alone is left
 pub cancelled-remainder : (b : Bits) → 0 < length b → passes b ≡ true → remainder (cancelled b) ≡ 1
 unfolding remainder
 cancelled-remainder b h p =
     sym (xor_zero_r (remainder (cancelled b))) ∙ ap (bit_xor (remainder (cancelled b))) (sym ((passes-remainder b).0 p))
-    ∙ sym (remainder-xor (cancelled b) b (length-cancelled b)) ∙ ap remainder (cancelled-last b h)
+    ∙ sym (remainder-xor (cancelled b) b (length-cancelled b)) ∙ ap remainder (cancelled_last b h)
     ∙ remainder-append (zeros (length b - 1)) (true ∷ []) ∙ ap (λ (c : ℕ). divide c (true ∷ [])) (divide-zeros (length b - 1))
 
 pub cancelled-verdict : (b : Bits) → 0 < length b → passes b ≡ true → verdict (cancelled b) ≡ failed 1

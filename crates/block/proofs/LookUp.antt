@@ -7,10 +7,10 @@ use native.Mathlib.Omega.{arith}
 use borrow.Author.Tests.{not-false}
 use Rattle.block.specs.Answer as A
 use Rattle.block.specs.Answer.{Answer, refused, done}
-use Rattle.block.specs.Lengths.{isLength}
+use Rattle.block.specs.Lengths.{is_length}
 use Rattle.block.specs.Block.{Verdict}
-use Rattle.block.specs.Calls.{buildBlock, BuildBlock, checkBlock, CheckBlock, readAnswer, readService, ReadService, readBlock, ReadBlock, buildSync, BuildSync, cancelBlock, CancelBlock}
-use Rattle.block.specs.Packed.{ifLength, lookUp, buildPacked, BuildPacked, checkPacked, CheckPacked, servicePacked, ServicePacked, readPacked, ReadPacked, heldPacked, SyncPacked, CancelPacked}
+use Rattle.block.specs.Calls.{build_block, BuildBlock, check_block, CheckBlock, read_answer, read_service, ReadService, read_block, ReadBlock, build_sync, BuildSync, cancel_block, CancelBlock}
+use Rattle.block.specs.Packed.{if_length, look_up, build_packed, BuildPacked, check_packed, CheckPacked, service_packed, ServicePacked, read_packed, ReadPacked, held_packed, SyncPacked, CancelPacked}
 use Rattle.block.specs.EveryLength.{LookUpFirst}
 use Rattle.block.specs.declared.Built.{Built}
 use Rattle.block.specs.declared.Built.TheVariants as B
@@ -18,15 +18,15 @@ use Rattle.block.specs.declared.Checked.{Checked}
 use Rattle.block.specs.declared.Checked.TheVariants as C
 use Rattle.block.specs.declared.Read.{Read}
 use Rattle.block.specs.declared.Read.TheVariants as R
-use Rattle.block.proofs.Lengths.{length-bytes}
-use Rattle.block.proofs.Refusals.{passed-test}
+use Rattle.block.proofs.Lengths.{length_bytes}
+use Rattle.block.proofs.Refusals.{passed_test}
 
-pub look-up-first : LookUpFirst
-unfolding buildBlock buildPacked checkBlock checkPacked readService servicePacked readBlock readPacked buildSync cancelBlock heldPacked
-look-up-first = record {
+pub look_up_first : LookUpFirst
+unfolding build_block build_packed check_block check_packed read_service service_packed read_block read_packed build_sync cancel_block held_packed
+look_up_first = record {
   builds = λ k service payload slice. refl;
   checks = λ k slice. refl;
-  reads-service = λ k slice. refl;
+  reads_service = λ k slice. refl;
   reads = λ k slice payload. refl;
   synchronises = λ k slice. refl;
   cancels = λ k slice. refl;
@@ -34,136 +34,136 @@ look-up-first = record {
 
 -- ---- the look-up
 
-unknown-refused : {X : Type 0} (k : ℕ) (next : Answer X) → isLength k ≡ false → ifLength k next ≡ refused A.block
-unknown-refused k next e = rw e
+unknown_refused : {X : Type 0} (k : ℕ) (next : Answer X) → is_length k ≡ false → if_length k next ≡ refused A.block
+unknown_refused k next e = rw e
 
-known_next : {X : Type 0} (k : ℕ) (next : Answer X) → isLength k ≡ true → ifLength k next ≡ next
+known_next : {X : Type 0} (k : ℕ) (next : Answer X) → is_length k ≡ true → if_length k next ≡ next
 known_next k next e = rw e
 
-known-done : {X : Type 0} (k : ℕ) (next : Answer X) (x : X) → ifLength k next ≡ done x → isLength k ≡ true
-known-done k next x e = not-false (isLength k) (passed-test (not (isLength k)) A.block next x e).0
+known_done : {X : Type 0} (k : ℕ) (next : Answer X) (x : X) → if_length k next ≡ done x → is_length k ≡ true
+known_done k next x e = not-false (is_length k) (passed_test (not (is_length k)) A.block next x e).0
 
 -- what it says of k
-pub found : (k m : ℕ) → lookUp k ≡ done m → (isLength k ≡ true) × (8 * m ≡ k)
-unfolding lookUp
+pub found : (k m : ℕ) → look_up k ≡ done m → (is_length k ≡ true) × (8 * m ≡ k)
+unfolding look_up
 found k m e =
-    let known = known-done k (done (k / 8)) m e in
+    let known = known_done k (done (k / 8)) m e in
     let same : done (k / 8) ≡ done m = sym (known_next k (done (k / 8)) known) ∙ e in
     let b : k / 8 ≡ m = cc in
-    (known, rw (sym b) (length-bytes k known))
+    (known, rw (sym b) (length_bytes k known))
 
-pub not_found : (k n : ℕ) → lookUp k ≡ refused n → isLength k ≡ false
-unfolding lookUp
-not_found k n e = no (isLength k) refl
+pub not_found : (k n : ℕ) → look_up k ≡ refused n → is_length k ≡ false
+unfolding look_up
+not_found k n e = no (is_length k) refl
   where
-    no : (b : _) → isLength k ≡ b → isLength k ≡ false
+    no : (b : _) → is_length k ≡ b → is_length k ≡ false
     no true h = absurd (let z : done (k / 8) ≡ refused n = sym (known_next k (done (k / 8)) h) ∙ e in let y : ◌≡◌ {A = ℕ} 0 1 = cc in omega arith)
     no false h = h
 
 -- ---- each call where k is not known: refused by 1, and nothing is written
 
-module _ (k : ℕ) (unknown : isLength k ≡ false) where
-  pub build-unknown : (service : ℕ) (payload slice : List ℕ) → BuildBlock k service payload slice (B.Refused A.block) slice
-  build-unknown service payload slice =
-      let e = look-up-first.builds k service payload slice ∙ unknown-refused k _ unknown in
+module _ (k : ℕ) (unknown : is_length k ≡ false) where
+  pub build_unknown : (service : ℕ) (payload slice : List ℕ) → BuildBlock k service payload slice (B.Refused A.block) slice
+  build_unknown service payload slice =
+      let e = look_up_first.builds k service payload slice ∙ unknown_refused k _ unknown in
       record { answers = sym e; writes = rw e refl }
 
-  pub check-unknown : (slice : List ℕ) → CheckBlock k slice (C.Refused A.block)
-  check-unknown slice = record { answers = sym (look-up-first.checks k slice ∙ unknown-refused k _ unknown) }
+  pub check_unknown : (slice : List ℕ) → CheckBlock k slice (C.Refused A.block)
+  check_unknown slice = record { answers = sym (look_up_first.checks k slice ∙ unknown_refused k _ unknown) }
 
-  pub service-unknown : (slice : List ℕ) → ReadService k slice (R.Refused A.block)
-  service-unknown slice = record { answers = sym (look-up-first.reads-service k slice ∙ unknown-refused k _ unknown) }
+  pub service_unknown : (slice : List ℕ) → ReadService k slice (R.Refused A.block)
+  service_unknown slice = record { answers = sym (look_up_first.reads_service k slice ∙ unknown_refused k _ unknown) }
 
-  pub read-unknown : (slice payload : List ℕ) → ReadBlock k slice payload (R.Refused A.block) payload
-  read-unknown slice payload =
-      let e = look-up-first.reads k slice payload ∙ unknown-refused k _ unknown in
+  pub read_unknown : (slice payload : List ℕ) → ReadBlock k slice payload (R.Refused A.block) payload
+  read_unknown slice payload =
+      let e = look_up_first.reads k slice payload ∙ unknown_refused k _ unknown in
       record { answers = sym e; writes = rw e refl }
 
-  pub sync-unknown : (slice : List ℕ) → BuildSync k slice (B.Refused A.block) slice
-  sync-unknown slice =
-      let e = look-up-first.synchronises k slice ∙ unknown-refused k _ unknown in
+  pub sync_unknown : (slice : List ℕ) → BuildSync k slice (B.Refused A.block) slice
+  sync_unknown slice =
+      let e = look_up_first.synchronises k slice ∙ unknown_refused k _ unknown in
       record { answers = sym e; writes = rw e refl }
 
-  pub cancel-unknown : (slice : List ℕ) → CancelBlock k slice (B.Refused A.block) slice
-  cancel-unknown slice =
-      let e = look-up-first.cancels k slice ∙ unknown-refused k _ unknown in
+  pub cancel_unknown : (slice : List ℕ) → CancelBlock k slice (B.Refused A.block) slice
+  cancel_unknown slice =
+      let e = look_up_first.cancels k slice ∙ unknown_refused k _ unknown in
       record { answers = sym e; writes = rw e refl }
 
 -- ---- each call where k is known: the promise of the call below is its own
 
-module _ (k : ℕ) (known : isLength k ≡ true) where
-  builds-below : (service : ℕ) (payload slice : List ℕ) → buildBlock k service payload slice ≡ buildPacked k service payload slice
-  builds-below service payload slice = look-up-first.builds k service payload slice ∙ known_next k _ known
+module _ (k : ℕ) (known : is_length k ≡ true) where
+  builds_below : (service : ℕ) (payload slice : List ℕ) → build_block k service payload slice ≡ build_packed k service payload slice
+  builds_below service payload slice = look_up_first.builds k service payload slice ∙ known_next k _ known
 
-  reads-below : (slice payload : List ℕ) → readBlock k slice payload ≡ readPacked k slice payload
-  reads-below slice payload = look-up-first.reads k slice payload ∙ known_next k _ known
+  reads_below : (slice payload : List ℕ) → read_block k slice payload ≡ read_packed k slice payload
+  reads_below slice payload = look_up_first.reads k slice payload ∙ known_next k _ known
 
-  cancels-below : (slice : List ℕ) → cancelBlock k slice ≡ heldPacked k slice
-  cancels-below slice = look-up-first.cancels k slice ∙ known_next k _ known
+  cancels_below : (slice : List ℕ) → cancel_block k slice ≡ held_packed k slice
+  cancels_below slice = look_up_first.cancels k slice ∙ known_next k _ known
 
   module _ (m : ℕ) (whole : 8 * m ≡ k) where
-    pub build-known : (service : ℕ) (payload slice : List ℕ) (answer : Built) (slice' : List ℕ)
+    pub build_known : (service : ℕ) (payload slice : List ℕ) (answer : Built) (slice' : List ℕ)
         → BuildPacked (8 * m) service payload slice answer slice' → BuildBlock k service payload slice answer slice'
-    build-known service payload slice answer slice' below =
+    build_known service payload slice answer slice' below =
         let p = subst (λ (x : ℕ). BuildPacked x service payload slice answer slice') whole below in
-        let e = builds-below service payload slice in
+        let e = builds_below service payload slice in
         record { answers = p.answers ∙ sym e; writes = rw e p.writes }
 
-    pub check-known : (slice : List ℕ) (answer : Checked) → CheckPacked (8 * m) slice answer → CheckBlock k slice answer
-    check-known slice answer below =
+    pub check_known : (slice : List ℕ) (answer : Checked) → CheckPacked (8 * m) slice answer → CheckBlock k slice answer
+    check_known slice answer below =
         let p = subst (λ (x : ℕ). CheckPacked x slice answer) whole below in
-        record { answers = p.answers ∙ sym (look-up-first.checks k slice ∙ known_next k _ known) }
+        record { answers = p.answers ∙ sym (look_up_first.checks k slice ∙ known_next k _ known) }
 
-    pub service-known : (slice : List ℕ) (answer : Read) → ServicePacked (8 * m) slice answer → ReadService k slice answer
-    service-known slice answer below =
+    pub service_known : (slice : List ℕ) (answer : Read) → ServicePacked (8 * m) slice answer → ReadService k slice answer
+    service_known slice answer below =
         let p = subst (λ (x : ℕ). ServicePacked x slice answer) whole below in
-        record { answers = p.answers ∙ sym (look-up-first.reads-service k slice ∙ known_next k _ known) }
+        record { answers = p.answers ∙ sym (look_up_first.reads_service k slice ∙ known_next k _ known) }
 
     pub read_known : (slice payload : List ℕ) (answer : Read) (payload' : List ℕ) → ReadPacked (8 * m) slice payload answer payload'
         → ReadBlock k slice payload answer payload'
     read_known slice payload answer payload' below =
         let p = subst (λ (x : ℕ). ReadPacked x slice payload answer payload') whole below in
-        let e = reads-below slice payload in
+        let e = reads_below slice payload in
         record { answers = p.answers ∙ sym e; writes = rw e p.writes }
 
-    pub sync-known : (slice : List ℕ) (answer : Built) (slice' : List ℕ) → SyncPacked (8 * m) slice answer slice'
+    pub sync_known : (slice : List ℕ) (answer : Built) (slice' : List ℕ) → SyncPacked (8 * m) slice answer slice'
         → BuildSync k slice answer slice'
-    sync-known slice answer slice' below =
+    sync_known slice answer slice' below =
         let p = subst (λ (x : ℕ). SyncPacked x slice answer slice') whole below in
-        let e = look-up-first.synchronises k slice ∙ known_next k _ known in
+        let e = look_up_first.synchronises k slice ∙ known_next k _ known in
         record { answers = p.answers ∙ sym e; writes = rw e p.writes }
 
-    pub cancel-known : (slice : List ℕ) (answer : Built) (slice' : List ℕ) → CancelPacked (8 * m) slice answer slice'
+    pub cancel_known : (slice : List ℕ) (answer : Built) (slice' : List ℕ) → CancelPacked (8 * m) slice answer slice'
         → CancelBlock k slice answer slice'
-    cancel-known slice answer slice' below =
+    cancel_known slice answer slice' below =
         let p = subst (λ (x : ℕ). CancelPacked x slice answer slice') whole below in
-        let e = cancels-below slice in
+        let e = cancels_below slice in
         record { answers = p.answers ∙ sym e; writes = rw e p.writes }
 
 -- ---- a call by k that is done: k is known, and the promise is that of the call below
 
-pub built-below : (k service : ℕ) (payload slice slice' : List ℕ) → BuildBlock k service payload slice B.Done slice'
-    → (isLength k ≡ true) × BuildPacked k service payload slice B.Done slice'
-built-below k service payload slice slice' p =
-    let known = known-done k _ tt (sym (look-up-first.builds k service payload slice) ∙ sym p.answers) in
-    let e = sym (builds-below k known service payload slice) in
+pub built_below : (k service : ℕ) (payload slice slice' : List ℕ) → BuildBlock k service payload slice B.Done slice'
+    → (is_length k ≡ true) × BuildPacked k service payload slice B.Done slice'
+built_below k service payload slice slice' p =
+    let known = known_done k _ tt (sym (look_up_first.builds k service payload slice) ∙ sym p.answers) in
+    let e = sym (builds_below k known service payload slice) in
     (known, record { answers = p.answers ∙ sym e; writes = rw e p.writes })
 
-pub read_below : (k : ℕ) (slice payload : List ℕ) (answer : Read) (payload' : List ℕ) → isLength k ≡ true
+pub read_below : (k : ℕ) (slice payload : List ℕ) (answer : Read) (payload' : List ℕ) → is_length k ≡ true
     → ReadBlock k slice payload answer payload' → ReadPacked k slice payload answer payload'
 read_below k slice payload answer payload' known p =
-    let e = sym (reads-below k known slice payload) in
+    let e = sym (reads_below k known slice payload) in
     record { answers = p.answers ∙ sym e; writes = rw e p.writes }
 
 -- where the answer is no refusal, k is known
-pub read-done-below : (k : ℕ) (slice payload : List ℕ) (answer : Read) (payload' : List ℕ) (v : Verdict) → readAnswer answer ≡ done v
+pub read_done_below : (k : ℕ) (slice payload : List ℕ) (answer : Read) (payload' : List ℕ) (v : Verdict) → read_answer answer ≡ done v
     → ReadBlock k slice payload answer payload' → ReadPacked k slice payload answer payload'
-read-done-below k slice payload answer payload' v d p =
-    read_below k slice payload answer payload' (known-done k _ v (sym (look-up-first.reads k slice payload) ∙ sym p.answers ∙ d)) p
+read_done_below k slice payload answer payload' v d p =
+    read_below k slice payload answer payload' (known_done k _ v (sym (look_up_first.reads k slice payload) ∙ sym p.answers ∙ d)) p
 
-pub cancelled-below : (k : ℕ) (slice slice' : List ℕ) → CancelBlock k slice B.Done slice'
-    → (isLength k ≡ true) × CancelPacked k slice B.Done slice'
-cancelled-below k slice slice' p =
-    let known = known-done k _ tt (sym (look-up-first.cancels k slice) ∙ sym p.answers) in
-    let e = sym (cancels-below k known slice) in
+pub cancelled_below : (k : ℕ) (slice slice' : List ℕ) → CancelBlock k slice B.Done slice'
+    → (is_length k ≡ true) × CancelPacked k slice B.Done slice'
+cancelled_below k slice slice' p =
+    let known = known_done k _ tt (sym (look_up_first.cancels k slice) ∙ sym p.answers) in
+    let e = sym (cancels_below k known slice) in
     (known, record { answers = p.answers ∙ sym e; writes = rw e p.writes })

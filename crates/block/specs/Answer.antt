@@ -6,8 +6,8 @@ pub data Answer (A : Type 0) : Type 0 where
   done : A → Answer A
 
 -- refused with this number if the test holds, and otherwise what follows
-abbrev pub refuseIf : {A : Type 0} → Bool → ℕ → Answer A → Answer A
-refuseIf test n next = cond test (refused n) next
+abbrev pub refuse_if : {A : Type 0} → Bool → ℕ → Answer A → Answer A
+refuse_if test n next = cond test (refused n) next
 
 -- The numbers that the block's calls refuse by: docs/PROTOCOL.md, "What the ends turn away", by its words. A crate above
 -- has its own.

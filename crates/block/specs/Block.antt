@@ -8,11 +8,11 @@ unfoldable pub block_bits : Bits → Bits → Bits
 block_bits service payload = (service ++ payload) ++ binary 16 (check (service ++ payload))
 
 -- the service bits and the k data bits of a row of n bits
-abbrev pub serviceOf : Bits → Bits
-serviceOf row = take 4 row
+abbrev pub service_of : Bits → Bits
+service_of row = take 4 row
 
-abbrev pub payloadOf : ℕ → Bits → Bits
-payloadOf k row = take k (drop 4 row)
+abbrev pub payload_of : ℕ → Bits → Bits
+payload_of k row = take k (drop 4 row)
 
 -- what reading a row of n bits finds: it passes, with its service bits as a number, if its remainder is 0, and otherwise it
 -- fails, with the remainder
@@ -21,23 +21,23 @@ pub data Verdict : Type 0 where
   failed : ℕ → Verdict
 
 unfoldable pub verdict : Bits → Verdict
-verdict row = cond (passes row) (passed (number (serviceOf row))) (failed (remainder row))
+verdict row = cond (passes row) (passed (number (service_of row))) (failed (remainder row))
 
 -- ---- the synchronising block: 0101, then 10 repeated over k bits, then 0101000010100101
 
-abbrev pub serviceSync : Bits
-serviceSync = false ∷ true ∷ false ∷ true ∷ []
+abbrev pub service_sync : Bits
+service_sync = false ∷ true ∷ false ∷ true ∷ []
 
-abbrev pub syncSequence : Bits
-syncSequence =
+abbrev pub sync_sequence : Bits
+sync_sequence =
     false ∷ true ∷ false ∷ true ∷ false ∷ false ∷ false ∷ false ∷ true ∷ false ∷ true ∷ false ∷ false ∷ true ∷ false ∷ true ∷ []
 
 abbrev pub tens : ℕ → Bits
 tens zero = []
 tens (suc n) = true ∷ false ∷ tens n
 
-unfoldable pub syncBlock : ℕ → Bits
-syncBlock k = (serviceSync ++ tens (k / 2)) ++ syncSequence
+unfoldable pub sync_block : ℕ → Bits
+sync_block k = (service_sync ++ tens (k / 2)) ++ sync_sequence
 
 -- a block cancelled: its last bit inverted
 unfoldable pub cancelled : Bits → Bits

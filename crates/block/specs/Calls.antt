@@ -3,9 +3,9 @@ use Rattle.std.specs.Prelude.{◌≡◌, Bool, not, ◌||◌, List, ◌++◌, �
 use Rattle.crc.specs.Bits.{Bits, binary, bits_of, bytes_of}
 use Rattle.crc.specs.Check.{remainder}
 use Rattle.block.specs.Answer as A
-use Rattle.block.specs.Answer.{Answer, refused, done, refuseIf}
-use Rattle.block.specs.Lengths.{isLength, blockLength, payloadBytes, blockBytes}
-use Rattle.block.specs.Block.{block_bits, payloadOf, Verdict, passed, failed, verdict, syncBlock, cancelled}
+use Rattle.block.specs.Answer.{Answer, refused, done, refuse_if}
+use Rattle.block.specs.Lengths.{is_length, block_length, payload_bytes, block_bytes}
+use Rattle.block.specs.Block.{block_bits, payload_of, Verdict, passed, failed, verdict, sync_block, cancelled}
 use Rattle.block.specs.declared.Built.{Built}
 use Rattle.block.specs.declared.Built.TheVariants as B
 use Rattle.block.specs.declared.Checked.{Checked}
@@ -15,28 +15,28 @@ use Rattle.block.specs.declared.Read.TheVariants as R
 
 -- ---- the answers: a refusal's number, or the values, for each case
 
-abbrev pub builtAnswer : Built → Answer (Unit {0})
-builtAnswer B.Done = done tt
-builtAnswer (B.Refused n) = refused n
+abbrev pub built_answer : Built → Answer (Unit {0})
+built_answer B.Done = done tt
+built_answer (B.Refused n) = refused n
 
-abbrev pub checkedAnswer : Checked → Answer ℕ
-checkedAnswer (C.Remainder r) = done r
-checkedAnswer (C.Refused n) = refused n
+abbrev pub checked_answer : Checked → Answer ℕ
+checked_answer (C.Remainder r) = done r
+checked_answer (C.Refused n) = refused n
 
-abbrev pub readAnswer : Read → Answer Verdict
-readAnswer (R.Passed s) = done (passed s)
-readAnswer (R.Failed r) = done (failed r)
-readAnswer (R.Refused n) = refused n
+abbrev pub read_answer : Read → Answer Verdict
+read_answer (R.Passed s) = done (passed s)
+read_answer (R.Failed r) = done (failed r)
+read_answer (R.Refused n) = refused n
 
 -- the remainder that a reader's answer carries, 0 where it carries none
-abbrev pub carriedRemainder : Answer Verdict → ℕ
-carriedRemainder (refused n) = 0
-carriedRemainder (done (passed s)) = 0
-carriedRemainder (done (failed r)) = r
+abbrev pub carried_remainder : Answer Verdict → ℕ
+carried_remainder (refused n) = 0
+carried_remainder (done (passed s)) = 0
+carried_remainder (done (failed r)) = r
 
 -- a slice of bytes holds fewer bits than these
-abbrev pub tooShort : List ℕ → ℕ → Bool
-tooShort s bits = ltb (8 * length s) bits
+abbrev pub too_short : List ℕ → ℕ → Bool
+too_short s bits = ltb (8 * length s) bits
 
 -- the bytes of a packed row over the first bytes of a slice, the others as they were
 abbrev pub overwritten : ℕ → Bits → List ℕ → List ℕ
@@ -44,97 +44,97 @@ overwritten m row s = bytes_of m row ++ drop m s
 
 -- ---- building one block: 1, 7, 6
 
-unfoldable pub buildBlock : ℕ → ℕ → List ℕ → List ℕ → Answer (Unit {0})
-buildBlock k service payload slice =
-    refuseIf (not (isLength k)) A.block
-    (refuseIf (ltb 15 service) A.spoiled
-    (refuseIf (tooShort payload k || tooShort slice (blockLength k)) A.short (done tt)))
+unfoldable pub build_block : ℕ → ℕ → List ℕ → List ℕ → Answer (Unit {0})
+build_block k service payload slice =
+    refuse_if (not (is_length k)) A.block
+    (refuse_if (ltb 15 service) A.spoiled
+    (refuse_if (too_short payload k || too_short slice (block_length k)) A.short (done tt)))
 
-abbrev pub builtBytes : ℕ → ℕ → List ℕ → List ℕ → Answer (Unit {0}) → List ℕ
-builtBytes k service payload slice (refused n) = slice
-builtBytes k service payload slice (done u) =
-    overwritten (blockBytes k) (block_bits (binary 4 service) (take k (bits_of payload))) slice
+abbrev pub built_bytes : ℕ → ℕ → List ℕ → List ℕ → Answer (Unit {0}) → List ℕ
+built_bytes k service payload slice (refused n) = slice
+built_bytes k service payload slice (done u) =
+    overwritten (block_bytes k) (block_bits (binary 4 service) (take k (bits_of payload))) slice
 
 pub record BuildBlock (k service : ℕ) (payload slice : List ℕ) (answer : Built) (slice' : List ℕ) : Type 0 where
-  pub answers : builtAnswer answer ≡ buildBlock k service payload slice
-  pub writes : slice' ≡ builtBytes k service payload slice (buildBlock k service payload slice)
+  pub answers : built_answer answer ≡ build_block k service payload slice
+  pub writes : slice' ≡ built_bytes k service payload slice (build_block k service payload slice)
 
 -- ---- checking one: 1, 6; the remainder of all n bits is handed over, and nothing is written
 
-unfoldable pub checkBlock : ℕ → List ℕ → Answer ℕ
-checkBlock k slice =
-    refuseIf (not (isLength k)) A.block
-    (refuseIf (tooShort slice (blockLength k)) A.short (done (remainder (take (blockLength k) (bits_of slice)))))
+unfoldable pub check_block : ℕ → List ℕ → Answer ℕ
+check_block k slice =
+    refuse_if (not (is_length k)) A.block
+    (refuse_if (too_short slice (block_length k)) A.short (done (remainder (take (block_length k) (bits_of slice)))))
 
 pub record CheckBlock (k : ℕ) (slice : List ℕ) (answer : Checked) : Type 0 where
-  pub answers : checkedAnswer answer ≡ checkBlock k slice
+  pub answers : checked_answer answer ≡ check_block k slice
 
 -- ---- reading one without its data: 1, 6; nothing is written
 
-unfoldable pub readService : ℕ → List ℕ → Answer Verdict
-readService k slice =
-    refuseIf (not (isLength k)) A.block
-    (refuseIf (tooShort slice (blockLength k)) A.short (done (verdict (take (blockLength k) (bits_of slice)))))
+unfoldable pub read_service : ℕ → List ℕ → Answer Verdict
+read_service k slice =
+    refuse_if (not (is_length k)) A.block
+    (refuse_if (too_short slice (block_length k)) A.short (done (verdict (take (block_length k) (bits_of slice)))))
 
 pub record ReadService (k : ℕ) (slice : List ℕ) (answer : Read) : Type 0 where
-  pub answers : readAnswer answer ≡ readService k slice
+  pub answers : read_answer answer ≡ read_service k slice
 
 -- ---- moving the first m data bytes of a packed block, whatever its check: 6
 
-unfoldable pub moveData : ℕ → List ℕ → List ℕ → Answer (Unit {0})
-moveData m slice payload = refuseIf (tooShort slice (8 * m + 4) || tooShort payload (8 * m)) A.short (done tt)
+unfoldable pub move_data : ℕ → List ℕ → List ℕ → Answer (Unit {0})
+move_data m slice payload = refuse_if (too_short slice (8 * m + 4) || too_short payload (8 * m)) A.short (done tt)
 
-abbrev pub movedBytes : ℕ → List ℕ → List ℕ → Answer (Unit {0}) → List ℕ
-movedBytes m slice payload (refused n) = payload
-movedBytes m slice payload (done u) = overwritten m (payloadOf (8 * m) (bits_of slice)) payload
+abbrev pub moved_bytes : ℕ → List ℕ → List ℕ → Answer (Unit {0}) → List ℕ
+moved_bytes m slice payload (refused n) = payload
+moved_bytes m slice payload (done u) = overwritten m (payload_of (8 * m) (bits_of slice)) payload
 
 pub record MoveData (m : ℕ) (slice payload : List ℕ) (answer : Built) (payload' : List ℕ) : Type 0 where
-  pub answers : builtAnswer answer ≡ moveData m slice payload
-  pub writes : payload' ≡ movedBytes m slice payload (moveData m slice payload)
+  pub answers : built_answer answer ≡ move_data m slice payload
+  pub writes : payload' ≡ moved_bytes m slice payload (move_data m slice payload)
 
 -- ---- reading one: 1, 6, both slices judged first
 
-unfoldable pub readBlock : ℕ → List ℕ → List ℕ → Answer Verdict
-readBlock k slice payload =
-    refuseIf (not (isLength k)) A.block
-    (refuseIf (tooShort slice (blockLength k) || tooShort payload k) A.short
-    (done (verdict (take (blockLength k) (bits_of slice)))))
+unfoldable pub read_block : ℕ → List ℕ → List ℕ → Answer Verdict
+read_block k slice payload =
+    refuse_if (not (is_length k)) A.block
+    (refuse_if (too_short slice (block_length k) || too_short payload k) A.short
+    (done (verdict (take (block_length k) (bits_of slice)))))
 
-abbrev pub readBytes : ℕ → List ℕ → List ℕ → Answer Verdict → List ℕ
-readBytes k slice payload (refused n) = payload
-readBytes k slice payload (done (failed r)) = payload
-readBytes k slice payload (done (passed s)) =
-    overwritten (payloadBytes k) (payloadOf k (bits_of slice)) payload
+abbrev pub read_bytes : ℕ → List ℕ → List ℕ → Answer Verdict → List ℕ
+read_bytes k slice payload (refused n) = payload
+read_bytes k slice payload (done (failed r)) = payload
+read_bytes k slice payload (done (passed s)) =
+    overwritten (payload_bytes k) (payload_of k (bits_of slice)) payload
 
 pub record ReadBlock (k : ℕ) (slice payload : List ℕ) (answer : Read) (payload' : List ℕ) : Type 0 where
-  pub answers : readAnswer answer ≡ readBlock k slice payload
-  pub writes : payload' ≡ readBytes k slice payload (readBlock k slice payload)
+  pub answers : read_answer answer ≡ read_block k slice payload
+  pub writes : payload' ≡ read_bytes k slice payload (read_block k slice payload)
 
 -- ---- the synchronising block: 1, 6
 
-unfoldable pub buildSync : ℕ → List ℕ → Answer (Unit {0})
-buildSync k slice =
-    refuseIf (not (isLength k)) A.block (refuseIf (tooShort slice (blockLength k)) A.short (done tt))
+unfoldable pub build_sync : ℕ → List ℕ → Answer (Unit {0})
+build_sync k slice =
+    refuse_if (not (is_length k)) A.block (refuse_if (too_short slice (block_length k)) A.short (done tt))
 
-abbrev pub syncBytes : ℕ → List ℕ → Answer (Unit {0}) → List ℕ
-syncBytes k slice (refused n) = slice
-syncBytes k slice (done u) = overwritten (blockBytes k) (syncBlock k) slice
+abbrev pub sync_bytes : ℕ → List ℕ → Answer (Unit {0}) → List ℕ
+sync_bytes k slice (refused n) = slice
+sync_bytes k slice (done u) = overwritten (block_bytes k) (sync_block k) slice
 
 pub record BuildSync (k : ℕ) (slice : List ℕ) (answer : Built) (slice' : List ℕ) : Type 0 where
-  pub answers : builtAnswer answer ≡ buildSync k slice
-  pub writes : slice' ≡ syncBytes k slice (buildSync k slice)
+  pub answers : built_answer answer ≡ build_sync k slice
+  pub writes : slice' ≡ sync_bytes k slice (build_sync k slice)
 
 -- ---- cancelling a packed block: 1, 6; its last bit is inverted, the spare bits stay
 
-unfoldable pub cancelBlock : ℕ → List ℕ → Answer (Unit {0})
-cancelBlock k slice =
-    refuseIf (not (isLength k)) A.block (refuseIf (tooShort slice (blockLength k)) A.short (done tt))
+unfoldable pub cancel_block : ℕ → List ℕ → Answer (Unit {0})
+cancel_block k slice =
+    refuse_if (not (is_length k)) A.block (refuse_if (too_short slice (block_length k)) A.short (done tt))
 
-abbrev pub cancelBytes : ℕ → List ℕ → Answer (Unit {0}) → List ℕ
-cancelBytes k slice (refused n) = slice
-cancelBytes k slice (done u) =
-    bytes_of (length slice) (cancelled (take (blockLength k) (bits_of slice)) ++ drop (blockLength k) (bits_of slice))
+abbrev pub cancel_bytes : ℕ → List ℕ → Answer (Unit {0}) → List ℕ
+cancel_bytes k slice (refused n) = slice
+cancel_bytes k slice (done u) =
+    bytes_of (length slice) (cancelled (take (block_length k) (bits_of slice)) ++ drop (block_length k) (bits_of slice))
 
 pub record CancelBlock (k : ℕ) (slice : List ℕ) (answer : Built) (slice' : List ℕ) : Type 0 where
-  pub answers : builtAnswer answer ≡ cancelBlock k slice
-  pub writes : slice' ≡ cancelBytes k slice (cancelBlock k slice)
+  pub answers : built_answer answer ≡ cancel_block k slice
+  pub writes : slice' ≡ cancel_bytes k slice (cancel_block k slice)

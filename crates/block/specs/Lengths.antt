@@ -10,16 +10,16 @@ among k [] = false
 among k (l ∷ ls) = eqb k l || among k ls
 
 -- k is one of the four
-unfoldable pub isLength : ℕ → Bool
-isLength k = among k lengths
+unfoldable pub is_length : ℕ → Bool
+is_length k = among k lengths
 
 -- the whole length, n
-abbrev pub blockLength : ℕ → ℕ
-blockLength k = k + 20
+abbrev pub block_length : ℕ → ℕ
+block_length k = k + 20
 
 -- the bytes of k data bits, and of a packed block: n bits and four spare ones
-abbrev pub payloadBytes : ℕ → ℕ
-payloadBytes k = k / 8
+abbrev pub payload_bytes : ℕ → ℕ
+payload_bytes k = k / 8
 
-abbrev pub blockBytes : ℕ → ℕ
-blockBytes k = k / 8 + 3
+abbrev pub block_bytes : ℕ → ℕ
+block_bytes k = k / 8 + 3

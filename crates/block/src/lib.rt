@@ -1,8 +1,8 @@
 // The V.41 block: 4 service bits, k data bits, 16 check bits, packed with the earliest bit in the top bit.
 ghost use Rattle.std.specs.Prelude.{◌≡◌, ◌++◌, ◌/◌, get_or};
 ghost use Rattle.crc.specs.Bits.{binary};
-ghost use Rattle.block.specs.Lengths.{isLength};
-ghost use Rattle.block.specs.Calls.{readAnswer, carriedRemainder, tooShort, BuildBlock, CheckBlock, ReadService, MoveData, ReadBlock, BuildSync, CancelBlock};
+ghost use Rattle.block.specs.Lengths.{is_length};
+ghost use Rattle.block.specs.Calls.{read_answer, carried_remainder, too_short, BuildBlock, CheckBlock, ReadService, MoveData, ReadBlock, BuildSync, CancelBlock};
 ghost use Rattle.block.specs.Packed.{LookUp};
 
 pub mod packed;
@@ -57,7 +57,7 @@ pub enum Read {
 impl Read {
     // The remainder of a block that fails, 0 with any other answer.
     pub fn remainder(self) -> u16
-        ensures { result ≡ carriedRemainder (readAnswer self) }
+        ensures { result ≡ carried_remainder (read_answer self) }
     {
         match self {
             Read::Failed(remainder) => remainder,
@@ -81,7 +81,7 @@ pub fn look_up(k: usize) -> Length
 
 // Whether k is one of the four numbers of data bits.
 pub fn known_length(k: usize) -> bool
-    ensures { result ≡ isLength k }
+    ensures { result ≡ is_length k }
 {
     match look_up(k) {
         Length::Bytes(_) => true,
@@ -91,7 +91,7 @@ pub fn known_length(k: usize) -> bool
 
 // Whether a slice holds fewer bits than these.
 pub fn too_short(s: &[u8], bits: usize) -> bool
-    ensures { result ≡ tooShort s.now bits }
+    ensures { result ≡ too_short s.now bits }
 {
     if bits == 0 {
         return false;

@@ -4,16 +4,16 @@ ghost use Rattle.std.specs.Prelude.{◌≡◌, cond, ◌++◌, ◌+◌, ◌*◌,
 ghost use Rattle.crc.specs.Bits.{binary, bits_of, bytes_of};
 ghost use Rattle.crc.specs.Check.{remainder};
 ghost use Rattle.block.specs.Answer.{done};
-ghost use Rattle.block.specs.Lengths.{blockLength};
-ghost use Rattle.block.specs.Block.{block_bits, passed, failed, syncBlock};
-ghost use Rattle.block.specs.Calls.{readAnswer, tooShort, overwritten};
+ghost use Rattle.block.specs.Lengths.{block_length};
+ghost use Rattle.block.specs.Block.{block_bits, passed, failed, sync_block};
+ghost use Rattle.block.specs.Calls.{read_answer, too_short, overwritten};
 ghost use Rattle.block.specs.Packed.{BuildPacked, CheckPacked, ServicePacked, ReadPacked, SyncPacked, CancelPacked};
 
 use crate::{Built, Checked, Read, SHORT, SPOILED, received_check};
 
 // Whether a slice holds fewer bits than a block.
 fn short_of_block(m: usize, block: &[u8]) -> bool
-    ensures { result ≡ tooShort block.now (blockLength (8 * m)) }
+    ensures { result ≡ too_short block.now (block_length (8 * m)) }
 {
     if block.len() < m {
         return true;
@@ -105,7 +105,7 @@ pub fn check(m: usize, block: &[u8]) -> Checked
 
 // What its remainder makes of a block with these service bits.
 fn judged(remainder: u16, service: u8) -> Read
-    ensures { readAnswer result ≡ done (cond (eqb remainder 0) (passed service) (failed remainder)) }
+    ensures { read_answer result ≡ done (cond (eqb remainder 0) (passed service) (failed remainder)) }
 {
     if remainder != 0 {
         return Read::Failed(remainder);
@@ -144,7 +144,7 @@ pub fn read(m: usize, block: &[u8], payload: &mut [u8]) -> Read
 // bits, are inverted.
 fn fill_sync(m: usize, block: &mut [u8])
     requires { m + 3 ≤ length block.old }
-    ensures { block.new ≡ overwritten (m + 3) (syncBlock (8 * m)) block.old }
+    ensures { block.new ≡ overwritten (m + 3) (sync_block (8 * m)) block.old }
 {
     let mut at = 0;
     while at < m {

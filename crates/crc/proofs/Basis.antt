@@ -12,7 +12,7 @@ use lib.Dec.{T, eqb, eqb→eq, lit<}
 use lib.Pow.{pow_pos, split, shr_lt}
 use Rattle.crc.specs.Bits.{binary}
 use Rattle.crc.specs.Check.{register}
-use Rattle.crc.proofs.Xor.{xor-swap, xor-shl}
+use Rattle.crc.proofs.Xor.{xor_swap, xor_shl}
 use Rattle.crc.proofs.Rows.{binary-xor, length-binary}
 use Rattle.crc.proofs.Register.{register-xor}
 
@@ -43,22 +43,22 @@ half_lt {n} k h = rw pow-suc (omega arith)
 
 -- what holds of the digits below holds with one more
 module _ (f h : ℕ → ℕ) (k : ℕ) (p : Additive (suc k) f) (q : Additive (suc k) h) (e : f (2 ^ k) ≡ h (2 ^ k)) where
-  with-top : (d r : ℕ) → d < 2 → r < 2 ^ k → f r ≡ h r → f (d * 2 ^ k + r) ≡ h (d * 2 ^ k + r)
-  with-top zero r u v g = let z : r ≡ 0 * 2 ^ k + r = omega arith in subst (λ (x : ℕ). f x ≡ h x) z g
-  with-top (suc zero) r u v g =
+  with_top : (d r : ℕ) → d < 2 → r < 2 ^ k → f r ≡ h r → f (d * 2 ^ k + r) ≡ h (d * 2 ^ k + r)
+  with_top zero r u v g = let z : r ≡ 0 * 2 ^ k + r = omega arith in subst (λ (x : ℕ). f x ≡ h x) z g
+  with_top (suc zero) r u v g =
       let o : 1 * 2 ^ k < 2 ^ suc k = rw pow-suc (omega (arith, pow_pos k)) in
       let i : 1 * 2 ^ k ≡ 2 ^ k = one-mul (2 ^ k) in
       subst (λ (x : ℕ). f x ≡ h x) (xor_shifted 1 k r v)
       (p (1 * 2 ^ k) r o (half_lt k v) ∙ ap₂ bit_xor (ap f i ∙ e ∙ ap h (sym i)) g ∙ sym (q (1 * 2 ^ k) r o (half_lt k v)))
-  with-top (suc (suc d)) r u v g = absurd (omega arith)
+  with_top (suc (suc d)) r u v g = absurd (omega arith)
 
-pub by-basis : (f h : ℕ → ℕ) (k : ℕ) → Additive k f → Additive k h → T (same_on f h k) → (n : ℕ) → n < 2 ^ k → f n ≡ h n
-by-basis f h zero p q t n l = ap f (lt-one l) ∙ eqb→eq (f 0) (h 0) t ∙ ap h (sym (lt-one l))
-by-basis f h (suc k) p q t n l =
+pub by_basis : (f h : ℕ → ℕ) (k : ℕ) → Additive k f → Additive k h → T (same_on f h k) → (n : ℕ) → n < 2 ^ k → f n ≡ h n
+by_basis f h zero p q t n l = ap f (lt-one l) ∙ eqb→eq (f 0) (h 0) t ∙ ap h (sym (lt-one l))
+by_basis f h (suc k) p q t n l =
     subst (λ (x : ℕ). f x ≡ h x) (split n k)
-    (with-top f h k p q (eqb→eq (f (2 ^ k)) (h (2 ^ k)) (and_left (eqb (f (2 ^ k)) (h (2 ^ k))) (same_on f h k) t)) (n / 2 ^ k) (n % 2 ^ k)
+    (with_top f h k p q (eqb→eq (f (2 ^ k)) (h (2 ^ k)) (and_left (eqb (f (2 ^ k)) (h (2 ^ k))) (same_on f h k) t)) (n / 2 ^ k) (n % 2 ^ k)
     (shr_lt 1 k (subst (λ (x : ℕ). n < 2 ^ x) (sym (one-add k)) l)) (mod-lt n (pow_pos k))
-    (by-basis f h k (λ a b x y. p a b (half_lt k x) (half_lt k y)) (λ a b x y. q a b (half_lt k x) (half_lt k y))
+    (by_basis f h k (λ a b x y. p a b (half_lt k x) (half_lt k y)) (λ a b x y. q a b (half_lt k x) (half_lt k y))
     (and_right (eqb (f (2 ^ k)) (h (2 ^ k))) (same_on f h k) t) (n % 2 ^ k) (mod-lt n (pow_pos k))))
 
 -- ---- terms over two numbers, the register and the new bits
@@ -89,13 +89,13 @@ eval_xor reg c d a b = refl
 eval_xor new c d a b = refl
 eval_xor (e >> k) c d a b = ap (λ (x : ℕ). x / 2 ^ k) (eval_xor e c d a b) ∙ xor_shr (eval e c a) (eval e d b) k
 eval_xor (shl w e k) c d a b =
-    ap (λ (x : ℕ). (x * 2 ^ k) % 2 ^ w) (eval_xor e c d a b) ∙ ap (λ (x : ℕ). x % 2 ^ w) (sym (xor-shl (eval e c a) (eval e d b) k))
+    ap (λ (x : ℕ). (x * 2 ^ k) % 2 ^ w) (eval_xor e c d a b) ∙ ap (λ (x : ℕ). x % 2 ^ w) (sym (xor_shl (eval e c a) (eval e d b) k))
     ∙ xor_mod (eval e c a * 2 ^ k) (eval e d b * 2 ^ k) w
 eval_xor (low e k) c d a b =
     ap (λ (x : ℕ). bit_and x (2 ^ k - 1)) (eval_xor e c d a b) ∙ and_mask (bit_xor (eval e c a) (eval e d b)) k
     ∙ xor_mod (eval e c a) (eval e d b) k ∙ sym (ap₂ bit_xor (and_mask (eval e c a) k) (and_mask (eval e d b) k))
 eval_xor (e ⊕ f) c d a b =
-    ap₂ bit_xor (eval_xor e c d a b) (eval_xor f c d a b) ∙ xor-swap (eval e c a) (eval e d b) (eval f c a) (eval f d b)
+    ap₂ bit_xor (eval_xor e c d a b) (eval_xor f c d a b) ∙ xor_swap (eval e c a) (eval e d b) (eval f c a) (eval f d b)
 eval_xor (e into f) c d a b =
     ap (λ (x : ℕ). eval f x (bit_xor a b)) (eval_xor e c d a b) ∙ eval_xor f (eval e c a) (eval e d b) a b
 
@@ -112,39 +112,39 @@ feeds : (e : Term) (m w : ℕ) → T (same_on (λ c. eval e c 0) (λ c. register
 feeds e m w s t c b h k =
     ap (λ (x : ℕ). eval e x b) (sym (xor_zero_r c)) ∙ eval_xor e c 0 0 b
     ∙ ap₂ bit_xor
-    (by-basis (λ c. eval e c 0) (λ c. register c (binary m 0)) 16 (λ a b x y. eval_xor e a b 0 0) (λ a b x y. register-binary-xor m a b 0 0 x y) s c h)
-    (by-basis (eval e 0) (λ b. register 0 (binary m b)) w (λ a b x y. eval_xor e 0 0 a b)
+    (by_basis (λ c. eval e c 0) (λ c. register c (binary m 0)) 16 (λ a b x y. eval_xor e a b 0 0) (λ a b x y. register-binary-xor m a b 0 0 x y) s c h)
+    (by_basis (eval e 0) (λ b. register 0 (binary m b)) w (λ a b x y. eval_xor e 0 0 a b)
     (λ a b x y. register-binary-xor m 0 0 a b (lit< tt) (lit< tt)) t b k)
     ∙ sym (register-binary-xor m c 0 0 b h (lit< tt)) ∙ ap (λ (x : ℕ). register x (binary m b)) (xor_zero_r c)
 
 -- ---- the terms of src/
 
-abbrev nibbleIn : Term
-nibbleIn = reg >> 12 ⊕ low new 4
+abbrev nibble_in : Term
+nibble_in = reg >> 12 ⊕ low new 4
 
-abbrev nibbleTerm : Term
-nibbleTerm = shl 16 reg 4 ⊕ nibbleIn ⊕ shl 16 nibbleIn 5 ⊕ shl 16 nibbleIn 12
+abbrev nibble_term : Term
+nibble_term = shl 16 reg 4 ⊕ nibble_in ⊕ shl 16 nibble_in 5 ⊕ shl 16 nibble_in 12
 
-pub nibble-feeds : (c b : ℕ) → c < 2 ^ 16 → b < 2 ^ 8 → eval nibbleTerm c b ≡ register c (binary 4 b)
+pub nibble_feeds : (c b : ℕ) → c < 2 ^ 16 → b < 2 ^ 8 → eval nibble_term c b ≡ register c (binary 4 b)
 unfolding register binary
-nibble-feeds = feeds nibbleTerm 4 8 tt tt
+nibble_feeds = feeds nibble_term 4 8 tt tt
 
-abbrev byteTop : Term
-byteTop = reg >> 8 ⊕ new
+abbrev byte_top : Term
+byte_top = reg >> 8 ⊕ new
 
-abbrev byteIn : Term
-byteIn = byteTop ⊕ byteTop >> 4
+abbrev byte_in : Term
+byte_in = byte_top ⊕ byte_top >> 4
 
-abbrev byteTerm : Term
-byteTerm = shl 16 reg 8 ⊕ shl 16 byteIn 12 ⊕ shl 16 byteIn 5 ⊕ byteIn
+abbrev byte_term : Term
+byte_term = shl 16 reg 8 ⊕ shl 16 byte_in 12 ⊕ shl 16 byte_in 5 ⊕ byte_in
 
-pub byte-feeds : (c b : ℕ) → c < 2 ^ 16 → b < 2 ^ 8 → eval byteTerm c b ≡ register c (binary 8 b)
+pub byte_feeds : (c b : ℕ) → c < 2 ^ 16 → b < 2 ^ 8 → eval byte_term c b ≡ register c (binary 8 b)
 unfolding register binary
-byte-feeds = feeds byteTerm 8 8 tt tt
+byte_feeds = feeds byte_term 8 8 tt tt
 
 -- the quotient by the generator, from its powers 8, 4, 2 and 1, and then what it leaves
-abbrev pub wordSum : Term
-wordSum =
+abbrev pub word_sum : Term
+word_sum =
     new ⊕ shl 64 reg 48
     into reg ⊕ reg >> 32
     into reg ⊕ reg >> 16 ⊕ reg >> 44
@@ -152,6 +152,6 @@ wordSum =
     into reg ⊕ reg >> 4 ⊕ reg >> 11 ⊕ reg >> 16
     into reg ⊕ shl 64 reg 5 ⊕ shl 64 reg 12
 
-pub word-feeds : (c b : ℕ) → c < 2 ^ 16 → b < 2 ^ 64 → eval (low wordSum 16) c b ≡ register c (binary 64 b)
+pub word_feeds : (c b : ℕ) → c < 2 ^ 16 → b < 2 ^ 64 → eval (low word_sum 16) c b ≡ register c (binary 64 b)
 unfolding register binary
-word-feeds = feeds (low wordSum 16) 64 64 tt tt
+word_feeds = feeds (low word_sum 16) 64 64 tt tt

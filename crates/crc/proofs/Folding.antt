@@ -12,71 +12,71 @@ use lib.Dec.{T, lit<}
 use lib.ListN.{length}
 use lib.Pow.{split}
 use Rattle.crc.specs.Bits.{Bits, bit, odd, binary, number}
-use Rattle.crc.specs.Words.{bitsOfWords}
+use Rattle.crc.specs.Words.{bits_of_words}
 use Rattle.crc.specs.Polynomial.{polynomial, times, Divides}
 use Rattle.crc.specs.Check.{remainder, register}
-use Rattle.crc.proofs.Xor.{xor-swap, xor-shl}
+use Rattle.crc.proofs.Xor.{xor_swap, xor_shl}
 use Rattle.crc.proofs.Rows.{bit-odd, number_append, number-binary, number-binary-mod, number_lt}
-use Rattle.crc.proofs.Division.{divides-xor, divides-twice, divides-remainder}
+use Rattle.crc.proofs.Division.{divides_xor, divides_twice, divides_remainder}
 use Rattle.crc.proofs.Codeword.{check-zero}
 use Rattle.crc.proofs.Register.{register-xor, register-check}
-use Rattle.crc.proofs.Words.{xorWords, length-bitsOfWords, bitsOfWords-xor, register-zero-word}
-use Rattle.crc.proofs.Basis.{same_on, by-basis, Term, reg, new, ◌>>◌, shl, ◌⊕◌, ◌into◌, eval, eval_xor}
+use Rattle.crc.proofs.Words.{xor_words, length-bits_of_words, bits_of_words-xor, register-zero_word}
+use Rattle.crc.proofs.Basis.{same_on, by_basis, Term, reg, new, ◌>>◌, shl, ◌⊕◌, ◌into◌, eval, eval_xor}
 
 -- ---- what the generator divides is closed under products
 
-divides-bit : (b : Bool) {p : ℕ} → Divides p → Divides (bit b * p)
-divides-bit false {p} d = ([], sym (zero-mul p))
-divides-bit true {p} d = subst Divides (sym (one-mul p)) d
+divides_bit : (b : Bool) {p : ℕ} → Divides p → Divides (bit b * p)
+divides_bit false {p} d = ([], sym (zero-mul p))
+divides_bit true {p} d = subst Divides (sym (one-mul p)) d
 
-pub divides-times : (q : Bits) {p : ℕ} → Divides p → Divides (times q p)
-divides-times [] d = ([], refl)
-divides-times (b ∷ q) d = divides-xor (divides-bit b d) (divides-twice (divides-times q d))
+pub divides_times : (q : Bits) {p : ℕ} → Divides p → Divides (times q p)
+divides_times [] d = ([], refl)
+divides_times (b ∷ q) d = divides_xor (divides_bit b d) (divides_twice (divides_times q d))
 
 -- ---- v times a sum of powers of x
 
-abbrev pub timesPowers : List ℕ → ℕ → ℕ
-timesPowers [] v = 0
-timesPowers (e ∷ es) v = bit_xor (v * 2 ^ e) (timesPowers es v)
+abbrev pub times_powers : List ℕ → ℕ → ℕ
+times_powers [] v = 0
+times_powers (e ∷ es) v = bit_xor (v * 2 ^ e) (times_powers es v)
 
-timesPowers-xor : (es : List ℕ) (a b : ℕ) → timesPowers es (bit_xor a b) ≡ bit_xor (timesPowers es a) (timesPowers es b)
-timesPowers-xor [] a b = refl
-timesPowers-xor (e ∷ es) a b =
-    ap₂ bit_xor (sym (xor-shl a b e)) (timesPowers-xor es a b) ∙ xor-swap (a * 2 ^ e) (b * 2 ^ e) (timesPowers es a) (timesPowers es b)
+times_powers_xor : (es : List ℕ) (a b : ℕ) → times_powers es (bit_xor a b) ≡ bit_xor (times_powers es a) (times_powers es b)
+times_powers_xor [] a b = refl
+times_powers_xor (e ∷ es) a b =
+    ap₂ bit_xor (sym (xor_shl a b e)) (times_powers_xor es a b) ∙ xor_swap (a * 2 ^ e) (b * 2 ^ e) (times_powers es a) (times_powers es b)
 
-timesPowers-twice : (es : List ℕ) (a : ℕ) → timesPowers es (a * 2) ≡ timesPowers es a * 2
-timesPowers-twice [] a = refl
-timesPowers-twice (e ∷ es) a =
-    ap₂ bit_xor (turn a (2 ^ e)) (timesPowers-twice es a) ∙ xor-shl (a * 2 ^ e) (timesPowers es a) 1
+times_powers_twice : (es : List ℕ) (a : ℕ) → times_powers es (a * 2) ≡ times_powers es a * 2
+times_powers_twice [] a = refl
+times_powers_twice (e ∷ es) a =
+    ap₂ bit_xor (turn a (2 ^ e)) (times_powers_twice es a) ∙ xor_shl (a * 2 ^ e) (times_powers es a) 1
   where
     turn : (a p : ℕ) → a * 2 * p ≡ a * p * 2
     turn a p = omega arith
 
-timesPowers-zero : (es : List ℕ) → timesPowers es 0 ≡ 0
-timesPowers-zero [] = refl
-timesPowers-zero (e ∷ es) = ap₂ bit_xor (zero-mul (2 ^ e)) (timesPowers-zero es)
+times_powers_zero : (es : List ℕ) → times_powers es 0 ≡ 0
+times_powers_zero [] = refl
+times_powers_zero (e ∷ es) = ap₂ bit_xor (zero-mul (2 ^ e)) (times_powers_zero es)
 
-timesPowers-bit : (b : Bool) (es : List ℕ) → bit b * timesPowers es 1 ≡ timesPowers es (bit b * 1)
-timesPowers-bit false es = zero-mul (timesPowers es 1) ∙ sym (timesPowers-zero es)
-timesPowers-bit true es = one-mul (timesPowers es 1)
+times_powers_bit : (b : Bool) (es : List ℕ) → bit b * times_powers es 1 ≡ times_powers es (bit b * 1)
+times_powers_bit false es = zero-mul (times_powers es 1) ∙ sym (times_powers_zero es)
+times_powers_bit true es = one-mul (times_powers es 1)
 
-times-powers : (q : Bits) (es : List ℕ) → times q (timesPowers es 1) ≡ timesPowers es (times q 1)
-times-powers [] es = sym (timesPowers-zero es)
-times-powers (b ∷ q) es =
-    ap₂ (λ (x y : ℕ). bit_xor x (y * 2)) (timesPowers-bit b es) (times-powers q es)
-    ∙ ap (bit_xor (timesPowers es (bit b * 1))) (sym (timesPowers-twice es (times q 1)))
-    ∙ sym (timesPowers-xor es (bit b * 1) (times q 1 * 2))
+times_powers_lem : (q : Bits) (es : List ℕ) → times q (times_powers es 1) ≡ times_powers es (times q 1)
+times_powers_lem [] es = sym (times_powers_zero es)
+times_powers_lem (b ∷ q) es =
+    ap₂ (λ (x y : ℕ). bit_xor x (y * 2)) (times_powers_bit b es) (times_powers_lem q es)
+    ∙ ap (bit_xor (times_powers es (bit b * 1))) (sym (times_powers_twice es (times q 1)))
+    ∙ sym (times_powers_xor es (bit b * 1) (times q 1 * 2))
 
 -- the w lowest coefficients of a polynomial, the lowest first
 abbrev coefficients : ℕ → ℕ → Bits
 coefficients zero v = []
 coefficients (suc w) v = odd v ∷ coefficients w (v / 2)
 
-times-one : (w v : ℕ) → v < 2 ^ w → times (coefficients w v) 1 ≡ v
-times-one zero v h = sym (lt-one h)
-times-one (suc w) v h =
+times_one : (w v : ℕ) → v < 2 ^ w → times (coefficients w v) 1 ≡ v
+times_one zero v h = sym (lt-one h)
+times_one (suc w) v h =
     let k : v < 2 ^ w * 2 = subst (λ (x : ℕ). v < x) (pow-suc 2 w) h in
-    ap₂ (λ (x y : ℕ). bit_xor x (y * 2)) (mul-one (bit (odd v)) ∙ bit-odd v) (times-one w (v / 2) (half k))
+    ap₂ (λ (x y : ℕ). bit_xor x (y * 2)) (mul-one (bit (odd v)) ∙ bit-odd v) (times_one w (v / 2) (half k))
     ∙ xor_comm (v % 2) (v / 2 * 2) ∙ xor_shifted (v / 2) 1 (v % 2) (mod-lt v (zero-lt-suc 1)) ∙ split v 1
   where
     half : {v p : ℕ} → v < p * 2 → v / 2 < p
@@ -87,82 +87,82 @@ below_power zero = lit< tt
 below_power (suc v) = rw pow-suc (omega (arith, below_power v))
 
 -- v times a sum that the generator divides
-pub divides-powers : (es : List ℕ) → Divides (timesPowers es 1) → (v : ℕ) → Divides (timesPowers es v)
-divides-powers es d v =
-    subst Divides (times-powers (coefficients v v) es ∙ ap (timesPowers es) (times-one v v (below_power v))) (divides-times (coefficients v v) d)
+pub divides_powers : (es : List ℕ) → Divides (times_powers es 1) → (v : ℕ) → Divides (times_powers es v)
+divides_powers es d v =
+    subst Divides (times_powers_lem (coefficients v v) es ∙ ap (times_powers es) (times_one v v (below_power v))) (divides_times (coefficients v v) d)
 
 -- ---- the law
 
 -- Where the generator divides w and vs as one row, w in front of other words may be left out and vs added to them.
-pub register-fold : (w : ℕ) (ws vs : List ℕ) → length ws ≡ length vs → Divides (polynomial (bitsOfWords (w ∷ vs)))
-    → register 0 (bitsOfWords (w ∷ ws)) ≡ register 0 (bitsOfWords (xorWords ws vs))
-register-fold w ws vs h d =
+pub register_fold : (w : ℕ) (ws vs : List ℕ) → length ws ≡ length vs → Divides (polynomial (bits_of_words (w ∷ vs)))
+    → register 0 (bits_of_words (w ∷ ws)) ≡ register 0 (bits_of_words (xor_words ws vs))
+register_fold w ws vs h d =
     sym (xor_zero_r (register 0 l)) ∙ ap (bit_xor (register 0 l)) (sym z) ∙ sym (register-xor 0 0 l m (lit< tt) (lit< tt) lengths)
-    ∙ ap (register 0) (sym (bitsOfWords-xor (w ∷ ws) (w ∷ vs) (ap suc h)))
-    ∙ ap (λ (x : ℕ). register 0 (bitsOfWords (x ∷ xorWords ws vs))) (xor_self w) ∙ register-zero-word (xorWords ws vs)
+    ∙ ap (register 0) (sym (bits_of_words-xor (w ∷ ws) (w ∷ vs) (ap suc h)))
+    ∙ ap (λ (x : ℕ). register 0 (bits_of_words (x ∷ xor_words ws vs))) (xor_self w) ∙ register-zero_word (xor_words ws vs)
   where
     l : Bits
-    l = bitsOfWords (w ∷ ws)
+    l = bits_of_words (w ∷ ws)
 
     m : Bits
-    m = bitsOfWords (w ∷ vs)
+    m = bits_of_words (w ∷ vs)
 
     z : register 0 m ≡ 0
-    z = register-check m ∙ (check-zero m).1 ((divides-remainder m).1 d)
+    z = register-check m ∙ (check-zero m).1 ((divides_remainder m).1 d)
 
     lengths : length l ≡ length m
-    lengths = length-bitsOfWords (w ∷ ws) ∙ ap (λ (n : ℕ). 64 * suc n) h ∙ sym (length-bitsOfWords (w ∷ vs))
+    lengths = length-bits_of_words (w ∷ ws) ∙ ap (λ (n : ℕ). 64 * suc n) h ∙ sym (length-bits_of_words (w ∷ vs))
 
 -- ---- words that are terms of one word
 
-abbrev pub wordsAt : List Term → ℕ → List ℕ
-wordsAt [] w = []
-wordsAt (t ∷ ts) w = eval t 0 w ∷ wordsAt ts w
+abbrev pub words_at : List Term → ℕ → List ℕ
+words_at [] w = []
+words_at (t ∷ ts) w = eval t 0 w ∷ words_at ts w
 
 -- their polynomial
-abbrev polynomialAt : List Term → ℕ → ℕ
-polynomialAt [] w = 0
-polynomialAt (t ∷ ts) w = bit_xor (eval t 0 w % 2 ^ 64 * 2 ^ (64 * length ts)) (polynomialAt ts w)
+abbrev polynomial_at : List Term → ℕ → ℕ
+polynomial_at [] w = 0
+polynomial_at (t ∷ ts) w = bit_xor (eval t 0 w % 2 ^ 64 * 2 ^ (64 * length ts)) (polynomial_at ts w)
 
-polynomialAt-xor : (ts : List Term) (a b : ℕ) → polynomialAt ts (bit_xor a b) ≡ bit_xor (polynomialAt ts a) (polynomialAt ts b)
-polynomialAt-xor [] a b = refl
-polynomialAt-xor (t ∷ ts) a b =
+polynomial_at_xor : (ts : List Term) (a b : ℕ) → polynomial_at ts (bit_xor a b) ≡ bit_xor (polynomial_at ts a) (polynomial_at ts b)
+polynomial_at_xor [] a b = refl
+polynomial_at_xor (t ∷ ts) a b =
     let p : ℕ = 2 ^ (64 * length ts) in
     ap₂ bit_xor
     (ap (λ (x : ℕ). x % 2 ^ 64 * p) (eval_xor t 0 0 a b) ∙ ap (λ (x : ℕ). x * p) (xor_mod (eval t 0 a) (eval t 0 b) 64)
-    ∙ sym (xor-shl (eval t 0 a % 2 ^ 64) (eval t 0 b % 2 ^ 64) (64 * length ts)))
-    (polynomialAt-xor ts a b)
-    ∙ xor-swap (eval t 0 a % 2 ^ 64 * p) (eval t 0 b % 2 ^ 64 * p) (polynomialAt ts a) (polynomialAt ts b)
+    ∙ sym (xor_shl (eval t 0 a % 2 ^ 64) (eval t 0 b % 2 ^ 64) (64 * length ts)))
+    (polynomial_at_xor ts a b)
+    ∙ xor_swap (eval t 0 a % 2 ^ 64 * p) (eval t 0 b % 2 ^ 64 * p) (polynomial_at ts a) (polynomial_at ts b)
 
-length-wordsAt : (ts : List Term) (w : ℕ) → length (wordsAt ts w) ≡ length ts
-length-wordsAt [] w = refl
-length-wordsAt (t ∷ ts) w = ap suc (length-wordsAt ts w)
+length_words_at : (ts : List Term) (w : ℕ) → length (words_at ts w) ≡ length ts
+length_words_at [] w = refl
+length_words_at (t ∷ ts) w = ap suc (length_words_at ts w)
 
-polynomialAt-is : (ts : List Term) (w : ℕ) → polynomial (bitsOfWords (wordsAt ts w)) ≡ polynomialAt ts w
-unfolding bitsOfWords number
-polynomialAt-is [] w = refl
-polynomialAt-is (t ∷ ts) w =
-    let l : Bits = bitsOfWords (wordsAt ts w) in
+polynomial_at_is : (ts : List Term) (w : ℕ) → polynomial (bits_of_words (words_at ts w)) ≡ polynomial_at ts w
+unfolding bits_of_words number
+polynomial_at_is [] w = refl
+polynomial_at_is (t ∷ ts) w =
+    let l : Bits = bits_of_words (words_at ts w) in
     number_append (binary 64 (eval t 0 w)) l
     ∙ sym (xor_shifted (number (binary 64 (eval t 0 w))) (length l) (number l) (number_lt l))
     ∙ ap₂ bit_xor
     (ap₂ (λ (x y : ℕ). x * 2 ^ y) (number-binary-mod 64 (eval t 0 w))
-    (length-bitsOfWords (wordsAt ts w) ∙ ap (λ (n : ℕ). 64 * n) (length-wordsAt ts w)))
-    (polynomialAt-is ts w)
+    (length-bits_of_words (words_at ts w) ∙ ap (λ (n : ℕ). 64 * n) (length_words_at ts w)))
+    (polynomial_at_is ts w)
 
 -- a word in front of ws folded into them by terms: with it they are q times a sum of powers of x that the generator divides
-fold-terms : (es : List ℕ) (q : Term) (ts : List Term) → Divides (timesPowers es 1)
-    → T (same_on (polynomialAt (new ∷ ts)) (λ w. timesPowers es (eval q 0 w)) 64)
+fold_terms : (es : List ℕ) (q : Term) (ts : List Term) → Divides (times_powers es 1)
+    → T (same_on (polynomial_at (new ∷ ts)) (λ w. times_powers es (eval q 0 w)) 64)
     → (w : ℕ) (ws : List ℕ) → w < 2 ^ 64 → length ws ≡ length ts
-    → register 0 (bitsOfWords (w ∷ ws)) ≡ register 0 (bitsOfWords (xorWords ws (wordsAt ts w)))
-fold-terms es q ts d t w ws h n =
-    register-fold w ws (wordsAt ts w) (n ∙ sym (length-wordsAt ts w))
-    (subst Divides (sym (polynomialAt-is (new ∷ ts) w ∙ same)) (divides-powers es d (eval q 0 w)))
+    → register 0 (bits_of_words (w ∷ ws)) ≡ register 0 (bits_of_words (xor_words ws (words_at ts w)))
+fold_terms es q ts d t w ws h n =
+    register_fold w ws (words_at ts w) (n ∙ sym (length_words_at ts w))
+    (subst Divides (sym (polynomial_at_is (new ∷ ts) w ∙ same)) (divides_powers es d (eval q 0 w)))
   where
-    same : polynomialAt (new ∷ ts) w ≡ timesPowers es (eval q 0 w)
+    same : polynomial_at (new ∷ ts) w ≡ times_powers es (eval q 0 w)
     same =
-        by-basis (polynomialAt (new ∷ ts)) (λ w. timesPowers es (eval q 0 w)) 64 (λ a b x y. polynomialAt-xor (new ∷ ts) a b)
-        (λ a b x y. ap (timesPowers es) (eval_xor q 0 0 a b) ∙ timesPowers-xor es (eval q 0 a) (eval q 0 b)) t w h
+        by_basis (polynomial_at (new ∷ ts)) (λ w. times_powers es (eval q 0 w)) 64 (λ a b x y. polynomial_at_xor (new ∷ ts) a b)
+        (λ a b x y. ap (times_powers es) (eval_xor q 0 0 a b) ∙ times_powers_xor es (eval q 0 a) (eval q 0 b)) t w h
 
 -- ---- the generator's powers 16, 8 and 4, and the words of src/
 
@@ -175,45 +175,45 @@ power8 = 128 ∷ 96 ∷ 40 ∷ 0 ∷ []
 abbrev power4 : List ℕ
 power4 = 64 ∷ 48 ∷ 20 ∷ 0 ∷ []
 
-divides-sum : (es : List ℕ) (n : ℕ) → timesPowers es 1 < 2 ^ n → remainder (binary n (timesPowers es 1)) ≡ 0 → Divides (timesPowers es 1)
-divides-sum es n h e =
-    subst Divides (number-binary n (timesPowers es 1) h) ((divides-remainder (binary n (timesPowers es 1))).0 e)
+divides_sum : (es : List ℕ) (n : ℕ) → times_powers es 1 < 2 ^ n → remainder (binary n (times_powers es 1)) ≡ 0 → Divides (times_powers es 1)
+divides_sum es n h e =
+    subst Divides (number-binary n (times_powers es 1) h) ((divides_remainder (binary n (times_powers es 1))).0 e)
 
 -- the generator divides x^256 + x^192 + x^80 + 1
-divides-power16 : Divides (timesPowers power16 1)
+divides_power16 : Divides (times_powers power16 1)
 unfolding remainder binary
-divides-power16 = divides-sum power16 257 (lit< tt) refl
+divides_power16 = divides_sum power16 257 (lit< tt) refl
 
-divides-power8 : Divides (timesPowers power8 1)
+divides_power8 : Divides (times_powers power8 1)
 unfolding remainder binary
-divides-power8 = divides-sum power8 129 (lit< tt) refl
+divides_power8 = divides_sum power8 129 (lit< tt) refl
 
-divides-power4 : Divides (timesPowers power4 1)
+divides_power4 : Divides (times_powers power4 1)
 unfolding remainder binary
-divides-power4 = divides-sum power4 65 (lit< tt) refl
+divides_power4 = divides_sum power4 65 (lit< tt) refl
 
 -- a word four places ahead
-pub fold-four : (a b c d e : ℕ) → a < 2 ^ 64
-    → register 0 (bitsOfWords (a ∷ b ∷ c ∷ d ∷ e ∷ []))
-    ≡ register 0 (bitsOfWords (bit_xor b a ∷ bit_xor c (a / 2 ^ 48) ∷ bit_xor d (a * 2 ^ 16 % 2 ^ 64) ∷ bit_xor e a ∷ []))
-fold-four a b c d e h =
-    fold-terms power16 new (new ∷ new >> 48 ∷ shl 64 new 16 ∷ new ∷ []) divides-power16 tt a (b ∷ c ∷ d ∷ e ∷ []) h refl
+pub fold_four : (a b c d e : ℕ) → a < 2 ^ 64
+    → register 0 (bits_of_words (a ∷ b ∷ c ∷ d ∷ e ∷ []))
+    ≡ register 0 (bits_of_words (bit_xor b a ∷ bit_xor c (a / 2 ^ 48) ∷ bit_xor d (a * 2 ^ 16 % 2 ^ 64) ∷ bit_xor e a ∷ []))
+fold_four a b c d e h =
+    fold_terms power16 new (new ∷ new >> 48 ∷ shl 64 new 16 ∷ new ∷ []) divides_power16 tt a (b ∷ c ∷ d ∷ e ∷ []) h refl
 
 -- a word two places ahead
-pub fold-two : (a b c : ℕ) → a < 2 ^ 64
+pub fold_two : (a b c : ℕ) → a < 2 ^ 64
     → let v : ℕ = bit_xor a (a / 2 ^ 32) in
-    register 0 (bitsOfWords (a ∷ b ∷ c ∷ []))
-    ≡ register 0 (bitsOfWords (bit_xor b (bit_xor (v * 2 ^ 32 % 2 ^ 64) (v / 2 ^ 24)) ∷ bit_xor c (bit_xor v (v * 2 ^ 40 % 2 ^ 64)) ∷ []))
-fold-two a b c h =
+    register 0 (bits_of_words (a ∷ b ∷ c ∷ []))
+    ≡ register 0 (bits_of_words (bit_xor b (bit_xor (v * 2 ^ 32 % 2 ^ 64) (v / 2 ^ 24)) ∷ bit_xor c (bit_xor v (v * 2 ^ 40 % 2 ^ 64)) ∷ []))
+fold_two a b c h =
     let v : Term = new ⊕ new >> 32 in
-    fold-terms power8 v ((shl 64 v 32 ⊕ v >> 24) ∷ (v ⊕ shl 64 v 40) ∷ []) divides-power8 tt a (b ∷ c ∷ []) h refl
+    fold_terms power8 v ((shl 64 v 32 ⊕ v >> 24) ∷ (v ⊕ shl 64 v 40) ∷ []) divides_power8 tt a (b ∷ c ∷ []) h refl
 
 -- a word one place ahead
 abbrev quotient4 : Term
 quotient4 = new ⊕ new >> 32 into reg ⊕ reg >> 16 ⊕ reg >> 44
 
-pub fold-one : (a b : ℕ) → a < 2 ^ 64
+pub fold_one : (a b : ℕ) → a < 2 ^ 64
     → let y : ℕ = eval quotient4 0 a in
-    register 0 (bitsOfWords (a ∷ b ∷ [])) ≡ register 0 (bitsOfWords (bit_xor b (bit_xor (bit_xor y (y * 2 ^ 20 % 2 ^ 64)) (y * 2 ^ 48 % 2 ^ 64)) ∷ []))
-fold-one a b h =
-    fold-terms power4 quotient4 ((quotient4 into reg ⊕ shl 64 reg 20 ⊕ shl 64 reg 48) ∷ []) divides-power4 tt a (b ∷ []) h refl
+    register 0 (bits_of_words (a ∷ b ∷ [])) ≡ register 0 (bits_of_words (bit_xor b (bit_xor (bit_xor y (y * 2 ^ 20 % 2 ^ 64)) (y * 2 ^ 48 % 2 ^ 64)) ∷ []))
+fold_one a b h =
+    fold_terms power4 quotient4 ((quotient4 into reg ⊕ shl 64 reg 20 ⊕ shl 64 reg 48) ∷ []) divides_power4 tt a (b ∷ []) h refl

@@ -23,12 +23,12 @@ binary zero n = []
 binary (suc w) n = odd (n / 2 ^ w) ∷ binary w n
 
 -- the number that a row writes in binary, behind the digits of p
-abbrev pub numberFrom : ℕ → Bits → ℕ
-numberFrom p [] = p
-numberFrom p (b ∷ bs) = numberFrom (p * 2 + bit b) bs
+abbrev pub number_from : ℕ → Bits → ℕ
+number_from p [] = p
+number_from p (b ∷ bs) = number_from (p * 2 + bit b) bs
 
 unfoldable pub number : Bits → ℕ
-number bs = numberFrom 0 bs
+number bs = number_from 0 bs
 
 -- bytes to bits, the earliest in the top bit
 unfoldable pub bits_of : List ℕ → Bits
@@ -46,10 +46,10 @@ xor false b = b
 xor true b = not b
 
 -- the sum of two rows: the places where they differ
-unfoldable pub xorBits : Bits → Bits → Bits
-xorBits [] ys = []
-xorBits (x ∷ xs) [] = []
-xorBits (x ∷ xs) (y ∷ ys) = xor x y ∷ xorBits xs ys
+unfoldable pub xor_bits : Bits → Bits → Bits
+xor_bits [] ys = []
+xor_bits (x ∷ xs) [] = []
+xor_bits (x ∷ xs) (y ∷ ys) = xor x y ∷ xor_bits xs ys
 
 -- the parity of a row: whether its number of ones is odd
 unfoldable pub parity : Bits → Bool

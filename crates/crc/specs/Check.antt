@@ -9,12 +9,12 @@ abbrev pub reduce : ℕ → ℕ
 reduce n = bit_xor (n / 2 ^ 16 * generator) n
 
 -- Division, a bit at a time: the register times x, plus the next bit, reduced.
-abbrev pub divideBit : ℕ → Bool → ℕ
-divideBit c b = reduce (c * 2 + bit b)
+abbrev pub divide_bit : ℕ → Bool → ℕ
+divide_bit c b = reduce (c * 2 + bit b)
 
 abbrev pub divide : ℕ → Bits → ℕ
 divide c [] = c
-divide c (b ∷ bs) = divide (divideBit c b) bs
+divide c (b ∷ bs) = divide (divide_bit c b) bs
 
 -- the remainder of a row's polynomial, from a zero register
 unfoldable pub remainder : Bits → ℕ
@@ -29,9 +29,9 @@ unfoldable pub check : Bits → ℕ
 check bs = remainder (bs ++ zeros 16)
 
 -- The register as it is built: the next bit comes in at x^16, so that from zero it holds the check bits of the row so far.
-abbrev pub registerBit : ℕ → Bool → ℕ
-registerBit c b = reduce (bit_xor (c * 2) (bit b * 2 ^ 16))
+abbrev pub register_bit : ℕ → Bool → ℕ
+register_bit c b = reduce (bit_xor (c * 2) (bit b * 2 ^ 16))
 
 unfoldable pub register : ℕ → Bits → ℕ
 register c [] = c
-register c (b ∷ bs) = register (registerBit c b) bs
+register c (b ∷ bs) = register (register_bit c b) bs

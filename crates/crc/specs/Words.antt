@@ -4,9 +4,9 @@ use Rattle.crc.specs.Bits.{Bits, binary}
 use Rattle.crc.specs.declared.Window.{Window}
 
 -- words to bits, the earliest in the top bit
-unfoldable pub bitsOfWords : List ℕ → Bits
-bitsOfWords [] = []
-bitsOfWords (w ∷ ws) = binary 64 w ++ bitsOfWords ws
+unfoldable pub bits_of_words : List ℕ → Bits
+bits_of_words [] = []
+bits_of_words (w ∷ ws) = binary 64 w ++ bits_of_words ws
 
 -- a window's words, the earliest first
 abbrev pub words_of : Window → List ℕ

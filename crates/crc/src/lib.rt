@@ -1,7 +1,7 @@
 // The cyclic check of V.41: the register of x^16 + x^12 + x^5 + 1 over bits, bytes and words.
 ghost use Rattle.std.specs.Prelude.{◌≡◌, [], ◌∷◌, ◌++◌, ◌+◌, ◌-◌, ◌%◌, ◌^◌, ◌≤◌, ◌<◌, length, take, drop};
 ghost use Rattle.crc.specs.Bits.{binary, bits_of};
-ghost use Rattle.crc.specs.Words.{bitsOfWords, words_of};
+ghost use Rattle.crc.specs.Words.{bits_of_words, words_of};
 ghost use Rattle.crc.specs.Check.{register};
 
 // Four bits into the register: the low half of b, its highest bit first.
@@ -75,7 +75,7 @@ struct Pair {
 // One word more behind a window, whose first word is folded into the four behind it: the generator's 16th power is
 // x^256 + x^192 + x^80 + 1.
 fn fold_four(w: Window, next: u64) -> Window
-    ensures { register 0 (bitsOfWords (words_of result)) ≡ register 0 (bitsOfWords (words_of w ++ next ∷ [])) }
+    ensures { register 0 (bits_of_words (words_of result)) ≡ register 0 (bits_of_words (words_of w ++ next ∷ [])) }
 {
     Window {
         a: w.b ^ w.a,
@@ -87,7 +87,7 @@ fn fold_four(w: Window, next: u64) -> Window
 
 // A word folded into the two behind it: the generator's 8th power is x^128 + x^96 + x^40 + 1.
 fn fold_two(a: u64, b: u64, c: u64) -> Pair
-    ensures { register 0 (bitsOfWords (result.a ∷ result.b ∷ [])) ≡ register 0 (bitsOfWords (a ∷ b ∷ c ∷ [])) }
+    ensures { register 0 (bits_of_words (result.a ∷ result.b ∷ [])) ≡ register 0 (bits_of_words (a ∷ b ∷ c ∷ [])) }
 {
     let v = a ^ (a >> 32);
     Pair {
@@ -98,7 +98,7 @@ fn fold_two(a: u64, b: u64, c: u64) -> Pair
 
 // A word folded into the one behind it: the generator's 4th power is x^64 + x^48 + x^20 + 1.
 fn fold_one(a: u64, b: u64) -> u64
-    ensures { register 0 (bitsOfWords (result ∷ [])) ≡ register 0 (bitsOfWords (a ∷ b ∷ [])) }
+    ensures { register 0 (bits_of_words (result ∷ [])) ≡ register 0 (bits_of_words (a ∷ b ∷ [])) }
 {
     let x = a ^ (a >> 32);
     let y = x ^ (x >> 16) ^ (x >> 44);
@@ -107,7 +107,7 @@ fn fold_one(a: u64, b: u64) -> u64
 
 // What a window leaves in the register.
 fn feed_window(w: Window) -> u16
-    ensures { result ≡ register 0 (bitsOfWords (words_of w)) }
+    ensures { result ≡ register 0 (bits_of_words (words_of w)) }
 {
     let p = fold_two(w.a, w.b, w.c);
     let q = fold_two(p.a, p.b, w.d);
@@ -117,7 +117,7 @@ fn feed_window(w: Window) -> u16
 // The words of a slice from a place on, folded into a window.
 fn fold_words(start: Window, s: &[u8], from: usize) -> Window
     requires { (from ≤ length s.now) × ((length s.now - from) % 8 ≡ 0) }
-    ensures { register 0 (bitsOfWords (words_of result)) ≡ register 0 (bitsOfWords (words_of start) ++ bits_of (drop from s.now)) }
+    ensures { register 0 (bits_of_words (words_of result)) ≡ register 0 (bits_of_words (words_of start) ++ bits_of (drop from s.now)) }
 {
     let mut w = start;
     let mut i = from;

@@ -8,24 +8,24 @@ use lib.ListN.{length, take}
 use Rattle.crc.specs.Bits.{Bits, bits_of}
 use Rattle.block.specs.Answer.{done}
 use Rattle.line.specs.Receiving.{missing, Reception, receive}
-use Rattle.line.specs.BitsUsed.{alarmStands, Uses, LentAgain, no_call, call, BitsUsed}
+use Rattle.line.specs.BitsUsed.{alarm_stands, Uses, LentAgain, no_call, call, BitsUsed}
 use Rattle.line.specs.declared.receiver.Receiver.{Receiver}
 use Rattle.line.specs.declared.receiving.Phase.{Phase}
 use Rattle.line.specs.declared.receiving.Phase.TheVariants as P
-use Rattle.line.proofs.ReceivingCall.{in-range, held-step, length-lent, heard}
-use Rattle.line.proofs.ReceptionCases.{received-case}
+use Rattle.line.proofs.ReceivingCall.{in_range, held_step, length-lent, heard}
+use Rattle.line.proofs.ReceptionCases.{received_case}
 
 -- all of them, ...
-uses-all : (p : Phase) (count used : ℕ) → used ≡ count → Uses p count used
-uses-all p count used e = record { at_least_one = λ h. omega arith; at-most-lent = omega arith; under-alarm = λ a. e; of_none = λ z. omega arith }
+uses_all : (p : Phase) (count used : ℕ) → used ≡ count → Uses p count used
+uses_all p count used e = record { at_least_one = λ h. omega arith; at_most_lent = omega arith; under_alarm_lem = λ a. e; of_none = λ z. omega arith }
 
 -- ... or some of them, where no alarm stands
-uses-some : (p q : Phase) (count used : ℕ) → p ≡ q → alarmStands q ≡ false → 1 ≤ used → used ≤ count → Uses p count used
-uses-some p q count used e a l h =
+uses_some : (p q : Phase) (count used : ℕ) → p ≡ q → alarm_stands q ≡ false → 1 ≤ used → used ≤ count → Uses p count used
+uses_some p q count used e a l h =
     record {
       at_least_one = λ n. l;
-      at-most-lent = h;
-      under-alarm = λ t. absurd (false≢true (sym (ap alarmStands e ∙ a) ∙ t));
+      at_most_lent = h;
+      under_alarm_lem = λ t. absurd (false≢true (sym (ap alarm_stands e ∙ a) ∙ t));
       of_none = λ z. omega arith;
     }
 
@@ -36,11 +36,11 @@ uses s line count ready store x e =
     let new : Bits = take count (bits_of line) in
     let l : length new ≡ count = length-lent line count h.1 in
     let p : Phase = s.phase in
-    received-case s line count ready (λ (y : Reception). Uses p count y.used) (λ z. uses-all p count 0 (sym z))
-    (λ window used n. uses-all p count used (n ∙ l))
-    (λ q used some most. uses-some p P.Search count used q refl some (omega arith)) (uses-all p count (length new) l)
-    (λ q m. uses-some p P.InStep count (missing s) q refl (omega (arith, held-step s (in-range s h.0) q)) (omega arith))
-    (uses-all p count (length new) l) (uses-all p count (length new) l) store x e
+    received_case s line count ready (λ (y : Reception). Uses p count y.used) (λ z. uses_all p count 0 (sym z))
+    (λ window used n. uses_all p count used (n ∙ l))
+    (λ q used some most. uses_some p P.Search count used q refl some (omega arith)) (uses_all p count (length new) l)
+    (λ q m. uses_some p P.InStep count (missing s) q refl (omega (arith, held_step s (in_range s h.0) q)) (omega arith))
+    (uses_all p count (length new) l) (uses_all p count (length new) l) store x e
 
 -- one bit fewer at least
 fewer : (p : Phase) (count used calls : ℕ) → Uses p count used → count ≤ suc calls → count - used ≤ calls
@@ -53,5 +53,5 @@ nothing_left s count (suc calls) left (call line ready store x e more) h =
     nothing_left x.state (count - x.used) calls left more
     (fewer s.phase count x.used calls (uses s line count ready store x e) h)
 
-pub bits-used : BitsUsed
-bits-used = record { uses = uses; nothing_left = nothing_left }
+pub bits_used : BitsUsed
+bits_used = record { uses = uses; nothing_left = nothing_left }

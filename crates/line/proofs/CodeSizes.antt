@@ -5,10 +5,10 @@ use Prim.Native.Nat.{ℕ, ◌≤◌}
 use borrow.Author.Tests.{leb-true}
 use lib.Dec.{leb}
 use Rattle.block.proofs.Truth.{and_right}
-use Rattle.line.specs.Marks.{marksOf, isCodeSize, marksInRange}
+use Rattle.line.specs.Marks.{marks_of, is_code_size, marks_in_range}
 use Rattle.line.specs.declared.marks.CodeSize.TheVariants as C
 
 -- a code size fits a byte
-pub given-size : (size : ℕ) → marksInRange (marksOf (C.Given size)) ≡ true → size ≤ 8
-unfolding marksInRange isCodeSize
-given-size size h = leb-true size 8 (and_right (leb 5 size) (leb size 8) h)
+pub given_size : (size : ℕ) → marks_in_range (marks_of (C.Given size)) ≡ true → size ≤ 8
+unfolding marks_in_range is_code_size
+given_size size h = leb-true size 8 (and_right (leb 5 size) (leb size 8) h)

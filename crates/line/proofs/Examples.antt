@@ -3,24 +3,24 @@ use mathlib.Core.Path.{◌≡◌, refl}
 use mathlib.Core.Bool.{true}
 use Rattle.crc.specs.Bits.{binary}
 use Rattle.crc.specs.Check.{remainder, check}
-use Rattle.block.specs.Lengths.{isLength}
-use Rattle.line.specs.LoopTime.{isSpeed, blockTime, hasEntry, longestLoop, loopTime}
-use Rattle.line.specs.Order.{itemCount}
-use Rattle.line.specs.Examples.{examples, right, allRight}
+use Rattle.block.specs.Lengths.{is_length}
+use Rattle.line.specs.LoopTime.{is_speed, block_time, has_entry, longest_loop, loop_time}
+use Rattle.line.specs.Order.{item_count}
+use Rattle.line.specs.Examples.{examples, right, all_right}
 
-pub examples-right : allRight examples ≡ true
+pub examples-right : all_right examples ≡ true
 unfolding
     examples
     right
-    allRight
+    all_right
     binary
     remainder
     check
-    isLength
-    isSpeed
-    blockTime
-    hasEntry
-    longestLoop
-    loopTime
-    itemCount
+    is_length
+    is_speed
+    block_time
+    has_entry
+    longest_loop
+    loop_time
+    item_count
 examples-right = refl

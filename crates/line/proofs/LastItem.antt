@@ -9,21 +9,21 @@ use lib.ListN.{length, get_or, set, take, drop, replicate, length-drop, length-r
 use lib.Seq.{length-take-le, take-add, take-suc, take-append-le, take-append-add, drop_at, drop-cons, get_or-drop, set_at, take_at}
 use Rattle.crc.specs.Bits.{Bits, binary, bits_of, bytes_of, number, zeros}
 use Rattle.crc.proofs.Rows.{length-binary, binary-zero}
-use Rattle.crc.proofs.Bytes.{length-bitsOf, drop-bitsOf, drop-bytes, packed-front, bytesOf-append}
+use Rattle.crc.proofs.Bytes.{length-bits_of, drop-bits_of, drop_bytes, packed_front, bytes_of-append}
 
 -- ---- zeros
 
-pub bytesOf-none : (n : ℕ) → bytes_of n [] ≡ replicate n 0
+pub bytes_of_none : (n : ℕ) → bytes_of n [] ≡ replicate n 0
 unfolding bytes_of number
-bytesOf-none zero = refl
-bytesOf-none (suc n) = ap (λ (l : List ℕ). 0 ∷ l) (bytesOf-none n)
+bytes_of_none zero = refl
+bytes_of_none (suc n) = ap (λ (l : List ℕ). 0 ∷ l) (bytes_of_none n)
 
-pub bitsOf-zeros : (n : ℕ) → bits_of (replicate n 0) ≡ zeros (8 * n)
+pub bits_of-zeros : (n : ℕ) → bits_of (replicate n 0) ≡ zeros (8 * n)
 unfolding bits_of
-bitsOf-zeros zero = refl
-bitsOf-zeros (suc n) =
+bits_of-zeros zero = refl
+bits_of-zeros (suc n) =
     let e : 8 * suc n ≡ 8 + 8 * n = omega arith in
-    ap₂ (λ (x y : Bits). x ++ y) (binary-zero 8) (bitsOf-zeros n) ∙ replicate-append-replicate 8 (8 * n) false
+    ap₂ (λ (x y : Bits). x ++ y) (binary-zero 8) (bits_of-zeros n) ∙ replicate-append-replicate 8 (8 * n) false
     ∙ ap zeros (sym e)
 
 -- zeros behind a row, cut within the zeros
@@ -66,32 +66,32 @@ written m s n v h g =
 
 module _ (s : List ℕ) (bytes : (i : ℕ) → get_or s i 0 < 256) (m : ℕ) where
   -- whole bytes, and some bits behind them
-  packed-parts : (rest n : ℕ) → m ≤ length s
+  packed_parts : (rest n : ℕ) → m ≤ length s
       → bytes_of (m + n) (take (8 * m + rest) (bits_of s)) ≡ take m s ++ bytes_of n (take rest (bits_of (drop m s)))
-  packed-parts rest n h =
+  packed_parts rest n h =
       ap (bytes_of (m + n)) (take-add (8 * m) rest (bits_of s))
-      ∙ bytesOf-append m n (take (8 * m) (bits_of s)) (take rest (drop (8 * m) (bits_of s)))
-      (length-take-le (8 * m) (bits_of s) (omega (arith, length-bitsOf s)))
-      ∙ ap₂ (λ (x : List ℕ) (y : Bits). x ++ bytes_of n (take rest y)) (packed-front m s bytes h) (drop-bitsOf m s)
+      ∙ bytes_of-append m n (take (8 * m) (bits_of s)) (take rest (drop (8 * m) (bits_of s)))
+      (length-take-le (8 * m) (bits_of s) (omega (arith, length-bits_of s)))
+      ∙ ap₂ (λ (x : List ℕ) (y : Bits). x ++ bytes_of n (take rest y)) (packed_front m s bytes h) (drop-bits_of m s)
 
   -- the first bits of the byte behind
-  next-bits : (rest : ℕ) → m < length s → rest < 8 → take rest (bits_of (drop m s)) ≡ take rest (binary 8 (get_or s m 0))
+  next_bits : (rest : ℕ) → m < length s → rest < 8 → take rest (bits_of (drop m s)) ≡ take rest (binary 8 (get_or s m 0))
   unfolding bits_of
-  next-bits rest h r =
+  next_bits rest h r =
       ap (λ (l : List ℕ). take rest (bits_of l)) (drop-cons s m 0 h)
       ∙ take-append-le rest (binary 8 (get_or s m 0)) (bits_of (drop (suc m) s)) (omega (arith, length-binary 8 (get_or s m 0)))
 
-  packed-next : (rest n : ℕ) → m < length s → rest < 8
+  packed_next : (rest n : ℕ) → m < length s → rest < 8
       → bytes_of (suc n) (take rest (bits_of (drop m s)))
       ≡ number (take 8 (take rest (binary 8 (get_or s m 0)) ++ zeros 8)) ∷ replicate n 0
   unfolding bytes_of
-  packed-next rest n h r =
+  packed_next rest n h r =
       let x : Bits = take rest (binary 8 (get_or s m 0)) in
       let none : drop 8 x ≡ [] =
       drop_of_length-le x {i = 8} (omega (arith, length-take-le rest (binary 8 (get_or s m 0)) (omega (arith, length-binary 8 (get_or s m 0)))))
       in
-      ap (bytes_of (suc n)) (next-bits rest h r)
-      ∙ ap (λ (l : List ℕ). number (take 8 (x ++ zeros 8)) ∷ l) (ap (bytes_of n) none ∙ bytesOf-none n)
+      ap (bytes_of (suc n)) (next_bits rest h r)
+      ∙ ap (λ (l : List ℕ). number (take 8 (x ++ zeros 8)) ∷ l) (ap (bytes_of n) none ∙ bytes_of_none n)
 
 -- ---- the order from byte start on
 
@@ -100,31 +100,31 @@ module _ (order : List ℕ) (bytes : (i : ℕ) → get_or order i 0 < 256) (bits
   order_row : drop (8 * start) (take bits (bits_of order)) ≡ take (8 * (bits / 8 - start) + bits % 8) (bits_of (drop start order))
   order_row =
       let e : bits - 8 * start ≡ 8 * (bits / 8 - start) + bits % 8 = omega arith in
-      drop-take (8 * start) bits (bits_of order) from (omega (arith, length-bitsOf order))
-      ∙ ap₂ (λ (n : ℕ) (l : Bits). take n l) e (drop-bitsOf start order)
+      drop-take (8 * start) bits (bits_of order) from (omega (arith, length-bits_of order))
+      ∙ ap₂ (λ (n : ℕ) (l : Bits). take n l) e (drop-bits_of start order)
 
-  pub order-packed : (n : ℕ)
+  pub order_packed : (n : ℕ)
       → bytes_of (bits / 8 - start + n) (drop (8 * start) (take bits (bits_of order)))
       ≡ take (bits / 8 - start) (drop start order) ++ bytes_of n (take (bits % 8) (bits_of (drop (bits / 8 - start) (drop start order))))
-  order-packed n =
+  order_packed n =
       ap (bytes_of (bits / 8 - start + n)) order_row
-      ∙ packed-parts (drop start order) (drop-bytes start order bytes) (bits / 8 - start) (bits % 8) n
+      ∙ packed_parts (drop start order) (drop_bytes start order bytes) (bits / 8 - start) (bits % 8) n
       (omega (arith, length-drop start order))
 
   -- no bits, or some bits, behind the last whole byte
-  pub packed-whole : (n : ℕ) → bits % 8 ≡ 0
+  pub packed_whole : (n : ℕ) → bits % 8 ≡ 0
       → take (bits / 8 - start) (drop start order) ++ replicate n 0
       ≡ bytes_of (bits / 8 - start + n) (drop (8 * start) (take bits (bits_of order)))
-  packed-whole n z = sym (order-packed n ∙ rw z (ap (λ (l : List ℕ). take (bits / 8 - start) (drop start order) ++ l) (bytesOf-none n)))
+  packed_whole n z = sym (order_packed n ∙ rw z (ap (λ (l : List ℕ). take (bits / 8 - start) (drop start order) ++ l) (bytes_of_none n)))
 
-  pub packed-rest : (n : ℕ) → 0 < bits % 8
+  pub packed_rest : (n : ℕ) → 0 < bits % 8
       → take (bits / 8 - start) (drop start order)
       ++ (number (take 8 (take (bits % 8) (binary 8 (get_or order (start + (bits / 8 - start)) 0)) ++ zeros 8)) ∷ replicate n 0)
       ≡ bytes_of (bits / 8 - start + suc n) (drop (8 * start) (take bits (bits_of order)))
-  packed-rest n h =
+  packed_rest n h =
       let w : ℕ = bits / 8 - start in
       sym
-      (order-packed (suc n)
+      (order_packed (suc n)
       ∙ ap (λ (l : List ℕ). take w (drop start order) ++ l)
-      (packed-next (drop start order) (drop-bytes start order bytes) w (bits % 8) n (omega (arith, length-drop start order)) (omega arith)
+      (packed_next (drop start order) (drop_bytes start order bytes) w (bits % 8) n (omega (arith, length-drop start order)) (omega arith)
       ∙ ap (λ (x : ℕ). number (take 8 (take (bits % 8) (binary 8 x) ++ zeros 8)) ∷ replicate n 0) (get_or-drop start order w 0)))

@@ -10,21 +10,21 @@ use Prim.Native.Nat.{◌*◌}
 use lib.ListN.{length, length-take}
 use borrow.Author.Tests.{ltb-false}
 use Rattle.crc.specs.Bits.{bits_of}
-use Rattle.crc.proofs.Bytes.{length-bitsOf}
-use Rattle.line.specs.Pieces.{lent, joined, total, Outcome, nextCalls, Pieces}
-use Rattle.line.proofs.Pieces.Calls.{Full, outcome, rowAnswer, receive-row, full-rest, next-calls}
+use Rattle.crc.proofs.Bytes.{length-bits_of}
+use Rattle.line.specs.Pieces.{lent, joined, total, Outcome, next_calls, Pieces}
+use Rattle.line.proofs.Pieces.Calls.{Full, outcome, row_answer, receive_row, full_rest, next_calls_lem}
 
 pub pieces : Pieces
 unfolding Pieces
 pieces s ready store whole first further array held counts bits =
-    ap (outcome s store) (receive-row s ready store whole full ∙ ap (rowAnswer s ready store) bits)
-    ∙ next-calls s ready store array further (lent first) parts.1
-    ∙ ap (λ (y : Outcome). nextCalls y ready further) (ap (outcome s store) (sym (receive-row s ready store first parts.0)))
+    ap (outcome s store) (receive_row s ready store whole full ∙ ap (row_answer s ready store) bits)
+    ∙ next_calls_lem s ready store array further (lent first) parts.1
+    ∙ ap (λ (y : Outcome). next_calls y ready further) (ap (outcome s store) (sym (receive_row s ready store first parts.0)))
   where
     full : Full whole
     full =
         let n = ltb-false (8 * length whole.line) whole.count held in
-        omega (arith, length-take whole.count (bits_of whole.line), length-bitsOf whole.line)
+        omega (arith, length-take whole.count (bits_of whole.line), length-bits_of whole.line)
 
     parts : Full first × (length (joined further) ≡ total further)
-    parts = full-rest first further (ap length (sym bits) ∙ full ∙ counts)
+    parts = full_rest first further (ap length (sym bits) ∙ full ∙ counts)

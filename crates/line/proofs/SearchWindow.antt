@@ -13,24 +13,24 @@ use lib.Pow.{pow_pos, pow-add, pow_mono, shl_exact, shl_lt, shr_lt, split}
 use lib.Seq.{get_or-drop, drop-cons}
 use mir.Val.{bool_byte}
 use Rattle.crc.specs.Bits.{Bits, bit, odd, binary, number, bits_of, bytes_of}
-use Rattle.crc.proofs.Rows.{bit-lt, length-binary, number-binary, number_append, binary-mod, binary-join, take-binary, drop-binary, binary-zero}
-use Rattle.crc.proofs.Bytes.{drop-bitsOf, bytesOf-bitsOf, bytesOf-zeros}
-use Rattle.block.specs.Block.{syncSequence}
-use Rattle.line.specs.Receiving.{latest, isSequence}
+use Rattle.crc.proofs.Rows.{bit-lt, length-binary, number-binary, number_append, binary-mod, binary_join, take-binary, drop-binary, binary-zero}
+use Rattle.crc.proofs.Bytes.{drop-bits_of, bytes_of-bits_of, bytes_of-zeros}
+use Rattle.block.specs.Block.{sync_sequence}
+use Rattle.line.specs.Receiving.{latest, is_sequence}
 
 -- ---- a bit of a slice
 
-getD-binary : (w n i : ℕ) → i < w → get_or (binary w n) i false ≡ odd (n / 2 ^ (w - 1 - i))
+get_d_binary : (w n i : ℕ) → i < w → get_or (binary w n) i false ≡ odd (n / 2 ^ (w - 1 - i))
 unfolding binary
-getD-binary zero n i h = absurd (omega arith)
-getD-binary (suc w) n zero h = let e : w ≡ suc w - 1 - 0 = omega arith in ap (λ (k : ℕ). odd (n / 2 ^ k)) e
-getD-binary (suc w) n (suc i) h =
+get_d_binary zero n i h = absurd (omega arith)
+get_d_binary (suc w) n zero h = let e : w ≡ suc w - 1 - 0 = omega arith in ap (λ (k : ℕ). odd (n / 2 ^ k)) e
+get_d_binary (suc w) n (suc i) h =
     let e : w - 1 - i ≡ suc w - 1 - suc i = omega arith in
-    getD-binary w n i (omega arith) ∙ ap (λ (k : ℕ). odd (n / 2 ^ k)) e
+    get_d_binary w n i (omega arith) ∙ ap (λ (k : ℕ). odd (n / 2 ^ k)) e
 
-pub getD-bitsOf : (s : List ℕ) (i : ℕ) → i < 8 * length s → get_or (bits_of s) i false ≡ odd (get_or s (i / 8) 0 / 2 ^ (7 - i % 8))
+pub get_d_bits_of : (s : List ℕ) (i : ℕ) → i < 8 * length s → get_or (bits_of s) i false ≡ odd (get_or s (i / 8) 0 / 2 ^ (7 - i % 8))
 unfolding bits_of
-getD-bitsOf s i h =
+get_d_bits_of s i h =
     let q : ℕ = i / 8 in
     let r : ℕ = i % 8 in
     let x : ℕ = get_or s q 0 in
@@ -39,18 +39,18 @@ getD-bitsOf s i h =
     let n : r < length (binary 8 x) = omega (arith, length-binary 8 x) in
     let f : 8 - 1 - r ≡ 7 - r = omega arith in
     ap (λ (k : ℕ). get_or (bits_of s) k false) e ∙ sym (get_or-drop (8 * q) (bits_of s) r false)
-    ∙ ap (λ (b : Bits). get_or b r false) (drop-bitsOf q s ∙ ap bits_of (drop-cons s q 0 l))
-    ∙ get_or-append (binary 8 x) (bits_of (drop (suc q) s)) false r n ∙ getD-binary 8 x r (omega arith)
+    ∙ ap (λ (b : Bits). get_or b r false) (drop-bits_of q s ∙ ap bits_of (drop-cons s q 0 l))
+    ∙ get_or-append (binary 8 x) (bits_of (drop (suc q) s)) false r n ∙ get_d_binary 8 x r (omega arith)
     ∙ ap (λ (k : ℕ). odd (x / 2 ^ k)) f
 
-pub masked-odd : (n : ℕ) → eqb (bit_and n 1) 1 ≡ odd n
-masked-odd n = ap (λ (k : ℕ). eqb k 1) (and_mask n 1)
+pub masked_odd : (n : ℕ) → eqb (bit_and n 1) 1 ≡ odd n
+masked_odd n = ap (λ (k : ℕ). eqb k 1) (and_mask n 1)
 
 -- ---- one bit more
 
-pub bool-bit : (b : Bool) → bool_byte b ≡ bit b
-bool-bit false = refl
-bool-bit true = refl
+pub bool_bit : (b : Bool) → bool_byte b ≡ bit b
+bool_bit false = refl
+bool_bit true = refl
 
 one_bit : (b : Bool) → binary 1 (bit b) ≡ b ∷ []
 unfolding binary
@@ -63,8 +63,8 @@ number_bit false = refl
 number_bit true = refl
 
 module _ (held n : ℕ) (h : held ≤ 15) (l : n < 2 ^ held) (b : Bool) where
-  pub shifted-lt : n * 2 + bit b < 2 ^ (held + 1)
-  shifted-lt = subst (λ (k : ℕ). n * 2 + bit b < k) (sym (pow-add 2 held 1)) (omega (arith, bit-lt b))
+  pub shifted_lt : n * 2 + bit b < 2 ^ (held + 1)
+  shifted_lt = subst (λ (k : ℕ). n * 2 + bit b < k) (sym (pow-add 2 held 1)) (omega (arith, bit-lt b))
 
   small : n < 2 ^ 15
   small = less n (2 ^ held) (2 ^ 15) l (pow_mono h)
@@ -75,21 +75,21 @@ module _ (held n : ℕ) (h : held ≤ 15) (l : n < 2 ^ held) (b : Bool) where
   pub shifted : bit_or ((n * 2) % 65536) (bool_byte b) ≡ n * 2 + bit b
   shifted =
       let e : (n * 2) % 65536 ≡ n * 2 = shl_exact 15 1 16 small (omega arith) in
-      ap₂ (λ (x y : ℕ). bit_or x y) e (bool-bit b) ∙ or_shifted n 1 (bit b) (bit-lt b)
+      ap₂ (λ (x y : ℕ). bit_or x y) e (bool_bit b) ∙ or_shifted n 1 (bit b) (bit-lt b)
 
   pub window_more : binary held n ++ (b ∷ []) ≡ binary (held + 1) (n * 2 + bit b)
-  window_more = sym (binary-join held 1 n (bit b) (bit-lt b) ∙ ap (λ (r : Bits). binary held n ++ r) (one_bit b))
+  window_more = sym (binary_join held 1 n (bit b) (bit-lt b) ∙ ap (λ (r : Bits). binary held n ++ r) (one_bit b))
 
   length_more : length (binary held n ++ (b ∷ [])) ≡ held + 1
   length_more = ap length window_more ∙ length-binary (held + 1) (n * 2 + bit b)
 
-  pub no-sequence : held < 15 → false ≡ isSequence (binary held n ++ (b ∷ []))
-  no-sequence k =
+  pub no_sequence : held < 15 → false ≡ is_sequence (binary held n ++ (b ∷ []))
+  no_sequence k =
       let e : length (binary held n ++ (b ∷ [])) ≡ 16 → ⊥ = λ q. absurd (omega (arith, length_more)) in
       sym (rw (ne_eqb (length (binary held n ++ (b ∷ []))) 16 e))
 
-  pub latest-more : held < 15 → binary (held + 1) (n * 2 + bit b) ≡ latest (binary held n ++ (b ∷ []))
-  latest-more k =
+  pub latest_more : held < 15 → binary (held + 1) (n * 2 + bit b) ≡ latest (binary held n ++ (b ∷ []))
+  latest_more k =
       let e : 0 ≡ length (binary held n ++ (b ∷ [])) - 15 = omega (arith, length_more) in
       sym window_more ∙ ap (λ (m : ℕ). drop m (binary held n ++ (b ∷ []))) e
 
@@ -98,15 +98,15 @@ module _ (held n : ℕ) (full : held ≡ 15) (l : n < 2 ^ held) (b : Bool) where
   within : held ≤ 15
   within = omega arith
 
-  pub sequence : eqb (n * 2 + bit b) (number syncSequence) ≡ isSequence (binary held n ++ (b ∷ []))
+  pub sequence : eqb (n * 2 + bit b) (number sync_sequence) ≡ is_sequence (binary held n ++ (b ∷ []))
   sequence =
       let e : length (binary held n ++ (b ∷ [])) ≡ 16 = omega (arith, length_more held n within l b) in
       sym
-      (ap₂ (λ (x y : ℕ). eqb x 16 && eqb y (number syncSequence)) e
+      (ap₂ (λ (x y : ℕ). eqb x 16 && eqb y (number sync_sequence)) e
       (number_append (binary held n) (b ∷ []) ∙ ap₂ (λ (x y : ℕ). x * 2 + y) (number-binary held n l) (number_bit b)))
 
-  pub latest-full : binary 15 (bit_and (n * 2 + bit b) 32767) ≡ latest (binary held n ++ (b ∷ []))
-  latest-full =
+  pub latest_full : binary 15 (bit_and (n * 2 + bit b) 32767) ≡ latest (binary held n ++ (b ∷ []))
+  latest_full =
       let x : ℕ = n * 2 + bit b in
       let e : 1 ≡ length (binary held n ++ (b ∷ [])) - 15 = omega (arith, length_more held n within l b) in
       let w : 1 + 15 ≡ held + 1 = omega arith in
@@ -116,7 +116,7 @@ module _ (held n : ℕ) (full : held ≡ 15) (l : n < 2 ^ held) (b : Bool) where
 -- ---- two bytes
 
 two_bytes : (a b : ℕ) → b < 256 → binary 16 (a * 256 + b) ≡ binary 8 a ++ binary 8 b
-two_bytes a b h = binary-join 8 8 a b h
+two_bytes a b h = binary_join 8 8 a b h
 
 module _ (held : ℕ) (h : held ≤ 15) where
   both : held + (16 - held) ≡ 16
@@ -126,13 +126,13 @@ module _ (held : ℕ) (h : held ≤ 15) where
     loaded : bit_or ((a * 256) % 4294967296) b ≡ a * 256 + b
     loaded = ap (λ (x : ℕ). bit_or x b) (shl_exact 8 8 32 ha (omega arith)) ∙ or_shifted a 8 b hb
 
-    pub loaded-lt : bit_or ((a * 256) % 4294967296) b / 2 ^ (16 - held) < 2 ^ held
-    loaded-lt =
+    pub loaded_lt : bit_or ((a * 256) % 4294967296) b / 2 ^ (16 - held) < 2 ^ held
+    loaded_lt =
         subst (λ (x : ℕ). x / 2 ^ (16 - held) < 2 ^ held) (sym loaded)
         (shr_lt held (16 - held) (subst (λ (w : ℕ). a * 256 + b < 2 ^ w) (sym both) (omega arith)))
 
-    pub loaded-bits : binary held (bit_or ((a * 256) % 4294967296) b / 2 ^ (16 - held)) ≡ take held (binary 8 a ++ binary 8 b)
-    loaded-bits =
+    pub loaded_bits : binary held (bit_or ((a * 256) % 4294967296) b / 2 ^ (16 - held)) ≡ take held (binary 8 a ++ binary 8 b)
+    loaded_bits =
         ap (λ (x : ℕ). binary held (x / 2 ^ (16 - held))) loaded
         ∙ sym (take-binary held (16 - held) (a * 256 + b))
         ∙ ap (λ (w : ℕ). take held (binary w (a * 256 + b))) both ∙ ap (take held) (two_bytes a b hb)
@@ -141,27 +141,27 @@ module _ (held : ℕ) (h : held ≤ 15) where
     stored : (n * 2 ^ (16 - held)) % 4294967296 ≡ n * 2 ^ (16 - held)
     stored = shl_exact held (16 - held) 32 l (omega arith)
 
-    stored-lt : n * 2 ^ (16 - held) < 65536
-    stored-lt = subst (λ (w : ℕ). n * 2 ^ (16 - held) < 2 ^ w) both (shl_lt held (16 - held) l)
+    stored_lt : n * 2 ^ (16 - held) < 65536
+    stored_lt = subst (λ (w : ℕ). n * 2 ^ (16 - held) < 2 ^ w) both (shl_lt held (16 - held) l)
 
     pub high_lt : (n * 2 ^ (16 - held)) % 4294967296 / 256 < 256
-    high_lt = subst (λ (x : ℕ). x / 256 < 256) (sym stored) (omega (arith, stored-lt))
+    high_lt = subst (λ (x : ℕ). x / 256 < 256) (sym stored) (omega (arith, stored_lt))
 
-    pub low-lt : bit_and ((n * 2 ^ (16 - held)) % 4294967296) 255 < 256
-    low-lt = subst (λ (x : ℕ). x < 256) (sym (and_mask ((n * 2 ^ (16 - held)) % 4294967296) 8)) (mod-lt ((n * 2 ^ (16 - held)) % 4294967296) (pow_pos 8))
+    pub low_lt : bit_and ((n * 2 ^ (16 - held)) % 4294967296) 255 < 256
+    low_lt = subst (λ (x : ℕ). x < 256) (sym (and_mask ((n * 2 ^ (16 - held)) % 4294967296) 8)) (mod-lt ((n * 2 ^ (16 - held)) % 4294967296) (pow_pos 8))
 
     pub stored_bytes : (n * 2 ^ (16 - held)) % 4294967296 / 256 ∷ bit_and ((n * 2 ^ (16 - held)) % 4294967296) 255 ∷ [] ≡ bytes_of 2 (binary held n)
     unfolding bits_of
     stored_bytes =
         let x : ℕ = n * 2 ^ (16 - held) in
         ap₂ (λ (a b : ℕ). a ∷ b ∷ []) (ap (λ (y : ℕ). y / 256) stored) (and_mask ((n * 2 ^ (16 - held)) % 4294967296) 8 ∙ ap (λ (y : ℕ). y % 256) stored)
-        ∙ sym (bytesOf-bitsOf (x / 256 ∷ x % 256 ∷ []) (fits x stored-lt))
+        ∙ sym (bytes_of-bits_of (x / 256 ∷ x % 256 ∷ []) (fits x stored_lt))
         ∙ ap (bytes_of 2)
         (ap (λ (r : Bits). binary 8 (x / 256) ++ r) (append-nil (binary 8 (x % 256)))
         ∙ sym (two_bytes (x / 256) (x % 256) (mod-lt x (pow_pos 8))) ∙ ap (binary 16) (split x 8)
-        ∙ ap₂ (λ (w y : ℕ). binary w y) (sym both) (sym (add-zero x)) ∙ binary-join held (16 - held) n 0 (pow_pos (16 - held))
+        ∙ ap₂ (λ (w y : ℕ). binary w y) (sym both) (sym (add-zero x)) ∙ binary_join held (16 - held) n 0 (pow_pos (16 - held))
         ∙ ap (λ (r : Bits). binary held n ++ r) (binary-zero (16 - held)))
-        ∙ bytesOf-zeros 2 (binary held n) (16 - held)
+        ∙ bytes_of-zeros 2 (binary held n) (16 - held)
       where
         fits : (x : ℕ) → x < 65536 → (i : ℕ) → get_or (x / 256 ∷ x % 256 ∷ []) i 0 < 256
         fits x h zero = omega arith

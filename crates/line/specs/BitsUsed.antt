@@ -7,17 +7,17 @@ use Rattle.line.specs.declared.receiver.Receiver.{Receiver}
 use Rattle.line.specs.declared.receiving.Phase.{Phase}
 use Rattle.line.specs.declared.receiving.Phase.TheVariants as P
 
-abbrev pub alarmStands : Phase → Bool
-alarmStands P.Search = false
-alarmStands P.InStep = false
-alarmStands P.SequenceAlarm = true
-alarmStands P.LengthAlarm = true
+abbrev pub alarm_stands : Phase → Bool
+alarm_stands P.Search = false
+alarm_stands P.InStep = false
+alarm_stands P.SequenceAlarm = true
+alarm_stands P.LengthAlarm = true
 
 -- the phase before the call, the number of bits lent, and the number of those used
 pub record Uses (phase : Phase) (count used : ℕ) : Type 0 where
   pub at_least_one : 1 ≤ count → 1 ≤ used
-  pub at-most-lent : used ≤ count
-  pub under-alarm : alarmStands phase ≡ true → used ≡ count
+  pub at_most_lent : used ≤ count
+  pub under_alarm_lem : alarm_stands phase ≡ true → used ≡ count
   pub of_none : count ≡ 0 → used ≡ 0
 
 -- Calls that are not refused, each on the state that the one before handed back and lent as many bits as that one left, whatever

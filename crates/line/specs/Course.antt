@@ -3,9 +3,9 @@
 use Rattle.std.specs.Prelude.{◌≡◌, Bool, List, [], ◌∷◌, ℕ, take, drop}
 use Rattle.crc.specs.Bits.{Bits, bits_of}
 use Rattle.block.specs.Answer.{Answer, refused, done}
-use Rattle.line.specs.Order.{orderBits}
-use Rattle.line.specs.Sending.{Block, synchronising, send, sendState, sendBytes, plainBits, sentBits, sentAnswer, Send}
-use Rattle.line.specs.Receiving.{Rule, Reception, Report, receive, receiveState, receiveStore, reported, receivedAnswer, Receive}
+use Rattle.line.specs.Order.{order_bits}
+use Rattle.line.specs.Sending.{Block, synchronising, send, send_state, send_bytes, plain_bits, sent_bits, sent_answer, Send}
+use Rattle.line.specs.Receiving.{Rule, Reception, Report, receive, receive_state, receive_store, reported, received_answer, Receive}
 use Rattle.line.specs.declared.sender.Sender.{Sender}
 use Rattle.line.specs.declared.sender.Step as SenderStep
 use Rattle.line.specs.declared.receiver.Receiver.{Receiver}
@@ -54,56 +54,56 @@ pub record Heard : Type 0 where
   pub kept : List ℕ  -- the store as the last call left it
 
 pub data Entry : Type 0 where
-  send-refused : ℕ → Entry
-  receive-refused : ℕ → Entry
+  send_refused : ℕ → Entry
+  receive_refused : ℕ → Entry
   sent : Sent → Entry
   heard : Heard → Entry
 
 -- `f` of a sending call that is not refused; of every other entry, `other`
-abbrev pub onSent {ℓ} : {A : Type ℓ} → A → (Sent → A) → Entry → A
-onSent other f (send-refused n) = other
-onSent other f (receive-refused n) = other
-onSent other f (sent x) = f x
-onSent other f (heard y) = other
+abbrev pub on_sent {ℓ} : {A : Type ℓ} → A → (Sent → A) → Entry → A
+on_sent other f (send_refused n) = other
+on_sent other f (receive_refused n) = other
+on_sent other f (sent x) = f x
+on_sent other f (heard y) = other
 
 -- `f` of a receiving call that is not refused; of every other entry, `other`
-abbrev pub onHeard {ℓ} : {A : Type ℓ} → A → (Heard → A) → Entry → A
-onHeard other f (send-refused n) = other
-onHeard other f (receive-refused n) = other
-onHeard other f (sent x) = other
-onHeard other f (heard y) = f y
+abbrev pub on_heard {ℓ} : {A : Type ℓ} → A → (Heard → A) → Entry → A
+on_heard other f (send_refused n) = other
+on_heard other f (receive_refused n) = other
+on_heard other f (sent x) = other
+on_heard other f (heard y) = f y
 
-abbrev pub sendEntry : World → List ℕ → Bool → Bits → Answer Block → Entry
-sendEntry w order reading arrives (refused n) = send-refused n
-sendEntry w order reading arrives (done b) =
+abbrev pub send_entry : World → List ℕ → Bool → Bits → Answer Block → Entry
+send_entry w order reading arrives (refused n) = send_refused n
+send_entry w order reading arrives (done b) =
     let setup = w.sender.setup in
-    let content : Bits = orderBits setup.length order in
+    let content : Bits = order_bits setup.length order in
     sent
     (record {
       block = b;
       reading = reading;
       back = w.receiver.back;
-      plain = plainBits setup.marks setup.k setup.length content b;
-      bits = sentBits setup.marks setup.k setup.length content b;
+      plain = plain_bits setup.marks setup.k setup.length content b;
+      bits = sent_bits setup.marks setup.k setup.length content b;
       arrives = arrives;
       unused = w.left;
       order = content;
     })
 
-abbrev pub sendAfter : World → Bool → Bits → Answer Block → World
-sendAfter w reading arrives (refused n) = w
-sendAfter w reading arrives (done b) =
+abbrev pub send_after : World → Bool → Bits → Answer Block → World
+send_after w reading arrives (refused n) = w
+send_after w reading arrives (done b) =
     record {
-      sender = sendState w.sender reading (done b);
+      sender = send_state w.sender reading (done b);
       receiver = w.receiver;
       store = w.store;
       block = b;
       left = arrives;
     }
 
-abbrev pub receiveEntry : World → Bits → List ℕ → Answer Reception → Entry
-receiveEntry w lent store (refused n) = receive-refused n
-receiveEntry w lent store (done x) =
+abbrev pub receive_entry : World → Bits → List ℕ → Answer Reception → Entry
+receive_entry w lent store (refused n) = receive_refused n
+receive_entry w lent store (done x) =
     heard
     (record {
       rule = x.rule;
@@ -115,25 +115,25 @@ receiveEntry w lent store (done x) =
       kept = w.store;
     })
 
-abbrev pub receiveAfter : World → List ℕ → Answer Reception → World
-receiveAfter w store (refused n) = w
-receiveAfter w store (done x) =
+abbrev pub receive_after : World → List ℕ → Answer Reception → World
+receive_after w store (refused n) = w
+receive_after w store (done x) =
     record {
       sender = w.sender;
       receiver = x.state;
-      store = receiveStore w.receiver store (done x);
+      store = receive_store w.receiver store (done x);
       block = w.block;
       left = drop x.used w.left;
     }
 
 abbrev pub entry : World → Call → Entry
-entry w (sending order reading slice arrives) = sendEntry w order reading arrives (send w.sender order reading slice)
+entry w (sending order reading slice arrives) = send_entry w order reading arrives (send w.sender order reading slice)
 entry w (receiving line count ready store) =
-    receiveEntry w (take count (bits_of line)) store (receive w.receiver line count ready store)
+    receive_entry w (take count (bits_of line)) store (receive w.receiver line count ready store)
 
 abbrev pub next : World → Call → World
-next w (sending order reading slice arrives) = sendAfter w reading arrives (send w.sender order reading slice)
-next w (receiving line count ready store) = receiveAfter w store (receive w.receiver line count ready store)
+next w (sending order reading slice arrives) = send_after w reading arrives (send w.sender order reading slice)
+next w (receiving line count ready store) = receive_after w store (receive w.receiver line count ready store)
 
 abbrev pub course : World → List Call → List Entry
 course w [] = []
@@ -152,10 +152,10 @@ pub data Result : Type 0 where
 abbrev pub result : World → Call → Result
 result w (sending order reading slice arrives) =
     let answer : Answer Block = send w.sender order reading slice in
-    Result.sender answer (sendState w.sender reading answer) (sendBytes w.sender order slice answer)
+    Result.sender answer (send_state w.sender reading answer) (send_bytes w.sender order slice answer)
 result w (receiving line count ready store) =
     let answer : Answer Reception = receive w.receiver line count ready store in
-    Result.receiver (reported answer) (receiveState w.receiver answer) (receiveStore w.receiver store answer)
+    Result.receiver (reported answer) (receive_state w.receiver answer) (receive_store w.receiver store answer)
 
 abbrev pub results : World → List Call → List Result
 results w [] = []
@@ -174,6 +174,6 @@ pub data Run : Sender → Receiver → List Call → Type 0 where
 abbrev pub observed : {s : Sender} {r : Receiver} {calls : List Call} → Run s r calls → List Result
 observed none = []
 observed (sends step slice' kept run) =
-    Result.sender (sentAnswer step.answer) step.state slice' ∷ observed run
+    Result.sender (sent_answer step.answer) step.state slice' ∷ observed run
 observed (receives step store' kept run) =
-    Result.receiver (receivedAnswer step.answer) step.state store' ∷ observed run
+    Result.receiver (received_answer step.answer) step.state store' ∷ observed run

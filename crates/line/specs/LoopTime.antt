@@ -3,8 +3,8 @@
 use Rattle.std.specs.Prelude.{◌≡◌, ◌↔◌, Bool, true, not, ◌||◌, List, [], ◌∷◌, ℕ, ◌+◌, ◌-◌, ◌*◌, ◌/◌, ◌<◌, leb, ltb}
 use Rattle.block.specs.Answer as A
 use Rattle.line.specs.Refusals as Refusals
-use Rattle.block.specs.Answer.{Answer, refused, done, refuseIf}
-use Rattle.block.specs.Lengths.{isLength, blockLength, among}
+use Rattle.block.specs.Answer.{Answer, refused, done, refuse_if}
+use Rattle.block.specs.Lengths.{is_length, block_length, among}
 use Rattle.line.specs.declared.loop_time.LoopTime.{LoopTime}
 use Rattle.line.specs.declared.loop_time.LoopTime.TheVariants as W
 
@@ -12,39 +12,39 @@ use Rattle.line.specs.declared.loop_time.LoopTime.TheVariants as W
 abbrev pub speeds : List ℕ
 speeds = 200 ∷ 600 ∷ 1200 ∷ 2400 ∷ 3600 ∷ 4800 ∷ []
 
-unfoldable pub isSpeed : ℕ → Bool
-isSpeed speed = among speed speeds
+unfoldable pub is_speed : ℕ → Bool
+is_speed speed = among speed speeds
 
 -- how long a block lasts, in whole milliseconds: n times 1000 divided by the speed, rounded down
-unfoldable pub blockTime : ℕ → ℕ → ℕ
-blockTime k speed = blockLength k * 1000 / speed
+unfoldable pub block_time : ℕ → ℕ → ℕ
+block_time k speed = block_length k * 1000 / speed
 
 -- the table has an entry unless the block is over before 90 ms
-unfoldable pub hasEntry : ℕ → ℕ → Bool
-hasEntry k speed = leb 90 (blockTime k speed)
+unfoldable pub has_entry : ℕ → ℕ → Bool
+has_entry k speed = leb 90 (block_time k speed)
 
 -- the longest loop: the block's time less 90
-unfoldable pub longestLoop : ℕ → ℕ → ℕ
-longestLoop k speed = blockTime k speed - 90
+unfoldable pub longest_loop : ℕ → ℕ → ℕ
+longest_loop k speed = block_time k speed - 90
 
 -- the loop-time test: 1, 2, 3
-unfoldable pub loopTime : ℕ → ℕ → ℕ → Answer (Unit {0})
-loopTime k speed loop-ms =
-    refuseIf (not (isLength k)) A.block
-    (refuseIf (not (isSpeed speed)) Refusals.speed
-    (refuseIf (not (hasEntry k speed) || ltb (longestLoop k speed) loop-ms) Refusals.loop-time (done tt)))
+unfoldable pub loop_time : ℕ → ℕ → ℕ → Answer (Unit {0})
+loop_time k speed loop_ms =
+    refuse_if (not (is_length k)) A.block
+    (refuse_if (not (is_speed speed)) Refusals.speed
+    (refuse_if (not (has_entry k speed) || ltb (longest_loop k speed) loop_ms) Refusals.loop_time_lem (done tt)))
 
-abbrev pub loopAnswer : LoopTime → Answer (Unit {0})
-loopAnswer W.Allowed = done tt
-loopAnswer (W.Refused n) = refused n
+abbrev pub loop_answer : LoopTime → Answer (Unit {0})
+loop_answer W.Allowed = done tt
+loop_answer (W.Refused n) = refused n
 
-pub record LoopTest (k speed loop-ms : ℕ) (answer : LoopTime) : Type 0 where
-  pub answers : loopAnswer answer ≡ loopTime k speed loop-ms
+pub record LoopTest (k speed loop_ms : ℕ) (answer : LoopTime) : Type 0 where
+  pub answers : loop_answer answer ≡ loop_time k speed loop_ms
 
 -- The test without rounding: 3 exactly if k and the speed are in the tables and the loop and 90 ms together last longer than
 -- the block. Where there is no entry 90 ms alone do, so that loop 0 is refused too.
 unfoldable pub Unrounded : Type 0
 Unrounded =
-    (k speed loop-ms : ℕ)
-    → (loopTime k speed loop-ms ≡ refused Refusals.loop-time)
-    ↔ ((isLength k ≡ true) × (isSpeed speed ≡ true) × (blockLength k * 1000 < (loop-ms + 90) * speed))
+    (k speed loop_ms : ℕ)
+    → (loop_time k speed loop_ms ≡ refused Refusals.loop_time_lem)
+    ↔ ((is_length k ≡ true) × (is_speed speed ≡ true) × (block_length k * 1000 < (loop_ms + 90) * speed))

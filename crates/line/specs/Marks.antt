@@ -6,16 +6,16 @@ use Rattle.line.specs.declared.marks.CodeSize.TheVariants as C
 use Rattle.line.specs.declared.marks.Marks.{Marks}
 
 -- a session uses marks if a code size is given; without one the size is 0
-abbrev pub marksOf : CodeSize → Marks
-marksOf C.NotGiven = record { in_use = false; size = 0 }
-marksOf (C.Given size) = record { in_use = true; size = size }
+abbrev pub marks_of : CodeSize → Marks
+marks_of C.NotGiven = record { in_use = false; size = 0 }
+marks_of (C.Given size) = record { in_use = true; size = size }
 
-unfoldable pub isCodeSize : ℕ → Bool
-isCodeSize size = leb 5 size && leb size 8
+unfoldable pub is_code_size : ℕ → Bool
+is_code_size size = leb 5 size && leb size 8
 
 -- with marks the size is one of these; without, nobody judges it
-unfoldable pub marksInRange : Marks → Bool
-marksInRange m = not m.in_use || isCodeSize m.size
+unfoldable pub marks_in_range : Marks → Bool
+marks_in_range m = not m.in_use || is_code_size m.size
 
 -- ---- service bits
 
@@ -35,5 +35,5 @@ mark8 = 0b0010
 unfoldable pub mark : ℕ → ℕ
 mark size = cond (eqb size 5) mark5 (cond (eqb size 6) mark6 (cond (eqb size 7) mark7 mark8))
 
-unfoldable pub isMark : ℕ → Bool
-isMark service = eqb service mark5 || eqb service mark6 || eqb service mark7 || eqb service mark8
+unfoldable pub is_mark : ℕ → Bool
+is_mark service = eqb service mark5 || eqb service mark6 || eqb service mark7 || eqb service mark8

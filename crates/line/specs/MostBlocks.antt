@@ -1,6 +1,6 @@
 -- How many blocks a sender sends at most, whatever it reads. Assumes nothing.
 use Rattle.std.specs.Prelude.{ℕ, ◌+◌, ◌*◌, ◌≤◌, List}
-use Rattle.line.specs.Order.{itemCount}
+use Rattle.line.specs.Order.{item_count}
 use Rattle.line.specs.Sending.{OpenSender}
 use Rattle.line.specs.SendCalls.{SendCalls, none, call}
 use Rattle.line.specs.declared.marks.CodeSize.{CodeSize}
@@ -10,26 +10,26 @@ use Rattle.line.specs.declared.sender.Sent.{Sent}
 use Rattle.line.specs.declared.sender.Sent.TheVariants as W
 
 -- a call sends one block, or none where it is refused
-abbrev pub blocksOf : Sent → ℕ
-blocksOf W.Synchronising = 1
-blocksOf (W.Item number end used cancelled) = 1
-blocksOf (W.Refused n) = 0
+abbrev pub blocks_of : Sent → ℕ
+blocks_of W.Synchronising = 1
+blocks_of (W.Item number end used cancelled) = 1
+blocks_of (W.Refused n) = 0
 
-unfoldable pub sentBlocks : {s t : Sender} → SendCalls s t → ℕ
-sentBlocks none = 0
-sentBlocks (call order reading slice result slice' p rest) = blocksOf result.answer + sentBlocks rest
+unfoldable pub sent_blocks : {s t : Sender} → SendCalls s t → ℕ
+sent_blocks none = 0
+sent_blocks (call order reading slice result slice' p rest) = blocks_of result.answer + sent_blocks rest
 
 -- The first pair, sent up to 64 times while opening lasts: 64 synchronising blocks, 64 older and 64 newer items.
-abbrev pub firstPair : ℕ
-firstPair = 192
+abbrev pub first_pair : ℕ
+first_pair = 192
 
 -- A later pair, its older item confirmed before: 64 newer items, 63 older ones, and 60 synchronising blocks from the fourth
 -- cancel on.
-abbrev pub laterPair : ℕ
-laterPair = 187
+abbrev pub later_pair : ℕ
+later_pair = 187
 
 -- of an order of N items there are N later pairs, the last one of the two end blocks
 unfoldable pub MostBlocks : Type 0
 MostBlocks =
-    (k speed loop-ms L : ℕ) (size : CodeSize) (order : List ℕ) (s t : Sender) → OpenSender k speed loop-ms L size order (O.Opened s)
-    → (calls : SendCalls s t) → sentBlocks calls ≤ firstPair + laterPair * itemCount k L
+    (k speed loop_ms L : ℕ) (size : CodeSize) (order : List ℕ) (s t : Sender) → OpenSender k speed loop_ms L size order (O.Opened s)
+    → (calls : SendCalls s t) → sent_blocks calls ≤ first_pair + later_pair * item_count k L

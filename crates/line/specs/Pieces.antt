@@ -3,8 +3,8 @@
 use Rattle.std.specs.Prelude.{◌≡◌, Bool, false, cond, List, [], ◌∷◌, ◌++◌, ℕ, ◌+◌, length, take}
 use Rattle.crc.specs.Bits.{Bits, bits_of}
 use Rattle.block.specs.Answer.{Answer, refused, done}
-use Rattle.block.specs.Calls.{tooShort}
-use Rattle.line.specs.Receiving.{arrayBytes, meaning, Reception, receive, receiveStore}
+use Rattle.block.specs.Calls.{too_short}
+use Rattle.line.specs.Receiving.{array_bytes, meaning, Reception, receive, receive_store}
 use Rattle.line.specs.declared.receiver.Receiver.{Receiver}
 
 -- what a call is lent of the line: a slice, and the number of its bits
@@ -31,32 +31,32 @@ pub record Outcome : Type 0 where
 abbrev pub call : Receiver → Bool → List ℕ → Piece → Outcome
 call s ready store p =
     let answer = receive s p.line p.count ready store in
-    record { answer = answer; store = receiveStore s store answer }
+    record { answer = answer; store = receive_store s store answer }
 
 -- the bits used counted with those of the calls before
-abbrev pub addUsed : ℕ → Reception → Reception
-addUsed before x = record { rule = x.rule; row = x.row; used = before + x.used; state = x.state }
+abbrev pub add_used : ℕ → Reception → Reception
+add_used before x = record { rule = x.rule; row = x.row; used = before + x.used; state = x.state }
 
-abbrev pub addUsedIfDone : ℕ → Answer Reception → Answer Reception
-addUsedIfDone before (refused n) = refused n
-addUsedIfDone before (done x) = done (addUsed before x)
+abbrev pub add_used_if_done : ℕ → Answer Reception → Answer Reception
+add_used_if_done before (refused n) = refused n
+add_used_if_done before (done x) = done (add_used before x)
 
 -- the next call is made if all bits were used, and is given the state and the store as they were left
-abbrev pub nextCall : Answer Reception → Bool → List ℕ → Piece → Outcome
-nextCall (refused n) ready store p = record { answer = refused n; store = store }
-nextCall (done x) ready store p =
+abbrev pub next_call : Answer Reception → Bool → List ℕ → Piece → Outcome
+next_call (refused n) ready store p = record { answer = refused n; store = store }
+next_call (done x) ready store p =
     let next = call x.state ready store p in
-    cond (meaning x.rule).uses-all (record { answer = addUsedIfDone x.used next.answer; store = next.store })
+    cond (meaning x.rule).uses_all (record { answer = add_used_if_done x.used next.answer; store = next.store })
     (record { answer = done x; store = store })
 
-abbrev pub nextCalls : Outcome → Bool → List Piece → Outcome
-nextCalls y ready [] = y
-nextCalls y ready (p ∷ ps) = nextCalls (nextCall y.answer ready y.store p) ready ps
+abbrev pub next_calls : Outcome → Bool → List Piece → Outcome
+next_calls y ready [] = y
+next_calls y ready (p ∷ ps) = next_calls (next_call y.answer ready y.store p) ready ps
 
 -- However a call's bits are divided among calls that share its readiness, none missing; a receiver's array has its length by
 -- its type.
 unfoldable pub Pieces : Type 0
 Pieces =
-    (s : Receiver) (ready : Bool) (store : List ℕ) (whole first : Piece) (further : List Piece) → length s.bits ≡ arrayBytes
-    → tooShort whole.line whole.count ≡ false → whole.count ≡ total (first ∷ further)
-    → lent whole ≡ joined (first ∷ further) → call s ready store whole ≡ nextCalls (call s ready store first) ready further
+    (s : Receiver) (ready : Bool) (store : List ℕ) (whole first : Piece) (further : List Piece) → length s.bits ≡ array_bytes
+    → too_short whole.line whole.count ≡ false → whole.count ≡ total (first ∷ further)
+    → lent whole ≡ joined (first ∷ further) → call s ready store whole ≡ next_calls (call s ready store first) ready further

@@ -5,8 +5,8 @@ use Rattle.std.specs.Prelude.{ℕ}
 abbrev pub speed : ℕ
 speed = 2
 
-abbrev pub loop-time : ℕ
-loop-time = 3
+abbrev pub loop_time_lem : ℕ
+loop_time_lem = 3
 
 abbrev pub empty : ℕ
 empty = 4
@@ -17,5 +17,5 @@ long = 5
 abbrev pub rest : ℕ
 rest = 8
 
-abbrev pub code-size : ℕ
-code-size = 9
+abbrev pub code_size : ℕ
+code_size = 9

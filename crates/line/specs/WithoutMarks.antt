@@ -2,25 +2,25 @@
 -- is judged. Assumes nothing.
 use Rattle.std.specs.Prelude.{◌≡◌, Bool, true, false, cond, ◌&&◌, ℕ, ◌+◌, ◌-◌, eqb, leb}
 use Rattle.crc.specs.Bits.{Bits}
-use Rattle.line.specs.Marks.{marksInRange}
-use Rattle.line.specs.Order.{letter, isLetter, endService, dataService}
-use Rattle.line.specs.Receiving.{Rule, out-of-sequence, anything-else, Place, expected, last, next, other, placeRule, endRule, serviceRule}
+use Rattle.line.specs.Marks.{marks_in_range}
+use Rattle.line.specs.Order.{letter, is_letter, end_service, data_service}
+use Rattle.line.specs.Receiving.{Rule, out_of_sequence, anything_else, Place, expected, last, next, other, place_rule, end_rule, service_rule}
 use Rattle.line.specs.declared.marks.Marks.{Marks}
 
 -- a letter against the items taken: of item r, of item r - 1, of item r + 1, or of none of these
-unfoldable pub letterPlace : ℕ → ℕ → Place
-letterPlace r service =
+unfoldable pub letter_place : ℕ → ℕ → Place
+letter_place r service =
     cond (eqb service (letter r)) expected
     (cond (leb 1 r && eqb service (letter (r - 1))) last (cond (eqb service (letter (r + 1))) next other))
 
 -- rules 3 to 7 over the letters
-unfoldable pub letterServiceRule : ℕ → ℕ → Bool → ℕ → Bits → Rule
-letterServiceRule k r ended service payload =
-    cond (isLetter service) (cond ended out-of-sequence (placeRule r (letterPlace r service)))
-    (cond (eqb service endService) (endRule k r ended payload) anything-else)
+unfoldable pub letter_service_rule : ℕ → ℕ → Bool → ℕ → Bits → Rule
+letter_service_rule k r ended service payload =
+    cond (is_letter service) (cond ended out_of_sequence (place_rule r (letter_place r service)))
+    (cond (eqb service end_service) (end_rule k r ended payload) anything_else)
 
 pub record WithoutMarks : Type 0 where
-  pub service-bits : (m : Marks) (i : ℕ) → m.in_use ≡ false → dataService m i ≡ letter i
+  pub service_bits : (m : Marks) (i : ℕ) → m.in_use ≡ false → data_service m i ≡ letter i
   pub rules : (k r : ℕ) (ended : Bool) (service : ℕ) (payload : Bits)
-      → serviceRule false k r ended service payload ≡ letterServiceRule k r ended service payload
-  pub no_size : (m : Marks) → m.in_use ≡ false → marksInRange m ≡ true
+      → service_rule false k r ended service payload ≡ letter_service_rule k r ended service payload
+  pub no_size : (m : Marks) → m.in_use ≡ false → marks_in_range m ≡ true

@@ -1,13 +1,13 @@
 // The receiving end in place: a state's array is lent, its other fields, the head, are handed over and back.
 ghost use Rattle.std.specs.Prelude.{◌≡◌, true, false, not, ◌||◌, List, [], ◌++◌, ℕ, ◌+◌, ◌*◌, ◌≤◌, ◌<◌, leb, length, take};
 ghost use Rattle.crc.specs.Bits.{bits_of};
-ghost use Rattle.block.specs.Lengths.{isLength, blockLength};
-ghost use Rattle.block.specs.Calls.{tooShort};
-ghost use Rattle.line.specs.Order.{mostItems};
+ghost use Rattle.block.specs.Lengths.{is_length, block_length};
+ghost use Rattle.block.specs.Calls.{too_short};
+ghost use Rattle.line.specs.Order.{most_items};
 ghost use Rattle.line.specs.Receiving as S;
-ghost use Rattle.line.specs.Receiving.{arrayBytes, zeroArray, receiverInRange};
-ghost use Rattle.line.specs.ReceivingInPlace.{withArray, ReceiveInPlace};
-ghost use Rattle.line.specs.Code.ReceiveSteps.{WindowInRange, HeadInRange, FinishedBlock, windowBits, ruleOf, stepWith, stepped, handedBack, judged, turnedAway, Handed};
+ghost use Rattle.line.specs.Receiving.{array_bytes, zero_array, receiver_in_range};
+ghost use Rattle.line.specs.ReceivingInPlace.{with_array, ReceiveInPlace};
+ghost use Rattle.line.specs.Code.ReceiveSteps.{WindowInRange, HeadInRange, FinishedBlock, window_bits, rule_of, step_with, stepped, handed_back, judged, turned_away, Handed};
 
 use crate::hold::put_bits;
 use crate::order::MOST_ITEMS;
@@ -38,8 +38,8 @@ pub struct HeadStep {
 }
 
 fn clear(array: &mut [u8])
-    requires { length array.old ≡ arrayBytes }
-    ensures { array.new ≡ zeroArray }
+    requires { length array.old ≡ array_bytes }
+    ensures { array.new ≡ zero_array }
 {
     let mut i = 0;
     while i < ARRAY_SIZE {
@@ -49,7 +49,7 @@ fn clear(array: &mut [u8])
 }
 
 fn copied(array: &[u8]) -> [u8; 483]
-    requires { length array.now ≡ arrayBytes }
+    requires { length array.now ≡ array_bytes }
     ensures { result ≡ array.now }
 {
     let mut copy = [0u8; ARRAY_SIZE];
@@ -64,7 +64,7 @@ fn copied(array: &[u8]) -> [u8; 483]
 impl Head {
     // Every field within its range.
     pub fn in_range(self) -> bool
-        ensures { (array : List ℕ) → result ≡ receiverInRange (withArray self array) }
+        ensures { (array : List ℕ) → result ≡ receiver_in_range (with_array self array) }
     {
         let k = self.setup.k;
         if !block::known_length(k) {
@@ -87,7 +87,7 @@ impl Head {
     }
 
     fn refused(self, number: u8) -> HeadStep
-        ensures { result ≡ turnedAway self number }
+        ensures { result ≡ turned_away self number }
     {
         HeadStep {
             head: self,
@@ -97,8 +97,8 @@ impl Head {
 
     // This head after an event, with nothing held, and the event.
     fn after(self, array: &mut [u8], event: Event, used: usize) -> HeadStep
-        requires { length array.old ≡ arrayBytes }
-        ensures { stepWith result array.new ≡ stepped (withArray self zeroArray) event used }
+        requires { length array.old ≡ array_bytes }
+        ensures { step_with result array.new ≡ stepped (with_array self zero_array) event used }
     {
         clear(array);
         HeadStep {
@@ -116,8 +116,8 @@ impl Head {
         event: Event,
         used: usize,
     ) -> HeadStep
-        requires { length array.old ≡ arrayBytes }
-        ensures { stepWith result array.new ≡ stepped (S.afterGood (withArray self array.old) taken ended) event used }
+        requires { length array.old ≡ array_bytes }
+        ensures { step_with result array.new ≡ stepped (S.after_good (with_array self array.old) taken ended) event used }
     {
         let next = Head {
             held: 0,
@@ -133,8 +133,8 @@ impl Head {
 
     // With return 1, the bad row cleared: an alarm, a search's start, or a wait.
     fn return_one(self, array: &mut [u8], phase: Phase, event: Event, used: usize) -> HeadStep
-        requires { length array.old ≡ arrayBytes }
-        ensures { stepWith result array.new ≡ stepped (S.alarmed (withArray self array.old) phase) event used }
+        requires { length array.old ≡ array_bytes }
+        ensures { step_with result array.new ≡ stepped (S.alarmed (with_array self array.old) phase) event used }
     {
         let next = Head {
             held: 0,
@@ -149,7 +149,7 @@ impl Head {
     // A bad block with its remainder; lost where rule 7 goes back to search.
     fn after_bad(self, array: &mut [u8], remainder: u16, lost: bool, used: usize) -> HeadStep
         requires { HeadInRange self array.old }
-        ensures { stepWith result array.new ≡ stepped (S.afterBad (withArray self array.old) (leb S.lastBad (self.bad_row + 1) || lost)) (Event.Bad remainder) used }
+        ensures { step_with result array.new ≡ stepped (S.after_bad (with_array self array.old) (leb S.last_bad (self.bad_row + 1) || lost)) (Event.Bad remainder) used }
     {
         let bad_row = self.bad_row + 1;
         let bad = Event::Bad(remainder);
@@ -172,7 +172,7 @@ impl Head {
     // What a rule comes to, the store apart.
     fn stop(self, array: &mut [u8], rule: Rule, used: usize) -> HeadStep
         requires { HeadInRange self array.old }
-        ensures { stepWith result array.new ≡ handedBack (S.stops (withArray self array.old) (ruleOf rule) [] used) }
+        ensures { step_with result array.new ≡ handed_back (S.stops (with_array self array.old) (rule_of rule) [] used) }
     {
         let taken = self.taken;
         let ended = self.ended;
@@ -200,8 +200,8 @@ impl Head {
 
     // Whether the store has room for the next item.
     fn has_room(self, store: &[u8]) -> bool
-        requires { (isLength self.setup.k ≡ true) × (self.taken ≤ mostItems) }
-        ensures { result ≡ not (tooShort store.now (self.taken * self.setup.k + self.setup.k)) }
+        requires { (is_length self.setup.k ≡ true) × (self.taken ≤ most_items) }
+        ensures { result ≡ not (too_short store.now (self.taken * self.setup.k + self.setup.k)) }
     {
         let m = self.setup.k / 8;
         self.taken * m + m <= store.len()
@@ -209,8 +209,8 @@ impl Head {
 
     // Rule 3: the data straight to their place in the store, which has room, and the state after.
     fn store_item(self, array: &mut [u8], row: &[u8], used: usize, store: &mut [u8]) -> HeadStep
-        requires { (FinishedBlock self array.old row.now) × (tooShort store.old (self.taken * self.setup.k + self.setup.k) ≡ false) }
-        ensures { Handed (withArray self array.old) store.old (S.stops (withArray self array.old) S.accepts (take (blockLength self.setup.k) (bits_of row.now)) used) (stepWith result array.new) store.new }
+        requires { (FinishedBlock self array.old row.now) × (too_short store.old (self.taken * self.setup.k + self.setup.k) ≡ false) }
+        ensures { Handed (with_array self array.old) store.old (S.stops (with_array self array.old) S.accepts (take (block_length self.setup.k) (bits_of row.now)) used) (step_with result array.new) store.new }
     {
         let m = self.setup.k / 8;
         let start = self.taken * m;
@@ -228,7 +228,7 @@ impl Head {
         store: &mut [u8],
     ) -> HeadStep
         requires { FinishedBlock self array.old row.now }
-        ensures { Handed (withArray self array.old) store.old (judged (withArray self array.old) (take (blockLength self.setup.k) (bits_of row.now)) ready used) (stepWith result array.new) store.new }
+        ensures { Handed (with_array self array.old) store.old (judged (with_array self array.old) (take (block_length self.setup.k) (bits_of row.now)) ready used) (step_with result array.new) store.new }
     {
         let k = self.setup.k;
         let taken = self.taken;
@@ -263,8 +263,8 @@ impl Head {
         ready: bool,
         store: &mut [u8],
     ) -> HeadStep
-        requires { (HeadInRange self array.old) × (self.held + missing ≡ blockLength self.setup.k) × (missing ≤ 8 * length line.now) }
-        ensures { Handed (withArray self array.old) store.old (judged (withArray self array.old) (S.heldBits (withArray self array.old) ++ take missing (bits_of line.now)) ready missing) (stepWith result array.new) store.new }
+        requires { (HeadInRange self array.old) × (self.held + missing ≡ block_length self.setup.k) × (missing ≤ 8 * length line.now) }
+        ensures { Handed (with_array self array.old) store.old (judged (with_array self array.old) (S.held_bits (with_array self array.old) ++ take missing (bits_of line.now)) ready missing) (step_with result array.new) store.new }
     {
         if self.held == 0 {
             return self.judge(array, line, missing, ready, store);
@@ -283,8 +283,8 @@ impl Head {
         ready: bool,
         store: &mut [u8],
     ) -> HeadStep
-        requires { (HeadInRange self array.old) × (self.held < blockLength self.setup.k) × (bits ≤ 8 * length line.now) }
-        ensures { Handed (withArray self array.old) store.old (S.inStep (withArray self array.old) (take bits (bits_of line.now)) ready) (stepWith result array.new) store.new }
+        requires { (HeadInRange self array.old) × (self.held < block_length self.setup.k) × (bits ≤ 8 * length line.now) }
+        ensures { Handed (with_array self array.old) store.old (S.in_step (with_array self array.old) (take bits (bits_of line.now)) ready) (step_with result array.new) store.new }
     {
         let held = self.held;
         let missing = self.setup.k + OVERHEAD - held;
@@ -306,8 +306,8 @@ impl Head {
 
     // The search's window back in the array's first two bytes.
     fn hold_window(self, array: &mut [u8], window: Window, used: usize) -> HeadStep
-        requires { (length array.old ≡ arrayBytes) × (WindowInRange window) }
-        ensures { stepWith result array.new ≡ stepped (S.searching (withArray self array.old) (windowBits window)) Event.None used }
+        requires { (length array.old ≡ array_bytes) × (WindowInRange window) }
+        ensures { step_with result array.new ≡ stepped (S.searching (with_array self array.old) (window_bits window)) Event.None used }
     {
         let pair = window.store();
         array[0] = pair.0;
@@ -327,8 +327,8 @@ impl Head {
 
     // Search: bit by bit, up to the sequence's end or to the last.
     fn search(self, array: &mut [u8], line: &[u8], bits: usize) -> HeadStep
-        requires { (length array.old ≡ arrayBytes) × (self.held ≤ 15) × (bits ≤ 8 * length line.now) }
-        ensures { stepWith result array.new ≡ handedBack (S.search (withArray self array.old) (S.heldBits (withArray self array.old)) (take bits (bits_of line.now)) 0) }
+        requires { (length array.old ≡ array_bytes) × (self.held ≤ 15) × (bits ≤ 8 * length line.now) }
+        ensures { step_with result array.new ≡ handed_back (S.search (with_array self array.old) (S.held_bits (with_array self array.old)) (take bits (bits_of line.now)) 0) }
     {
         let mut window = Window::load(self.held, array[0], array[1]);
         let mut used = 0;
@@ -345,7 +345,7 @@ impl Head {
 
     // A standing alarm: all bits used.
     fn under_alarm(self, alarm: Event, bits: usize) -> HeadStep
-        ensures { (array : List ℕ) → stepWith result array ≡ stepped (S.underAlarm (withArray self array)) alarm bits }
+        ensures { (array : List ℕ) → step_with result array ≡ stepped (S.under_alarm (with_array self array)) alarm bits }
     {
         HeadStep {
             head: Head {
@@ -359,7 +359,7 @@ impl Head {
 
     // No bits: nothing changed, but a standing alarm is reported.
     fn idle(self) -> HeadStep
-        ensures { (array : List ℕ) → stepWith result array ≡ handedBack (S.idle (withArray self array)) }
+        ensures { (array : List ℕ) → step_with result array ≡ handed_back (S.idle (with_array self array)) }
     {
         let phase = self.phase;
         let event = match phase {
@@ -382,8 +382,8 @@ impl Head {
         ready: bool,
         store: &mut [u8],
     ) -> HeadStep
-        requires { (length array.old ≡ arrayBytes) × (receiverInRange (withArray self array.old) ≡ true) × (bits ≤ 8 * length line.now) }
-        ensures { Handed (withArray self array.old) store.old (S.reception (withArray self array.old) (take bits (bits_of line.now)) bits ready) (stepWith result array.new) store.new }
+        requires { (length array.old ≡ array_bytes) × (receiver_in_range (with_array self array.old) ≡ true) × (bits ≤ 8 * length line.now) }
+        ensures { Handed (with_array self array.old) store.old (S.reception (with_array self array.old) (take bits (bits_of line.now)) bits ready) (step_with result array.new) store.new }
     {
         if bits == 0 {
             return self.idle();

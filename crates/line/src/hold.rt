@@ -1,7 +1,7 @@
 // The bits of one unfinished block: new ones are moved in behind those held, by bytes.
 ghost use Rattle.std.specs.Prelude.{◌≡◌, ◌++◌, ◌+◌, ◌*◌, ◌≤◌, ◌<◌, length, take, drop};
 ghost use Rattle.crc.specs.Bits.{binary, bits_of, bytes_of};
-ghost use Rattle.line.specs.Receiving.{arrayBytes, overwrite};
+ghost use Rattle.line.specs.Receiving.{array_bytes, overwrite};
 
 use block::byte_at;
 
@@ -31,8 +31,8 @@ fn merge(new: u8, n: usize, old: u8) -> u8
 
 // The first count bits of the line become the array's from place held on; no other bit of the array changes.
 pub(crate) fn put_bits(array: &mut [u8], held: usize, line: &[u8], count: usize)
-    requires { (length array.old ≡ arrayBytes) × (held + count < 8 * arrayBytes) × (count ≤ 8 * length line.now) }
-    ensures { array.new ≡ bytes_of arrayBytes (overwrite held (take count (bits_of line.now)) (bits_of array.old)) }
+    requires { (length array.old ≡ array_bytes) × (held + count < 8 * array_bytes) × (count ≤ 8 * length line.now) }
+    ensures { array.new ≡ bytes_of array_bytes (overwrite held (take count (bits_of line.now)) (bits_of array.old)) }
 {
     let shift = held % 8;
     let from = held / 8;

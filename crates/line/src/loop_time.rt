@@ -2,7 +2,7 @@
 ghost use Rattle.std.specs.Prelude.{◌≡◌, ◌<◌, get_or};
 ghost use Rattle.block.specs.Lengths.{lengths};
 ghost use Rattle.line.specs.Code.Table.{place};
-ghost use Rattle.line.specs.LoopTime.{speeds, isSpeed, hasEntry, longestLoop, LoopTest};
+ghost use Rattle.line.specs.LoopTime.{speeds, is_speed, has_entry, longest_loop, LoopTest};
 
 use crate::{LOOP_TIME, SPEED};
 
@@ -58,7 +58,7 @@ fn speed_column(speed: u32) -> usize
 
 // Whether a speed is one of the table's.
 pub fn is_speed(speed: u32) -> bool
-    ensures { result ≡ isSpeed speed }
+    ensures { result ≡ is_speed speed }
 {
     speed_column(speed) < 6
 }
@@ -66,14 +66,14 @@ pub fn is_speed(speed: u32) -> bool
 // Whether the table has an entry.
 fn has_entry(row: usize, column: usize) -> bool
     requires { (row < 4) × (column < 6) }
-    ensures { result ≡ hasEntry (get_or lengths row 0) (get_or speeds column 0) }
+    ensures { result ≡ has_entry (get_or lengths row 0) (get_or speeds column 0) }
 {
     ENTRY[row][column]
 }
 
 fn longest_loop(row: usize, column: usize) -> u32
     requires { (row < 4) × (column < 6) }
-    ensures { result ≡ longestLoop (get_or lengths row 0) (get_or speeds column 0) }
+    ensures { result ≡ longest_loop (get_or lengths row 0) (get_or speeds column 0) }
 {
     LIMIT[row][column]
 }

@@ -1,6 +1,6 @@
 // Start-of-message marks: a session uses them if a code size is given at its opening.
 ghost use Rattle.std.specs.Prelude.{◌≡◌, true};
-ghost use Rattle.line.specs.Marks.{marksOf, isCodeSize, marksInRange, mark, isMark};
+ghost use Rattle.line.specs.Marks.{marks_of, is_code_size, marks_in_range, mark, is_mark};
 
 const MARK_5: u8 = 0b0001;
 
@@ -25,7 +25,7 @@ pub struct Marks {
 }
 
 fn is_code_size(size: usize) -> bool
-    ensures { result ≡ isCodeSize size }
+    ensures { result ≡ is_code_size size }
 {
     if size < 5 {
         return false;
@@ -35,7 +35,7 @@ fn is_code_size(size: usize) -> bool
 
 impl CodeSize {
     pub(crate) fn in_range(self) -> bool
-        ensures { result ≡ marksInRange (marksOf self) }
+        ensures { result ≡ marks_in_range (marks_of self) }
     {
         match self {
             CodeSize::NotGiven => true,
@@ -46,8 +46,8 @@ impl CodeSize {
 
 impl Marks {
     pub(crate) fn of(size: CodeSize) -> Marks
-        requires { marksInRange (marksOf size) ≡ true }
-        ensures { result ≡ marksOf size }
+        requires { marks_in_range (marks_of size) ≡ true }
+        ensures { result ≡ marks_of size }
     {
         match size {
             CodeSize::NotGiven => Marks {
@@ -62,7 +62,7 @@ impl Marks {
     }
 
     pub(crate) fn in_range(self) -> bool
-        ensures { result ≡ marksInRange self }
+        ensures { result ≡ marks_in_range self }
     {
         if !self.in_use {
             return true;
@@ -84,7 +84,7 @@ pub(crate) fn mark(size: u8) -> u8
 }
 
 pub(crate) fn is_mark(service: u8) -> bool
-    ensures { result ≡ isMark service }
+    ensures { result ≡ is_mark service }
 {
     if service == MARK_5 {
         return true;

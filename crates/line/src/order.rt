@@ -1,10 +1,10 @@
 // The order as items: their number, letters, data and blocks.
 ghost use Rattle.std.specs.Prelude.{◌≡◌, true, ◌++◌, ◌+◌, ◌-◌, ◌*◌, ◌≤◌, ◌<◌, length, take, drop};
 ghost use Rattle.crc.specs.Bits.{binary, bits_of, bytes_of, number, zeros};
-ghost use Rattle.block.specs.Lengths.{isLength, blockLength, blockBytes};
+ghost use Rattle.block.specs.Lengths.{is_length, block_length, block_bytes};
 ghost use Rattle.block.specs.Block.{block_bits};
 ghost use Rattle.block.specs.Calls.{overwritten};
-ghost use Rattle.line.specs.Order.{longestOrder, validLength, itemCount, letter, endService, dataService, orderBits, endPayload, itemBits};
+ghost use Rattle.line.specs.Order.{longest_order, valid_length, item_count, letter, end_service, data_service, order_bits, end_payload, item_bits};
 
 use crate::marks::{Marks, mark};
 use block::packed;
@@ -28,7 +28,7 @@ pub(crate) const VERSION: u8 = 1;
 
 // The number of data items that these bits make, 0 if k is 0.
 pub fn item_count(k: usize, bits: usize) -> usize
-    ensures { result ≡ itemCount k bits }
+    ensures { result ≡ item_count k bits }
 {
     if k == 0 {
         return 0;
@@ -41,8 +41,8 @@ pub fn item_count(k: usize, bits: usize) -> usize
 
 // The same of an order as both ends judge it: the sum fits, and nothing is left to test.
 pub(crate) fn order_items(k: usize, bits: usize) -> usize
-    requires { (isLength k ≡ true) × (bits ≤ longestOrder) }
-    ensures { result ≡ itemCount k bits }
+    requires { (is_length k ≡ true) × (bits ≤ longest_order) }
+    ensures { result ≡ item_count k bits }
 {
     (bits + k - 1) / k
 }
@@ -60,7 +60,7 @@ pub(crate) fn letter(i: usize) -> u8
 
 // The service bits of data item i.
 fn data_service(marks: Marks, i: usize) -> u8
-    ensures { result ≡ dataService marks i }
+    ensures { result ≡ data_service marks i }
 {
     if !marks.in_use {
         return letter(i);
@@ -82,7 +82,7 @@ fn keep_first(x: u8, count: usize) -> u8
 // The order's bits from byte start on up to its last, zeros behind them.
 fn last_data(order: &[u8], bits: usize, start: usize) -> [u8; 480]
     requires { (8 * start ≤ bits) × (bits ≤ 8 * start + 3840) × (bits ≤ 8 * length order.now) }
-    ensures { result ≡ bytes_of 480 (drop (8 * start) (orderBits bits order.now)) }
+    ensures { result ≡ bytes_of 480 (drop (8 * start) (order_bits bits order.now)) }
 {
     let mut payload = [0u8; 480];
     let whole = bits / 8 - start;
@@ -100,8 +100,8 @@ fn last_data(order: &[u8], bits: usize, start: usize) -> [u8; 480]
 
 // An end block's data: the version, then the order's length in 32 bits.
 fn end_data(bits: usize) -> [u8; 480]
-    requires { bits ≤ longestOrder }
-    ensures { bits_of result ≡ endPayload 3840 bits }
+    requires { bits ≤ longest_order }
+    ensures { bits_of result ≡ end_payload 3840 bits }
 {
     let mut payload = [0u8; 480];
     payload[0] = VERSION;
@@ -114,8 +114,8 @@ fn end_data(bits: usize) -> [u8; 480]
 
 // An end block over the first bytes of block.
 fn write_end(k: usize, bits: usize, block: &mut [u8])
-    requires { (isLength k ≡ true) × (bits ≤ longestOrder) × (blockLength k ≤ 8 * length block.old) }
-    ensures { block.new ≡ overwritten (blockBytes k) (block_bits (binary 4 endService) (endPayload k bits)) block.old }
+    requires { (is_length k ≡ true) × (bits ≤ longest_order) × (block_length k ≤ 8 * length block.old) }
+    ensures { block.new ≡ overwritten (block_bytes k) (block_bits (binary 4 end_service) (end_payload k bits)) block.old }
 {
     let payload = end_data(bits);
     packed::build(k / 8, END, &payload, block);
@@ -123,8 +123,8 @@ fn write_end(k: usize, bits: usize, block: &mut [u8])
 
 // Item i, whose data are all of the order, under these service bits over the first bytes of block.
 fn write_whole(k: usize, i: usize, service: u8, order: &[u8], block: &mut [u8])
-    requires { (isLength k ≡ true) × (i * k + k ≤ 8 * length order.now) × (blockLength k ≤ 8 * length block.old) × (service < 16) }
-    ensures { block.new ≡ overwritten (blockBytes k) (block_bits (binary 4 service) (take k (drop (i * k) (bits_of order.now)))) block.old }
+    requires { (is_length k ≡ true) × (i * k + k ≤ 8 * length order.now) × (block_length k ≤ 8 * length block.old) × (service < 16) }
+    ensures { block.new ≡ overwritten (block_bytes k) (block_bits (binary 4 service) (take k (drop (i * k) (bits_of order.now)))) block.old }
 {
     let start = i * (k / 8);
     let end = start + k / 8;
@@ -133,8 +133,8 @@ fn write_whole(k: usize, i: usize, service: u8, order: &[u8], block: &mut [u8])
 
 // Item i, the order's last bits and the filling behind them, under these service bits over the first bytes of block.
 fn write_last(k: usize, bits: usize, i: usize, service: u8, order: &[u8], block: &mut [u8])
-    requires { (isLength k ≡ true) × (i * k ≤ bits) × (bits ≤ i * k + k) × (bits ≤ 8 * length order.now) × (blockLength k ≤ 8 * length block.old) × (service < 16) }
-    ensures { block.new ≡ overwritten (blockBytes k) (block_bits (binary 4 service) (drop (i * k) (orderBits bits order.now) ++ zeros (i * k + k - bits))) block.old }
+    requires { (is_length k ≡ true) × (i * k ≤ bits) × (bits ≤ i * k + k) × (bits ≤ 8 * length order.now) × (block_length k ≤ 8 * length block.old) × (service < 16) }
+    ensures { block.new ≡ overwritten (block_bytes k) (block_bits (binary 4 service) (drop (i * k) (order_bits bits order.now) ++ zeros (i * k + k - bits))) block.old }
 {
     let payload = last_data(order, bits, i * (k / 8));
     packed::build(k / 8, service, &payload, block);
@@ -149,8 +149,8 @@ pub(crate) fn write_item(
     order: &[u8],
     block: &mut [u8],
 )
-    requires { (isLength k ≡ true) × (validLength bits ≡ true) × (bits ≤ 8 * length order.now) × (blockLength k ≤ 8 * length block.old) }
-    ensures { block.new ≡ overwritten (blockBytes k) (itemBits marks k bits (orderBits bits order.now) i) block.old }
+    requires { (is_length k ≡ true) × (valid_length bits ≡ true) × (bits ≤ 8 * length order.now) × (block_length k ≤ 8 * length block.old) }
+    ensures { block.new ≡ overwritten (block_bytes k) (item_bits marks k bits (order_bits bits order.now) i) block.old }
 {
     if order_items(k, bits) <= i {
         write_end(k, bits, block);

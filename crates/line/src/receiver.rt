@@ -1,8 +1,8 @@
 // The receiving end.
 ghost use Rattle.std.specs.Prelude.{◌≡◌};
-ghost use Rattle.line.specs.Receiving.{OpenReceiver, freshReceiver, Receive};
-ghost use Rattle.line.specs.ReceivingInPlace.{withArray};
-ghost use Rattle.line.specs.Code.ReceiveSteps.{refusedOpening};
+ghost use Rattle.line.specs.Receiving.{OpenReceiver, fresh_receiver, Receive};
+ghost use Rattle.line.specs.ReceivingInPlace.{with_array};
+ghost use Rattle.line.specs.Code.ReceiveSteps.{refused_opening};
 
 use crate::CODE_SIZE;
 use crate::head::Head;
@@ -48,7 +48,7 @@ pub struct Opened {
 impl Receiver {
     // In search, with return bit 1.
     fn fresh(k: usize, marks: Marks) -> Receiver
-        ensures { result ≡ freshReceiver k marks }
+        ensures { result ≡ fresh_receiver k marks }
     {
         Receiver {
             setup: Setup { k, marks },
@@ -63,7 +63,7 @@ impl Receiver {
     }
 
     fn refused(number: u8) -> Opened
-        ensures { result ≡ refusedOpening number }
+        ensures { result ≡ refused_opening number }
     {
         let marks = Marks::of(CodeSize::NotGiven);
         Opened {
@@ -91,7 +91,7 @@ impl Receiver {
 
     // The state without its array.
     pub fn head(self) -> Head
-        ensures { withArray result self.bits ≡ self }
+        ensures { with_array result self.bits ≡ self }
     {
         let setup = self.setup;
         let phase = self.phase;

@@ -1,11 +1,11 @@
 // Rule 1, and rules 3 to 7: what a finished block comes to, and what one whose check passes.
 ghost use Rattle.std.specs.Prelude.{◌≡◌, true, ◌&&◌, ◌-◌, ◌*◌, ◌≤◌, leb, length, take, drop};
 ghost use Rattle.crc.specs.Bits.{number, bits_of};
-ghost use Rattle.block.specs.Lengths.{isLength, blockLength};
-ghost use Rattle.block.specs.Block.{payloadOf};
-ghost use Rattle.line.specs.Order.{longestOrder, mostItems, isLetter};
-ghost use Rattle.line.specs.Receiving.{orWait, looksSync, is_of, place, placeRule, makesItems, endRule, markRule, serviceRule};
-ghost use Rattle.line.specs.Code.ReceiveSteps.{ruleOf};
+ghost use Rattle.block.specs.Lengths.{is_length, block_length};
+ghost use Rattle.block.specs.Block.{payload_of};
+ghost use Rattle.line.specs.Order.{longest_order, most_items, is_letter};
+ghost use Rattle.line.specs.Receiving.{or_wait, looks_sync, is_of, place, place_rule, makes_items, end_rule, mark_rule, service_rule};
+ghost use Rattle.line.specs.Code.ReceiveSteps.{rule_of};
 
 use crate::marks::is_mark;
 use crate::order::{
@@ -30,7 +30,7 @@ pub(crate) enum Rule {
 impl Rule {
     // After the judging: what the machine's readiness makes of a rule.
     pub(crate) fn or_wait(self, ready: bool) -> Rule
-        ensures { ruleOf result ≡ orWait ready (ruleOf self) }
+        ensures { rule_of result ≡ or_wait ready (rule_of self) }
     {
         if ready {
             return self;
@@ -44,8 +44,8 @@ impl Rule {
 
 // Rule 1: first four bits 0101, last sixteen the sequence.
 pub(crate) fn looks_sync(k: usize, row: &[u8]) -> bool
-    requires { (isLength k ≡ true) × (blockLength k ≤ 8 * length row.now) }
-    ensures { result ≡ looksSync k (take (blockLength k) (bits_of row.now)) }
+    requires { (is_length k ≡ true) × (block_length k ≤ 8 * length row.now) }
+    ensures { result ≡ looks_sync k (take (block_length k) (bits_of row.now)) }
 {
     if row[0] >> 4 != SYNC {
         return false;
@@ -55,7 +55,7 @@ pub(crate) fn looks_sync(k: usize, row: &[u8]) -> bool
 }
 
 fn is_letter(service: u8) -> bool
-    ensures { result ≡ isLetter service }
+    ensures { result ≡ is_letter service }
 {
     match service {
         LETTER_A | LETTER_B | LETTER_C => true,
@@ -88,8 +88,8 @@ fn is_last(in_use: bool, taken: usize, service: u8) -> bool
 
 // A letter or a mark, the end not taken.
 fn place_rule(in_use: bool, taken: usize, service: u8) -> Rule
-    requires { taken ≤ mostItems }
-    ensures { ruleOf result ≡ placeRule taken (place in_use taken service) }
+    requires { taken ≤ most_items }
+    ensures { rule_of result ≡ place_rule taken (place in_use taken service) }
 {
     if is_of(in_use, taken, service) {
         if taken < MOST_ITEMS {
@@ -117,15 +117,15 @@ fn end_length(payload: &[u8]) -> usize
 }
 
 fn makes_items(k: usize, bits: usize, taken: usize) -> bool
-    requires { (isLength k ≡ true) × (bits ≤ longestOrder) }
-    ensures { result ≡ makesItems k bits taken }
+    requires { (is_length k ≡ true) × (bits ≤ longest_order) }
+    ensures { result ≡ makes_items k bits taken }
 {
     order_items(k, bits) == taken
 }
 
 fn end_rule(k: usize, taken: usize, ended: bool, payload: &[u8]) -> Rule
-    requires { (isLength k ≡ true) × (5 ≤ length payload.now) }
-    ensures { ruleOf result ≡ endRule k taken ended (bits_of payload.now) }
+    requires { (is_length k ≡ true) × (5 ≤ length payload.now) }
+    ensures { rule_of result ≡ end_rule k taken ended (bits_of payload.now) }
 {
     if ended {
         return Rule::EndsAgain;
@@ -148,8 +148,8 @@ fn end_rule(k: usize, taken: usize, ended: bool, payload: &[u8]) -> Rule
 
 // No letter and no end block.
 fn mark_rule(in_use: bool, taken: usize, ended: bool, service: u8) -> Rule
-    requires { taken ≤ mostItems }
-    ensures { ruleOf result ≡ markRule in_use taken ended service }
+    requires { taken ≤ most_items }
+    ensures { rule_of result ≡ mark_rule in_use taken ended service }
 {
     if !in_use {
         return Rule::AnythingElse;
@@ -172,8 +172,8 @@ pub(crate) fn service_rule(
     service: u8,
     row: &[u8],
 ) -> Rule
-    requires { (isLength k ≡ true) × (taken ≤ mostItems) × (blockLength k ≤ 8 * length row.now) }
-    ensures { ruleOf result ≡ serviceRule in_use k taken ended service (payloadOf k (take (blockLength k) (bits_of row.now))) }
+    requires { (is_length k ≡ true) × (taken ≤ most_items) × (block_length k ≤ 8 * length row.now) }
+    ensures { rule_of result ≡ service_rule in_use k taken ended service (payload_of k (take (block_length k) (bits_of row.now))) }
 {
     if is_letter(service) {
         if ended {

@@ -1,8 +1,8 @@
 // The sending end.
 ghost use Rattle.std.specs.Prelude.{◌≡◌, Bool, ◌||◌, List, ℕ, ◌*◌, ◌≤◌, length};
 ghost use Rattle.block.specs.Answer.{done};
-ghost use Rattle.block.specs.Lengths.{blockLength};
-ghost use Rattle.line.specs.Sending.{confirmed, repeated, itemBlock, senderInRange, gaveUp, sentAnswer, OpenSender, Send};
+ghost use Rattle.block.specs.Lengths.{block_length};
+ghost use Rattle.line.specs.Sending.{confirmed, repeated, item_block, sender_in_range, gave_up, sent_answer, OpenSender, Send};
 ghost use Rattle.line.specs.Code.SendSteps.{GoingOn, Lent, Sends};
 
 use crate::loop_time::{LoopTime, loop_time};
@@ -111,7 +111,7 @@ impl Sender {
 
     // Every field within its range.
     fn in_range(self) -> bool
-        ensures { result ≡ senderInRange self }
+        ensures { result ≡ sender_in_range self }
     {
         let setup = self.setup;
         let k = setup.k;
@@ -139,7 +139,7 @@ impl Sender {
 
     // Finished or given up.
     fn at_rest(self) -> bool
-        ensures { result ≡ self.finished || gaveUp self }
+        ensures { result ≡ self.finished || gave_up self }
     {
         self.finished || self.run == LAST_RUN
     }
@@ -199,7 +199,7 @@ impl Sender {
     // What a call says of the item that it sent.
     fn item(self, number: usize, used: bool, cancelled: bool) -> Sent
         requires { GoingOn self }
-        ensures { sentAnswer result ≡ done (itemBlock self number used cancelled) }
+        ensures { sent_answer result ≡ done (item_block self number used cancelled) }
     {
         let setup = self.setup;
         Sent::Item {
@@ -212,7 +212,7 @@ impl Sender {
 
     // A synchronising block; the older item is next.
     fn send_sync(self, block: &mut [u8]) -> Step
-        requires { (GoingOn self) × (blockLength self.setup.k ≤ 8 * length block.old) }
+        requires { (GoingOn self) × (block_length self.setup.k ≤ 8 * length block.old) }
         ensures { (order : List ℕ) (reading : Bool) → Sends self Next.Sync reading order block.old result block.new }
     {
         let setup = self.setup;

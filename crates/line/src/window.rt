@@ -1,8 +1,8 @@
 // The window of a search: the latest 15 bits at most.
 ghost use Rattle.std.specs.Prelude.{◌≡◌, false, [], ◌∷◌, ◌++◌, ◌+◌, ◌*◌, ◌^◌, ◌≤◌, ◌<◌, length, take, get_or};
 ghost use Rattle.crc.specs.Bits.{bit, binary, bits_of, bytes_of};
-ghost use Rattle.line.specs.Receiving.{latest, isSequence};
-ghost use Rattle.line.specs.Code.ReceiveSteps.{WindowInRange, windowBits};
+ghost use Rattle.line.specs.Receiving.{latest, is_sequence};
+ghost use Rattle.line.specs.Code.ReceiveSteps.{WindowInRange, window_bits};
 
 use block::SEQUENCE;
 
@@ -29,7 +29,7 @@ impl Window {
     // From the array's first two bytes.
     pub(crate) fn load(held: usize, first: u8, second: u8) -> Window
         requires { held ≤ 15 }
-        ensures { (result.held ≡ held) × (result.number < 2 ^ held) × (windowBits result ≡ take held (binary 8 first ++ binary 8 second)) }
+        ensures { (result.held ≡ held) × (result.number < 2 ^ held) × (window_bits result ≡ take held (binary 8 first ++ binary 8 second)) }
     {
         let both = (first as u32) << 8 | second as u32;
         Window {
@@ -41,7 +41,7 @@ impl Window {
     // Into two bytes, zero bits behind it.
     pub(crate) fn store(self) -> Pair
         requires { WindowInRange self }
-        ensures { result.0 ∷ result.1 ∷ [] ≡ bytes_of 2 (windowBits self) }
+        ensures { result.0 ∷ result.1 ∷ [] ≡ bytes_of 2 (window_bits self) }
     {
         let both = (self.number as u32) << (16 - self.held);
         Pair((both >> 8) as u8, (both & 255) as u8)
@@ -58,7 +58,7 @@ impl Window {
     // Whether the next bit ends the sequence.
     pub(crate) fn ends_sequence(self, next: bool) -> bool
         requires { WindowInRange self }
-        ensures { result ≡ isSequence (windowBits self ++ (next ∷ [])) }
+        ensures { result ≡ is_sequence (window_bits self ++ (next ∷ [])) }
     {
         if self.held < 15 {
             return false;
@@ -69,7 +69,7 @@ impl Window {
     // The next bit in, and the earliest of sixteen out.
     pub(crate) fn slide(self, next: bool) -> Window
         requires { WindowInRange self }
-        ensures { (WindowInRange result) × (windowBits result ≡ latest (windowBits self ++ (next ∷ []))) }
+        ensures { (WindowInRange result) × (window_bits result ≡ latest (window_bits self ++ (next ∷ []))) }
     {
         let number = self.shifted(next);
         if self.held < 15 {

@@ -10,62 +10,62 @@ use lib.ListN.{length, take, drop}
 use Rattle.crc.specs.Bits.{binary, bits_of}
 use Rattle.block.specs.Answer as A
 use Rattle.block.specs.Answer.{Answer, refused, done}
-use Rattle.block.specs.Lengths.{isLength, blockLength, among}
+use Rattle.block.specs.Lengths.{is_length, block_length, among}
 use Rattle.block.specs.Block.{Verdict, passed, failed, verdict}
-use Rattle.block.specs.Calls.{tooShort, buildBlock, readBlock}
-use Rattle.block.proofs.Truth.{cond-case}
+use Rattle.block.specs.Calls.{too_short, build_block, read_block}
+use Rattle.block.proofs.Truth.{cond_case}
 use Rattle.block.proofs.Lengths.{each}
-use Rattle.block.proofs.TestsInTurn.{Tests, refuseAll, testNumbers, in-turn}
+use Rattle.block.proofs.TestsInTurn.{Tests, refuse_all, test_numbers, in_turn}
 use Rattle.line.specs.Refusals as Refusals
-use Rattle.line.specs.LoopTime.{isSpeed, hasEntry, longestLoop, loopTime}
-use Rattle.line.specs.Marks.{marksOf, marksInRange}
-use Rattle.line.specs.Order.{longestOrder}
-use Rattle.line.specs.Sending.{Block, synchronising, item, transmit, senderInRange, gaveUp, freshSender, unless-refused, openSender, send}
-use Rattle.line.specs.Receiving.{meaning, openReceiver, Reception, reception, reported, receiverInRange, receive}
+use Rattle.line.specs.LoopTime.{is_speed, has_entry, longest_loop, loop_time}
+use Rattle.line.specs.Marks.{marks_of, marks_in_range}
+use Rattle.line.specs.Order.{longest_order}
+use Rattle.line.specs.Sending.{Block, synchronising, item, transmit, sender_in_range, gave_up, fresh_sender, unless_refused, open_sender, send}
+use Rattle.line.specs.Receiving.{meaning, open_receiver, Reception, reception, reported, receiver_in_range, receive}
 use Rattle.line.specs.declared.marks.CodeSize.{CodeSize}
 use Rattle.line.specs.declared.sender.Sender.{Sender}
 use Rattle.line.specs.declared.receiver.Receiver.{Receiver}
 use Rattle.line.specs.declared.receiving.Event.{Event}
 use Rattle.line.specs.declared.receiving.Event.TheVariants as E
 use Rattle.tint.specs.Refusals as Tint
-use Rattle.tint.specs.Format.{Dose, orderBytes, dosesIn, isFormat, canisters, mostTotal, inRangeAndOrder, total, judgeDoses}
-use Rattle.tint.specs.Calls.{judgeCounted, read}
+use Rattle.tint.specs.Format.{Dose, order_bytes, doses_in, is_format, canisters, most_total, in_range_and_order, total, judge_doses}
+use Rattle.tint.specs.Calls.{judge_counted, read}
 use Rattle.noise.specs.Refusals as Noise
-use Rattle.noise.specs.Load.{Load, load, ones, loadBlock, reportOf}
-use Rattle.line_c.specs.State.{senderSize, holdsSender, senderIn, senderOf, receiverSize, holdsReceiver, receiverIn, receiverOf}
-use Rattle.line_c.specs.BlockCalls.{refusal, readNumber}
-use Rattle.line_c.specs.SenderCalls.{judgeState, openSenderIn, flagWord, sendIn, sentWord, goingOnNumber, finishedNumber, gaveUpNumber, restIn}
-use Rattle.line_c.specs.ReceiverCalls.{openReceiverIn, eventNumber, receiveIn, reportNumber, returnNumber, back_in}
-use Rattle.line_c.specs.TintCalls.{numbersOf, dosesHeld, writeTint, judgeRoom, readTint}
-use Rattle.line_c.specs.NoiseCalls.{generatorOf, reportWord, noiseWord, loadIn}
+use Rattle.noise.specs.Load.{Load, load, ones, load_block, report_of}
+use Rattle.line_c.specs.State.{sender_size, holds_sender, sender_in, sender_of, receiver_size, holds_receiver, receiver_in, receiver_of}
+use Rattle.line_c.specs.BlockCalls.{refusal, read_number}
+use Rattle.line_c.specs.SenderCalls.{judge_state, open_sender_in, flag_word, send_in, sent_word, going_on_number, finished_number, gave_up_number, rest_in}
+use Rattle.line_c.specs.ReceiverCalls.{open_receiver_in, event_number, receive_in, report_number, return_number, back_in}
+use Rattle.line_c.specs.TintCalls.{numbers_of, doses_held, write_tint, judge_room, read_tint}
+use Rattle.line_c.specs.NoiseCalls.{generator_of, report_word, noise_word, load_in}
 use Rattle.line_c.specs.Refused.{is_refused}
 
 -- ---- answers that are no refusal
 
-verdict-word : (v : Verdict) → 64 ≤ readNumber (done v)
-verdict-word (passed service) = omega arith
-verdict-word (failed r) = omega arith
+verdict_word : (v : Verdict) → 64 ≤ read_number (done v)
+verdict_word (passed service) = omega arith
+verdict_word (failed r) = omega arith
 
-sent_word : (b : Block) → 64 ≤ sentWord (done b)
-sent_word synchronising = omega arith
-sent_word (item i end used cancelled) = item-word i (flagWord end 0x400) (flagWord used 0x800) (flagWord cancelled 0x1000)
+sent_word_lem : (b : Block) → 64 ≤ sent_word (done b)
+sent_word_lem synchronising = omega arith
+sent_word_lem (item i end used cancelled) = item_word_lem i (flag_word end 0x400) (flag_word used 0x800) (flag_word cancelled 0x1000)
   where
-    item-word : (i a b c : ℕ) → 64 ≤ 0x300 + a + b + c + i * 65536
-    item-word i a b c = omega arith
+    item_word_lem : (i a b c : ℕ) → 64 ≤ 0x300 + a + b + c + i * 65536
+    item_word_lem i a b c = omega arith
 
-event-word : (e : Event) → 64 ≤ eventNumber e
-event-word E.None = omega arith
-event-word E.Sync = omega arith
-event-word (E.Bad r) = omega arith
-event-word E.Accepted = omega arith
-event-word E.Previous = omega arith
-event-word E.SequenceAlarm = omega arith
-event-word E.LengthAlarm = omega arith
-event-word (E.Ended L) = omega arith
-event-word E.Wait = omega arith
+event_word : (e : Event) → 64 ≤ event_number e
+event_word E.None = omega arith
+event_word E.Sync = omega arith
+event_word (E.Bad r) = omega arith
+event_word E.Accepted = omega arith
+event_word E.Previous = omega arith
+event_word E.SequenceAlarm = omega arith
+event_word E.LengthAlarm = omega arith
+event_word (E.Ended L) = omega arith
+event_word E.Wait = omega arith
 
-noise-word : (inverted : ℕ) (turned : Bool) → 64 ≤ reportWord inverted turned
-noise-word inverted turned = over inverted (flagWord turned 0x200)
+noise_word_lem : (inverted : ℕ) (turned : Bool) → 64 ≤ report_word inverted turned
+noise_word_lem inverted turned = over inverted (flag_word turned 0x200)
   where
     over : (i a : ℕ) → 64 ≤ 0x100 + a + i * 65536
     over i a = omega arith
@@ -73,17 +73,17 @@ noise-word inverted turned = over inverted (flagWord turned 0x200)
 -- ---- what holds of every number that a call returns
 
 -- the numbers that the calls refuse by
-abbrev pub inUse : List ℕ
-inUse =
-    A.block ∷ Refusals.speed ∷ Refusals.loop-time ∷ Refusals.empty ∷ Refusals.long ∷ A.short ∷ A.spoiled ∷ Refusals.rest ∷ Refusals.code-size
+abbrev pub in_use : List ℕ
+in_use =
+    A.block ∷ Refusals.speed ∷ Refusals.loop_time_lem ∷ Refusals.empty ∷ Refusals.long ∷ A.short ∷ A.spoiled ∷ Refusals.rest ∷ Refusals.code_size
     ∷ Tint.format ∷ Tint.entry ∷ Tint.steps ∷ Noise.generator ∷ []
 
-abbrev pub isInUse : ℕ → Bool
-isInUse n = among n inUse
+abbrev pub is_in_use : ℕ → Bool
+is_in_use n = among n in_use
 
 -- what P says of a number, and of whether it is a refusal's, holds of these
 pub record Numbers (P : Bool → ℕ → Type 0) : Type 0 where
-  pub of-refusal : (n : ℕ) → isInUse n ≡ true → P true n
+  pub of_refusal : (n : ℕ) → is_in_use n ≡ true → P true n
   pub of_zero : P false 0
   pub of_other : (n : ℕ) → 64 ≤ n → P false n
 
@@ -96,158 +96,158 @@ module _ (P : Bool → ℕ → Type 0) (holds : Numbers P) where
   abbrev Plain : {A : Type 0} → Answer A → Type 0
   Plain a = By refusal a
 
-  plain : {A : Type 0} (ts : Tests) → each isInUse (testNumbers ts) ≡ true → (next : Answer A) → Plain next → Plain (refuseAll ts next)
-  plain = in-turn Plain isInUse holds.of-refusal
+  plain : {A : Type 0} (ts : Tests) → each is_in_use (test_numbers ts) ≡ true → (next : Answer A) → Plain next → Plain (refuse_all ts next)
+  plain = in_turn Plain is_in_use holds.of_refusal
 
-  judge-number : {A : Type 0} (size : ℕ) (state : List ℕ) (a : Answer A) → Plain a → Plain (judgeState size state a)
+  judge-number : {A : Type 0} (size : ℕ) (state : List ℕ) (a : Answer A) → Plain a → Plain (judge_state size state a)
   judge-number size state (refused n) h = h
   judge-number size state (done a) h = plain ((ltb (length state) size, A.short) ∷ []) refl (done a) holds.of_zero
 
-  unless-number : {A B : Type 0} (a : Answer A) (next : Answer B) → Plain a → Plain next → Plain (unless-refused a next)
-  unless-number (refused n) next h g = h
-  unless-number (done a) next h g = g
+  unless_number : {A B : Type 0} (a : Answer A) (next : Answer B) → Plain a → Plain next → Plain (unless_refused a next)
+  unless_number (refused n) next h g = h
+  unless_number (done a) next h g = g
 
   -- ---- the calls
 
-  pub loop-number : (k speed loop-ms : ℕ) → Plain (loopTime k speed loop-ms)
-  unfolding loopTime
-  loop-number k speed loop-ms =
+  pub loop_number : (k speed loop_ms : ℕ) → Plain (loop_time k speed loop_ms)
+  unfolding loop_time
+  loop_number k speed loop_ms =
       plain
-      ((not (isLength k), A.block) ∷ (not (isSpeed speed), Refusals.speed)
-      ∷ (not (hasEntry k speed) || ltb (longestLoop k speed) loop-ms, Refusals.loop-time) ∷ [])
+      ((not (is_length k), A.block) ∷ (not (is_speed speed), Refusals.speed)
+      ∷ (not (has_entry k speed) || ltb (longest_loop k speed) loop_ms, Refusals.loop_time_lem) ∷ [])
       refl (done tt) holds.of_zero
 
-  pub build-number : (k service : ℕ) (payload slice : List ℕ) → Plain (buildBlock k service payload slice)
-  unfolding buildBlock
-  build-number k service payload slice =
+  pub build_number : (k service : ℕ) (payload slice : List ℕ) → Plain (build_block k service payload slice)
+  unfolding build_block
+  build_number k service payload slice =
       plain
-      ((not (isLength k), A.block) ∷ (ltb 15 service, A.spoiled)
-      ∷ (tooShort payload k || tooShort slice (blockLength k), A.short) ∷ [])
+      ((not (is_length k), A.block) ∷ (ltb 15 service, A.spoiled)
+      ∷ (too_short payload k || too_short slice (block_length k), A.short) ∷ [])
       refl (done tt) holds.of_zero
 
-  pub read_number : (k : ℕ) (slice payload : List ℕ) → By readNumber (readBlock k slice payload)
-  unfolding readBlock
+  pub read_number : (k : ℕ) (slice payload : List ℕ) → By read_number (read_block k slice payload)
+  unfolding read_block
   read_number k slice payload =
-      let v = verdict (take (blockLength k) (bits_of slice)) in
-      in-turn (By readNumber) isInUse holds.of-refusal
-      ((not (isLength k), A.block) ∷ (tooShort slice (blockLength k) || tooShort payload k, A.short) ∷ [])
-      refl (done v) (holds.of_other _ (verdict-word v))
+      let v = verdict (take (block_length k) (bits_of slice)) in
+      in_turn (By read_number) is_in_use holds.of_refusal
+      ((not (is_length k), A.block) ∷ (too_short slice (block_length k) || too_short payload k, A.short) ∷ [])
+      refl (done v) (holds.of_other _ (verdict_word v))
 
-  pub open-sender-number : (k speed loop-ms L : ℕ) (size : CodeSize) (order state : List ℕ)
-      → Plain (openSenderIn k speed loop-ms L size order state)
-  unfolding openSenderIn openSender
-  open-sender-number k speed loop-ms L size order state =
-      judge-number senderSize state (openSender k speed loop-ms L size order)
-      (unless-number (loopTime k speed loop-ms) _ (loop-number k speed loop-ms)
+  pub open_sender-number : (k speed loop_ms L : ℕ) (size : CodeSize) (order state : List ℕ)
+      → Plain (open_sender_in k speed loop_ms L size order state)
+  unfolding open_sender_in open_sender
+  open_sender-number k speed loop_ms L size order state =
+      judge-number sender_size state (open_sender k speed loop_ms L size order)
+      (unless_number (loop_time k speed loop_ms) _ (loop_number k speed loop_ms)
       (plain
-      ((eqb L 0, Refusals.empty) ∷ (ltb longestOrder L, Refusals.long) ∷ (not (marksInRange (marksOf size)), Refusals.code-size)
-      ∷ (tooShort order L, A.short) ∷ [])
-      refl (done (freshSender k L (marksOf size))) holds.of_zero))
+      ((eqb L 0, Refusals.empty) ∷ (ltb longest_order L, Refusals.long) ∷ (not (marks_in_range (marks_of size)), Refusals.code_size)
+      ∷ (too_short order L, A.short) ∷ [])
+      refl (done (fresh_sender k L (marks_of size))) holds.of_zero))
 
-  sender-number : (state : List ℕ) → Plain (senderOf state)
-  unfolding senderOf
-  sender-number state = plain ((not (holdsSender state), A.spoiled) ∷ []) refl (done (senderIn state)) holds.of_zero
+  sender_number : (state : List ℕ) → Plain (sender_of state)
+  unfolding sender_of
+  sender_number state = plain ((not (holds_sender state), A.spoiled) ∷ []) refl (done (sender_in state)) holds.of_zero
 
   sent-number : (order : List ℕ) (reading : Bool) (slice : List ℕ) (a : Answer Sender) → Plain a
-      → By sentWord (sendIn order reading slice a)
+      → By sent_word (send_in order reading slice a)
   unfolding send
   sent-number order reading slice (refused n) h = h
   sent-number order reading slice (done s) h =
       let b = (transmit s s.next reading).block in
-      in-turn (By sentWord) isInUse holds.of-refusal
-      ((not (senderInRange s), A.spoiled) ∷ (s.finished || gaveUp s, Refusals.rest)
-      ∷ (tooShort order s.setup.length || tooShort slice (blockLength s.setup.k), A.short) ∷ [])
-      refl (done b) (holds.of_other _ (sent_word b))
+      in_turn (By sent_word) is_in_use holds.of_refusal
+      ((not (sender_in_range s), A.spoiled) ∷ (s.finished || gave_up s, Refusals.rest)
+      ∷ (too_short order s.setup.length || too_short slice (block_length s.setup.k), A.short) ∷ [])
+      refl (done b) (holds.of_other _ (sent_word_lem b))
 
-  pub send-number : (state order : List ℕ) (reading : Bool) (slice : List ℕ) → By sentWord (sendIn order reading slice (senderOf state))
-  send-number state order reading slice = sent-number order reading slice (senderOf state) (sender-number state)
+  pub send-number : (state order : List ℕ) (reading : Bool) (slice : List ℕ) → By sent_word (send_in order reading slice (sender_of state))
+  send-number state order reading slice = sent-number order reading slice (sender_of state) (sender_number state)
 
-  pub open-receiver-number : (k : ℕ) (size : CodeSize) (state : List ℕ) → Plain (openReceiverIn k size state)
-  unfolding openReceiverIn openReceiver
-  open-receiver-number k size state =
-      judge-number receiverSize state (openReceiver k size)
-      (plain ((not (isLength k), A.block) ∷ (not (marksInRange (marksOf size)), Refusals.code-size) ∷ []) refl (done tt) holds.of_zero)
+  pub open_receiver-number : (k : ℕ) (size : CodeSize) (state : List ℕ) → Plain (open_receiver_in k size state)
+  unfolding open_receiver_in open_receiver
+  open_receiver-number k size state =
+      judge-number receiver_size state (open_receiver k size)
+      (plain ((not (is_length k), A.block) ∷ (not (marks_in_range (marks_of size)), Refusals.code_size) ∷ []) refl (done tt) holds.of_zero)
 
-  abbrev receptionNumber : Answer Reception → ℕ
-  receptionNumber a = reportNumber (reported a)
+  abbrev reception_number : Answer Reception → ℕ
+  reception_number a = report_number (reported a)
 
-  receiver-number : (state : List ℕ) → Plain (receiverOf state)
-  unfolding receiverOf
-  receiver-number state = plain ((not (holdsReceiver state), A.spoiled) ∷ []) refl (done (receiverIn state)) holds.of_zero
+  receiver_number : (state : List ℕ) → Plain (receiver_of state)
+  unfolding receiver_of
+  receiver_number state = plain ((not (holds_receiver state), A.spoiled) ∷ []) refl (done (receiver_in state)) holds.of_zero
 
-  received-number : (line : List ℕ) (count : ℕ) (ready : Bool) (store : List ℕ) (a : Answer Receiver) → Plain a
-      → By receptionNumber (receiveIn line count ready store a)
+  received_number : (line : List ℕ) (count : ℕ) (ready : Bool) (store : List ℕ) (a : Answer Receiver) → Plain a
+      → By reception_number (receive_in line count ready store a)
   unfolding receive
-  received-number line count ready store (refused n) h = h
-  received-number line count ready store (done s) h =
+  received_number line count ready store (refused n) h = h
+  received_number line count ready store (done s) h =
       let x = reception s (take count (bits_of line)) count ready in
-      in-turn (By receptionNumber) isInUse holds.of-refusal
-      ((not (receiverInRange s), A.spoiled) ∷ (tooShort line count, A.short)
-      ∷ ((meaning x.rule).stores && tooShort store (s.taken * s.setup.k + s.setup.k), A.short) ∷ [])
-      refl (done x) (holds.of_other _ (event-word (meaning x.rule).event))
+      in_turn (By reception_number) is_in_use holds.of_refusal
+      ((not (receiver_in_range s), A.spoiled) ∷ (too_short line count, A.short)
+      ∷ ((meaning x.rule).stores && too_short store (s.taken * s.setup.k + s.setup.k), A.short) ∷ [])
+      refl (done x) (holds.of_other _ (event_word (meaning x.rule).event))
 
   pub receive-number : (state line : List ℕ) (count : ℕ) (ready : Bool) (store : List ℕ)
-      → By receptionNumber (receiveIn line count ready store (receiverOf state))
-  receive-number state line count ready store = received-number line count ready store (receiverOf state) (receiver-number state)
+      → By reception_number (receive_in line count ready store (receiver_of state))
+  receive-number state line count ready store = received_number line count ready store (receiver_of state) (receiver_number state)
 
-  pub write-tint-number : (numbers : List ℕ) (count : ℕ) (slice : List ℕ) → Plain (writeTint numbers count slice)
-  unfolding writeTint judgeCounted judgeDoses
-  write-tint-number numbers count slice =
-      let ds = dosesHeld numbers count in
+  pub write_tint-number : (numbers : List ℕ) (count : ℕ) (slice : List ℕ) → Plain (write_tint numbers count slice)
+  unfolding write_tint judge_counted judge_doses
+  write_tint-number numbers count slice =
+      let ds = doses_held numbers count in
       plain
-      ((eqb count 0, Tint.format) ∷ (ltb canisters count, Tint.entry) ∷ (not (inRangeAndOrder 0 ds), Tint.entry)
-      ∷ (ltb mostTotal (total ds), Tint.steps)
-      ∷ (ltb (length numbers) (count * 2) || ltb (length slice) (length (orderBytes ds)), A.short) ∷ [])
-      refl (done (orderBytes ds)) holds.of_zero
+      ((eqb count 0, Tint.format) ∷ (ltb canisters count, Tint.entry) ∷ (not (in_range_and_order 0 ds), Tint.entry)
+      ∷ (ltb most_total (total ds), Tint.steps)
+      ∷ (ltb (length numbers) (count * 2) || ltb (length slice) (length (order_bytes ds)), A.short) ∷ [])
+      refl (done (order_bytes ds)) holds.of_zero
 
-  order-number : (order : List ℕ) → Plain (read order)
-  unfolding read judgeDoses
-  order-number order =
-      let ds = dosesIn (drop 3 order) in
+  order_number : (order : List ℕ) → Plain (read order)
+  unfolding read judge_doses
+  order_number order =
+      let ds = doses_in (drop 3 order) in
       plain
-      ((not (isFormat order), Tint.format) ∷ (not (inRangeAndOrder 0 ds), Tint.entry) ∷ (ltb mostTotal (total ds), Tint.steps) ∷ [])
+      ((not (is_format order), Tint.format) ∷ (not (in_range_and_order 0 ds), Tint.entry) ∷ (ltb most_total (total ds), Tint.steps) ∷ [])
       refl (done ds) holds.of_zero
 
-  room-number : (numbers : List ℕ) (a : Answer (List Dose)) → Plain a → Plain (judgeRoom numbers a)
+  room-number : (numbers : List ℕ) (a : Answer (List Dose)) → Plain a → Plain (judge_room numbers a)
   room-number numbers (refused n) h = h
-  room-number numbers (done ds) h = plain ((ltb (length numbers) (length (numbersOf ds)), A.short) ∷ []) refl (done ds) holds.of_zero
+  room-number numbers (done ds) h = plain ((ltb (length numbers) (length (numbers_of ds)), A.short) ∷ []) refl (done ds) holds.of_zero
 
-  pub read-tint-number : (order numbers : List ℕ) → Plain (readTint order numbers)
-  unfolding readTint
-  read-tint-number order numbers = room-number numbers (read order) (order-number order)
+  pub read_tint-number : (order numbers : List ℕ) → Plain (read_tint order numbers)
+  unfolding read_tint
+  read_tint-number order numbers = room-number numbers (read order) (order_number order)
 
-  pub noise-number : (k first second : ℕ) (slice : List ℕ) → By (λ a. noiseWord (reportOf a)) (loadIn k first second slice)
-  unfolding loadBlock
-  noise-number k first second slice =
-      let l : Load = load (blockLength k) (generatorOf first second) in
-      in-turn (By (λ a. noiseWord (reportOf a))) isInUse holds.of-refusal
-      ((not (isLength k), A.block) ∷ (eqb first 0, Noise.generator) ∷ (tooShort slice (blockLength k), A.short) ∷ [])
-      refl (done l) (holds.of_other _ (noise-word (ones (binary 16 l.pattern)) l.turned))
+  pub noise_number : (k first second : ℕ) (slice : List ℕ) → By (λ a. noise_word (report_of a)) (load_in k first second slice)
+  unfolding load_block
+  noise_number k first second slice =
+      let l : Load = load (block_length k) (generator_of first second) in
+      in_turn (By (λ a. noise_word (report_of a))) is_in_use holds.of_refusal
+      ((not (is_length k), A.block) ∷ (eqb first 0, Noise.generator) ∷ (too_short slice (block_length k), A.short) ∷ [])
+      refl (done l) (holds.of_other _ (noise_word_lem (ones (binary 16 l.pattern)) l.turned))
 
   -- the two queries: refused by 7 alone
   abbrev Query : ℕ → Type 0
   Query n = P (eqb n A.spoiled) n
 
-  rest-word : (s : Sender) → Query (restIn (done s))
-  rest-word s =
-      cond-case Query (senderInRange s)
-      (λ e. cond-case Query s.finished (λ e. holds.of_other finishedNumber (omega arith))
-      (λ e. cond-case Query (gaveUp s) (λ e. holds.of_other gaveUpNumber (omega arith)) (λ e. holds.of_other goingOnNumber (omega arith))))
-      (λ e. holds.of-refusal A.spoiled refl)
+  rest_word : (s : Sender) → Query (rest_in (done s))
+  rest_word s =
+      cond_case Query (sender_in_range s)
+      (λ e. cond_case Query s.finished (λ e. holds.of_other finished_number (omega arith))
+      (λ e. cond_case Query (gave_up s) (λ e. holds.of_other gave_up_number (omega arith)) (λ e. holds.of_other going_on_number (omega arith))))
+      (λ e. holds.of_refusal A.spoiled refl)
 
-  pub rest-number : (state : List ℕ) → Query (restIn (senderOf state))
-  unfolding senderOf
+  pub rest-number : (state : List ℕ) → Query (rest_in (sender_of state))
+  unfolding sender_of
   rest-number state =
-      cond-case (λ (a : Answer Sender). Query (restIn a)) (not (holdsSender state)) (λ e. holds.of-refusal A.spoiled refl)
-      (λ e. rest-word (senderIn state))
+      cond_case (λ (a : Answer Sender). Query (rest_in a)) (not (holds_sender state)) (λ e. holds.of_refusal A.spoiled refl)
+      (λ e. rest_word (sender_in state))
 
-  return-word : (back : Bool) → Query (returnNumber back)
-  return-word true = holds.of_other (returnNumber true) (omega arith)
-  return-word false = holds.of_other (returnNumber false) (omega arith)
+  return_word : (back : Bool) → Query (return_number back)
+  return_word true = holds.of_other (return_number true) (omega arith)
+  return_word false = holds.of_other (return_number false) (omega arith)
 
-  pub back-number : (state : List ℕ) → Query (back_in (receiverOf state))
-  unfolding receiverOf
-  back-number state =
-      cond-case (λ (a : Answer Receiver). Query (back_in a)) (not (holdsReceiver state)) (λ e. holds.of-refusal A.spoiled refl)
-      (λ e. cond-case Query (receiverInRange (receiverIn state)) (λ e. return-word (receiverIn state).back)
-      (λ e. holds.of-refusal A.spoiled refl))
+  pub back_number : (state : List ℕ) → Query (back_in (receiver_of state))
+  unfolding receiver_of
+  back_number state =
+      cond_case (λ (a : Answer Receiver). Query (back_in a)) (not (holds_receiver state)) (λ e. holds.of_refusal A.spoiled refl)
+      (λ e. cond_case Query (receiver_in_range (receiver_in state)) (λ e. return_word (receiver_in state).back)
+      (λ e. holds.of_refusal A.spoiled refl))

@@ -8,10 +8,10 @@ use native.Mathlib.Omega.{arith}
 use lib.ListN.{length, drop, get_or, length-append}
 use lib.Seq.{drop-cons, take_at, drop-append-add, sets, sets-eq}
 use Rattle.line.specs.declared.marks.Marks.{Marks}
-use Rattle.line_c.specs.State.{word_bytes, headSize, headBytes, marksSize, marksBytes}
+use Rattle.line_c.specs.State.{word_bytes, head_size, head_bytes, marks_size, marks_bytes}
 
-pub add-three : (n : ℕ) → n + 3 ≡ suc (suc (suc n))
-add-three n = omega arith
+pub add_three : (n : ℕ) → n + 3 ≡ suc (suc (suc n))
+add_three n = omega arith
 
 pub two : (s : List ℕ) (at : ℕ) → at + 2 ≤ length s → drop at s ≡ get_or s at 0 ∷ get_or s (at + 1) 0 ∷ drop (at + 2) s
 two s at h =
@@ -36,15 +36,15 @@ stored p l new at n h =
 
 -- ---- the head and the marks
 
-pub length-head : (x y z d a b c : ℕ) → length (headBytes x y z d a b c) ≡ headSize
-unfolding headBytes word_bytes
-length-head x y z d a b c = refl
+pub length_head : (x y z d a b c : ℕ) → length (head_bytes x y z d a b c) ≡ head_size
+unfolding head_bytes word_bytes
+length_head x y z d a b c = refl
 
-pub length-marks : (m : Marks) → length (marksBytes m) ≡ marksSize
-unfolding marksBytes
-length-marks m = refl
+pub length_marks : (m : Marks) → length (marks_bytes m) ≡ marks_size
+unfolding marks_bytes
+length_marks m = refl
 
-pub marks-stored : (p l : List ℕ) (m : Marks) (at : ℕ) → length p ≡ at → marksSize ≤ length l
-    → sets (p ++ l) at (marksBytes m) ≡ p ++ (marksBytes m ++ drop marksSize l)
-unfolding marksBytes
-marks-stored p l m at n h = stored p l (marksBytes m) at n h
+pub marks_stored : (p l : List ℕ) (m : Marks) (at : ℕ) → length p ≡ at → marks_size ≤ length l
+    → sets (p ++ l) at (marks_bytes m) ≡ p ++ (marks_bytes m ++ drop marks_size l)
+unfolding marks_bytes
+marks_stored p l m at n h = stored p l (marks_bytes m) at n h

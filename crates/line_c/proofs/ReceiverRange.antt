@@ -9,41 +9,41 @@ use borrow.Author.Tests.{ltb-true, leb-true, not-false}
 use lib.Dec.{eqb, leb, ltb}
 use lib.ListN.{length, take, length-append, length-drop, length-take}
 use Rattle.crc.specs.Bits.{Bits, bits_of}
-use Rattle.crc.proofs.Bytes.{length-bytesOf}
+use Rattle.crc.proofs.Bytes.{length-bytes_of}
 use Rattle.block.specs.Answer as A
 use Rattle.block.specs.Answer.{done}
-use Rattle.block.specs.Lengths.{isLength, blockLength}
-use Rattle.block.proofs.Lengths.{length-facts}
-use Rattle.block.proofs.Truth.{cond-case}
-use Rattle.block.proofs.Refusals.{passed-test}
-use Rattle.line.specs.Marks.{marksOf}
-use Rattle.line.specs.Receiving.{arrayBytes, freshReceiver, openReceiver, Rule, unfinished, standing, sequence-found, sync-block, check-fails, accepts, previous, out-of-sequence, ends, wrong-length, ends-again, anything-else, waits, blockRule, blank, lastBad, afterBad, after, heldBits, Reception, latest, isSequence, search, underAlarm, holding, missing, finishedRow, inStep, byPhase, reception, heldInRange, receiverInRange, receive}
+use Rattle.block.specs.Lengths.{is_length, block_length}
+use Rattle.block.proofs.Lengths.{length_facts}
+use Rattle.block.proofs.Truth.{cond_case}
+use Rattle.block.proofs.Refusals.{passed_test}
+use Rattle.line.specs.Marks.{marks_of}
+use Rattle.line.specs.Receiving.{array_bytes, fresh_receiver, open_receiver, Rule, unfinished, standing, sequence_found, sync_block_lem, check_fails, accepts, previous, out_of_sequence, ends, wrong_length, ends_again, anything_else, waits, block_rule, blank, last_bad, after_bad, after, held_bits, Reception, latest, is_sequence, search, under_alarm, holding, missing, finished_row, in_step, by_phase, reception, held_in_range, receiver_in_range, receive}
 use Rattle.line.specs.declared.marks.CodeSize.{CodeSize}
 use Rattle.line.specs.declared.receiver.Receiver.{Receiver}
 use Rattle.line.specs.declared.receiving.Phase.{Phase}
 use Rattle.line.specs.declared.receiving.Phase.TheVariants as P
-use Rattle.line.proofs.Delivery.WrittenBits.{length-zeroArray}
+use Rattle.line.proofs.Delivery.WrittenBits.{length-zero_array}
 use Rattle.line.proofs.Delivery.SearchAnyBits.{length-latest}
-use Rattle.line.proofs.ReceivingCall.{InRange, in-range, held-search, heard}
+use Rattle.line.proofs.ReceivingCall.{InRange, in_range, held_search, heard}
 use Rattle.line_c.specs.State.{ReceiverFits}
 
 -- ---- a state in range
 
-held_small : (p : Phase) (n held : ℕ) → n ≤ 3860 → heldInRange p n held ≡ true → held < 2 ^ 32
+held_small : (p : Phase) (n held : ℕ) → n ≤ 3860 → held_in_range p n held ≡ true → held < 2 ^ 32
 held_small P.Search n held g h = omega (arith, leb-true held 15 h)
 held_small P.InStep n held g h = omega (arith, ltb-true held n h)
 held_small P.SequenceAlarm n held g h = omega (arith, ltb-true held n h)
 held_small P.LengthAlarm n held g h = omega (arith, ltb-true held n h)
 
-pub receiver-fits : (s : Receiver) → receiverInRange s ≡ true → length s.bits ≡ arrayBytes → ReceiverFits s
-receiver-fits s h b =
-    let r = in-range s h in
-    let k = length-facts s.setup.k r.known in
+pub receiver_fits : (s : Receiver) → receiver_in_range s ≡ true → length s.bits ≡ array_bytes → ReceiverFits s
+receiver_fits s h b =
+    let r = in_range s h in
+    let k = length_facts s.setup.k r.known in
     record {
       k = omega arith;
-      held = held_small s.phase (blockLength s.setup.k) s.held (omega arith) r.held;
+      held = held_small s.phase (block_length s.setup.k) s.held (omega arith) r.held;
       taken = omega (arith, r.taken);
-      bad-row = omega (arith, r.bad-row);
+      bad_row = omega (arith, r.bad_row);
       bits = b;
     }
 
@@ -53,92 +53,92 @@ abbrev Fits : Reception → Type 0
 Fits x = ReceiverFits x.state
 
 module _ (s : Receiver) (r : InRange s) (f : ReceiverFits s) where
-  blank-fits : (bad-row : ℕ) (back : Bool) (taken : ℕ) (ended : Bool) (phase : Phase) → bad-row ≤ 8 → taken ≤ s.taken + 1
-      → ReceiverFits (blank s bad-row back taken ended phase)
-  blank-fits bad-row back taken ended phase h g =
+  blank_fits : (bad_row : ℕ) (back : Bool) (taken : ℕ) (ended : Bool) (phase : Phase) → bad_row ≤ 8 → taken ≤ s.taken + 1
+      → ReceiverFits (blank s bad_row back taken ended phase)
+  blank_fits bad_row back taken ended phase h g =
       record {
         k = f.k;
         held = omega arith;
         taken = omega (arith, r.taken);
-        bad-row = omega arith;
-        bits = length-zeroArray;
+        bad_row = omega arith;
+        bits = length-zero_array;
       }
 
-  afterBad-fits : (search : Bool) → ReceiverFits (afterBad s search)
-  afterBad-fits true = blank-fits 0 true s.taken s.ended P.Search (omega arith) (omega arith)
-  afterBad-fits false = blank-fits (s.bad_row + 1) true s.taken s.ended P.InStep (omega (arith, r.bad-row)) (omega arith)
+  after_bad_fits : (search : Bool) → ReceiverFits (after_bad s search)
+  after_bad_fits true = blank_fits 0 true s.taken s.ended P.Search (omega arith) (omega arith)
+  after_bad_fits false = blank_fits (s.bad_row + 1) true s.taken s.ended P.InStep (omega (arith, r.bad_row)) (omega arith)
 
-  after-fits : (rule : Rule) → ReceiverFits (after s rule)
-  after-fits unfinished = f
-  after-fits (standing alarm) = f
-  after-fits sequence-found = blank-fits 0 false s.taken s.ended P.InStep (omega arith) (omega arith)
-  after-fits sync-block = blank-fits 0 false s.taken s.ended P.InStep (omega arith) (omega arith)
-  after-fits (check-fails n) = afterBad-fits (leb lastBad (s.bad_row + 1))
-  after-fits accepts = blank-fits 0 false (s.taken + 1) s.ended P.InStep (omega arith) (omega arith)
-  after-fits previous = blank-fits 0 false s.taken s.ended P.InStep (omega arith) (omega arith)
-  after-fits out-of-sequence = blank-fits 0 true s.taken s.ended P.SequenceAlarm (omega arith) (omega arith)
-  after-fits (ends L) = blank-fits 0 false s.taken true P.InStep (omega arith) (omega arith)
-  after-fits wrong-length = blank-fits 0 true s.taken s.ended P.LengthAlarm (omega arith) (omega arith)
-  after-fits ends-again = blank-fits 0 false s.taken s.ended P.InStep (omega arith) (omega arith)
-  after-fits anything-else = afterBad-fits (leb lastBad (s.bad_row + 1) || eqb s.taken 0)
-  after-fits waits = blank-fits 0 true s.taken s.ended P.InStep (omega arith) (omega arith)
+  after_fits : (rule : Rule) → ReceiverFits (after s rule)
+  after_fits unfinished = f
+  after_fits (standing alarm) = f
+  after_fits sequence_found = blank_fits 0 false s.taken s.ended P.InStep (omega arith) (omega arith)
+  after_fits sync_block_lem = blank_fits 0 false s.taken s.ended P.InStep (omega arith) (omega arith)
+  after_fits (check_fails n) = after_bad_fits (leb last_bad (s.bad_row + 1))
+  after_fits accepts = blank_fits 0 false (s.taken + 1) s.ended P.InStep (omega arith) (omega arith)
+  after_fits previous = blank_fits 0 false s.taken s.ended P.InStep (omega arith) (omega arith)
+  after_fits out_of_sequence = blank_fits 0 true s.taken s.ended P.SequenceAlarm (omega arith) (omega arith)
+  after_fits (ends L) = blank_fits 0 false s.taken true P.InStep (omega arith) (omega arith)
+  after_fits wrong_length = blank_fits 0 true s.taken s.ended P.LengthAlarm (omega arith) (omega arith)
+  after_fits ends_again = blank_fits 0 false s.taken s.ended P.InStep (omega arith) (omega arith)
+  after_fits anything_else = after_bad_fits (leb last_bad (s.bad_row + 1) || eqb s.taken 0)
+  after_fits waits = blank_fits 0 true s.taken s.ended P.InStep (omega arith) (omega arith)
 
   -- ---- in search
 
-  search-fits : (new window : Bits) (used : ℕ) → length window ≤ 15 → ReceiverFits (search s window new used).state
-  search-fits [] window used h =
+  search_fits : (new window : Bits) (used : ℕ) → length window ≤ 15 → ReceiverFits (search s window new used).state
+  search_fits [] window used h =
       record {
         k = f.k;
         held = omega arith;
         taken = f.taken;
-        bad-row = f.bad-row;
-        bits = simp (length-append, length-bytesOf, length-drop, f.bits);
+        bad_row = f.bad_row;
+        bits = simp (length-append, length-bytes_of, length-drop, f.bits);
       }
-  search-fits (b ∷ bs) window used h =
-      cond-case Fits (isSequence (window ++ (b ∷ []))) (λ e. after-fits sequence-found)
-      (λ e. search-fits bs (latest (window ++ (b ∷ []))) (suc used) (length-latest (window ++ (b ∷ []))))
+  search_fits (b ∷ bs) window used h =
+      cond_case Fits (is_sequence (window ++ (b ∷ []))) (λ e. after_fits sequence_found)
+      (λ e. search_fits bs (latest (window ++ (b ∷ []))) (suc used) (length-latest (window ++ (b ∷ []))))
 
   -- ---- in step
 
-  holding-fits : (new : Bits) → length new < missing s → ReceiverFits (holding s new)
-  holding-fits new h =
-      let k = length-facts s.setup.k r.known in
-      record { k = f.k; held = omega arith; taken = f.taken; bad-row = f.bad-row; bits = length-bytesOf arrayBytes _ }
+  holding_fits : (new : Bits) → length new < missing s → ReceiverFits (holding s new)
+  holding_fits new h =
+      let k = length_facts s.setup.k r.known in
+      record { k = f.k; held = omega arith; taken = f.taken; bad_row = f.bad_row; bits = length-bytes_of array_bytes _ }
 
-  step_fits : (new : Bits) (ready : Bool) → ReceiverFits (inStep s new ready).state
-  unfolding inStep
+  step_fits : (new : Bits) (ready : Bool) → ReceiverFits (in_step s new ready).state
+  unfolding in_step
   step_fits new ready =
-      cond-case Fits (ltb (length new) (missing s)) (λ e. holding-fits new (ltb-true (length new) (missing s) e))
-      (λ e. after-fits (blockRule s (finishedRow s new) ready))
+      cond_case Fits (ltb (length new) (missing s)) (λ e. holding_fits new (ltb-true (length new) (missing s) e))
+      (λ e. after_fits (block_rule s (finished_row s new) ready))
 
   -- ---- by the phase
 
-  underAlarm-fits : ReceiverFits (underAlarm s)
-  underAlarm-fits = record { k = f.k; held = f.held; taken = f.taken; bad-row = omega arith; bits = f.bits }
+  under_alarm_fits : ReceiverFits (under_alarm s)
+  under_alarm_fits = record { k = f.k; held = f.held; taken = f.taken; bad_row = omega arith; bits = f.bits }
 
-  byPhase-fits : (p : Phase) → s.phase ≡ p → (new : Bits) (ready : Bool) → ReceiverFits (byPhase s p new ready).state
-  byPhase-fits P.Search e new ready =
-      let h = held-search s r e in
-      search-fits new (heldBits s) 0 (simp length-take (omega arith))
-  byPhase-fits P.InStep e new ready = step_fits new ready
-  byPhase-fits P.SequenceAlarm e new ready = underAlarm-fits
-  byPhase-fits P.LengthAlarm e new ready = underAlarm-fits
+  by_phase_fits : (p : Phase) → s.phase ≡ p → (new : Bits) (ready : Bool) → ReceiverFits (by_phase s p new ready).state
+  by_phase_fits P.Search e new ready =
+      let h = held_search s r e in
+      search_fits new (held_bits s) 0 (simp length-take (omega arith))
+  by_phase_fits P.InStep e new ready = step_fits new ready
+  by_phase_fits P.SequenceAlarm e new ready = under_alarm_fits
+  by_phase_fits P.LengthAlarm e new ready = under_alarm_fits
 
-  reception-fits : (new : Bits) (count : ℕ) (ready : Bool) → ReceiverFits (reception s new count ready).state
+  reception_fits : (new : Bits) (count : ℕ) (ready : Bool) → ReceiverFits (reception s new count ready).state
   unfolding reception
-  reception-fits new count ready = cond-case Fits (eqb count 0) (λ e. f) (λ e. byPhase-fits s.phase refl new ready)
+  reception_fits new count ready = cond_case Fits (eqb count 0) (λ e. f) (λ e. by_phase_fits s.phase refl new ready)
 
 -- ---- opening and a receiving call
 
-pub opened-fits : (k : ℕ) (size : CodeSize) (u : Unit {0}) → openReceiver k size ≡ done u
-    → ReceiverFits (freshReceiver k (marksOf size))
-unfolding openReceiver freshReceiver
-opened-fits k size u e =
-    let h = length-facts k (not-false (isLength k) (passed-test (not (isLength k)) A.block _ u e).0) in
-    record { k = omega arith; held = omega arith; taken = omega arith; bad-row = omega arith; bits = length-zeroArray }
+pub opened_fits : (k : ℕ) (size : CodeSize) (u : Unit {0}) → open_receiver k size ≡ done u
+    → ReceiverFits (fresh_receiver k (marks_of size))
+unfolding open_receiver fresh_receiver
+opened_fits k size u e =
+    let h = length_facts k (not-false (is_length k) (passed_test (not (is_length k)) A.block _ u e).0) in
+    record { k = omega arith; held = omega arith; taken = omega arith; bad_row = omega arith; bits = length-zero_array }
 
-pub received-fits : (s : Receiver) (line : List ℕ) (count : ℕ) (ready : Bool) (store : List ℕ) (x : Reception) → length s.bits ≡ arrayBytes
+pub received_fits : (s : Receiver) (line : List ℕ) (count : ℕ) (ready : Bool) (store : List ℕ) (x : Reception) → length s.bits ≡ array_bytes
     → receive s line count ready store ≡ done x → ReceiverFits x.state
-received-fits s line count ready store x b e =
+received_fits s line count ready store x b e =
     let h = heard s line count ready store x e in
-    rw (← h.2) (reception-fits s (in-range s h.0) (receiver-fits s h.0 b) (take count (bits_of line)) count ready)
+    rw (← h.2) (reception_fits s (in_range s h.0) (receiver_fits s h.0 b) (take count (bits_of line)) count ready)

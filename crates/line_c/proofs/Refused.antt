@@ -3,30 +3,30 @@ use mathlib.Core.Path.{◌≡◌, refl}
 use mathlib.Core.Bool.{Bool}
 use Prim.Native.Nat.{ℕ}
 use borrow.Author.Tests.{le-ltb}
-use Rattle.block.proofs.Lengths.{among-each}
-use Rattle.line_c.specs.Refused.{isRefusal, RefusalsTold}
+use Rattle.block.proofs.Lengths.{among_each}
+use Rattle.line_c.specs.Refused.{is_refusal, RefusalsTold}
 use Rattle.line_c.proofs.CallNumbers as C
-use Rattle.line_c.proofs.CallNumbers.{inUse, Numbers}
+use Rattle.line_c.proofs.CallNumbers.{in_use, Numbers}
 
 abbrev Told : Bool → ℕ → Type 0
-Told t n = isRefusal n ≡ t
+Told t n = is_refusal n ≡ t
 
 told : Numbers Told
-told = record { of-refusal = among-each isRefusal inUse refl; of_zero = refl; of_other = λ n h. rw (le-ltb n 64 h) }
+told = record { of_refusal = among_each is_refusal in_use refl; of_zero = refl; of_other = λ n h. rw (le-ltb n 64 h) }
 
-pub refusals-told : RefusalsTold
-refusals-told =
+pub refusals_told : RefusalsTold
+refusals_told =
     record {
-      loop-time = C.loop-number Told told;
-      build-block = C.build-number Told told;
+      loop_time_lem = C.loop_number Told told;
+      build_block_lem = C.build_number Told told;
       read-block = C.read_number Told told;
-      open-sender = C.open-sender-number Told told;
+      open_sender_lem = C.open_sender-number Told told;
       send = C.send-number Told told;
-      sender-rest = C.rest-number Told told;
-      open-receiver = C.open-receiver-number Told told;
+      sender_rest = C.rest-number Told told;
+      open_receiver_lem = C.open_receiver-number Told told;
       receive = C.receive-number Told told;
-      return-bit = C.back-number Told told;
-      write-tint = C.write-tint-number Told told;
-      read-tint = C.read-tint-number Told told;
-      noise = C.noise-number Told told;
+      return_bit = C.back_number Told told;
+      write_tint_lem = C.write_tint-number Told told;
+      read_tint_lem = C.read_tint-number Told told;
+      noise = C.noise_number Told told;
     }

@@ -2,26 +2,26 @@
 -- Assumes nothing.
 use Rattle.std.specs.Prelude.{◌≡◌, Bool, List, ℕ, ◌+◌, ◌*◌}
 use Rattle.block.specs.Answer.{Answer, refused, done}
-use Rattle.noise.specs.Load.{Load, Report, loadBlock, reportOf, generatorAfter, loadedBytes}
+use Rattle.noise.specs.Load.{Load, Report, load_block, report_of, generator_after, loaded_bytes}
 use Rattle.noise.specs.declared.Generator.{Generator}
-use Rattle.line_c.specs.SenderCalls.{flagWord}
+use Rattle.line_c.specs.SenderCalls.{flag_word}
 
-abbrev pub generatorOf : ℕ → ℕ → Generator
-generatorOf first second = record { first = first; second = second }
+abbrev pub generator_of : ℕ → ℕ → Generator
+generator_of first second = record { first = first; second = second }
 
 -- the word: 0x100, 0x200 if the reading is turned over, and the number of bits inverted in the upper half
-abbrev pub reportWord : ℕ → Bool → ℕ
-reportWord inverted turned = 0x100 + flagWord turned 0x200 + inverted * 65536
+abbrev pub report_word : ℕ → Bool → ℕ
+report_word inverted turned = 0x100 + flag_word turned 0x200 + inverted * 65536
 
-abbrev pub noiseWord : Answer Report → ℕ
-noiseWord (refused n) = n
-noiseWord (done r) = reportWord r.inverted r.turned
+abbrev pub noise_word : Answer Report → ℕ
+noise_word (refused n) = n
+noise_word (done r) = report_word r.inverted r.turned
 
 -- the load by the two words
-abbrev pub loadIn : ℕ → ℕ → ℕ → List ℕ → Answer Load
-loadIn k first second slice = loadBlock k (generatorOf first second) slice
+abbrev pub load_in : ℕ → ℕ → ℕ → List ℕ → Answer Load
+load_in k first second slice = load_block k (generator_of first second) slice
 
 pub record NoiseCall (k first second : ℕ) (slice : List ℕ) (result first' second' : ℕ) (slice' : List ℕ) : Type 0 where
-  pub answers : result ≡ noiseWord (reportOf (loadIn k first second slice))
-  pub hands-back : generatorOf first' second' ≡ generatorAfter (generatorOf first second) (loadIn k first second slice)
-  pub writes : slice' ≡ loadedBytes k slice (loadIn k first second slice)
+  pub answers : result ≡ noise_word (report_of (load_in k first second slice))
+  pub hands_back : generator_of first' second' ≡ generator_after (generator_of first second) (load_in k first second slice)
+  pub writes : slice' ≡ loaded_bytes k slice (load_in k first second slice)

@@ -3,21 +3,21 @@
 use Rattle.std.specs.Prelude.{◌≡◌, Bool, true, false, ◌&&◌, List, ℕ, eqb, ltb}
 use Rattle.block.specs.Answer as A
 use Rattle.block.specs.Answer.{Answer, refused, done}
-use Rattle.block.specs.Calls.{buildBlock, readBlock}
-use Rattle.line.specs.LoopTime.{loopTime}
+use Rattle.block.specs.Calls.{build_block, read_block}
+use Rattle.line.specs.LoopTime.{loop_time}
 use Rattle.line.specs.Receiving.{reported}
 use Rattle.line.specs.declared.marks.CodeSize.{CodeSize}
-use Rattle.noise.specs.Load.{reportOf}
-use Rattle.line_c.specs.State.{senderOf, receiverOf}
-use Rattle.line_c.specs.BlockCalls.{refusal, readNumber}
-use Rattle.line_c.specs.SenderCalls.{openSenderIn, sendIn, sentWord, restIn}
-use Rattle.line_c.specs.ReceiverCalls.{openReceiverIn, receiveIn, reportNumber, back_in}
-use Rattle.line_c.specs.TintCalls.{writeTint, readTint}
-use Rattle.line_c.specs.NoiseCalls.{noiseWord, loadIn}
+use Rattle.noise.specs.Load.{report_of}
+use Rattle.line_c.specs.State.{sender_of, receiver_of}
+use Rattle.line_c.specs.BlockCalls.{refusal, read_number}
+use Rattle.line_c.specs.SenderCalls.{open_sender_in, send_in, sent_word, rest_in}
+use Rattle.line_c.specs.ReceiverCalls.{open_receiver_in, receive_in, report_number, back_in}
+use Rattle.line_c.specs.TintCalls.{write_tint, read_tint}
+use Rattle.line_c.specs.NoiseCalls.{noise_word, load_in}
 
 -- 1 to 63
-abbrev pub isRefusal : ℕ → Bool
-isRefusal n = ltb n 64 && ltb 0 n
+abbrev pub is_refusal : ℕ → Bool
+is_refusal n = ltb n 64 && ltb 0 n
 
 abbrev pub is_refused : {A : Type 0} → Answer A → Bool
 is_refused (refused n) = true
@@ -25,25 +25,25 @@ is_refused (done a) = false
 
 -- the number that each call returns, as its promise gives it; the two queries are refused by 7 alone
 pub record RefusalsTold : Type 0 where
-  pub loop-time : (k speed loop-ms : ℕ) → isRefusal (refusal (loopTime k speed loop-ms)) ≡ is_refused (loopTime k speed loop-ms)
-  pub build-block : (k service : ℕ) (payload slice : List ℕ)
-      → isRefusal (refusal (buildBlock k service payload slice)) ≡ is_refused (buildBlock k service payload slice)
+  pub loop_time_lem : (k speed loop_ms : ℕ) → is_refusal (refusal (loop_time k speed loop_ms)) ≡ is_refused (loop_time k speed loop_ms)
+  pub build_block_lem : (k service : ℕ) (payload slice : List ℕ)
+      → is_refusal (refusal (build_block k service payload slice)) ≡ is_refused (build_block k service payload slice)
   pub read-block : (k : ℕ) (slice payload : List ℕ)
-      → isRefusal (readNumber (readBlock k slice payload)) ≡ is_refused (readBlock k slice payload)
-  pub open-sender : (k speed loop-ms L : ℕ) (size : CodeSize) (order state : List ℕ)
-      → isRefusal (refusal (openSenderIn k speed loop-ms L size order state))
-      ≡ is_refused (openSenderIn k speed loop-ms L size order state)
+      → is_refusal (read_number (read_block k slice payload)) ≡ is_refused (read_block k slice payload)
+  pub open_sender_lem : (k speed loop_ms L : ℕ) (size : CodeSize) (order state : List ℕ)
+      → is_refusal (refusal (open_sender_in k speed loop_ms L size order state))
+      ≡ is_refused (open_sender_in k speed loop_ms L size order state)
   pub send : (state order : List ℕ) (reading : Bool) (slice : List ℕ)
-      → isRefusal (sentWord (sendIn order reading slice (senderOf state))) ≡ is_refused (sendIn order reading slice (senderOf state))
-  pub sender-rest : (state : List ℕ) → isRefusal (restIn (senderOf state)) ≡ eqb (restIn (senderOf state)) A.spoiled
-  pub open-receiver : (k : ℕ) (size : CodeSize) (state : List ℕ)
-      → isRefusal (refusal (openReceiverIn k size state)) ≡ is_refused (openReceiverIn k size state)
+      → is_refusal (sent_word (send_in order reading slice (sender_of state))) ≡ is_refused (send_in order reading slice (sender_of state))
+  pub sender_rest : (state : List ℕ) → is_refusal (rest_in (sender_of state)) ≡ eqb (rest_in (sender_of state)) A.spoiled
+  pub open_receiver_lem : (k : ℕ) (size : CodeSize) (state : List ℕ)
+      → is_refusal (refusal (open_receiver_in k size state)) ≡ is_refused (open_receiver_in k size state)
   pub receive : (state line : List ℕ) (count : ℕ) (ready : Bool) (store : List ℕ)
-      → isRefusal (reportNumber (reported (receiveIn line count ready store (receiverOf state))))
-      ≡ is_refused (receiveIn line count ready store (receiverOf state))
-  pub return-bit : (state : List ℕ) → isRefusal (back_in (receiverOf state)) ≡ eqb (back_in (receiverOf state)) A.spoiled
-  pub write-tint : (numbers : List ℕ) (count : ℕ) (slice : List ℕ)
-      → isRefusal (refusal (writeTint numbers count slice)) ≡ is_refused (writeTint numbers count slice)
-  pub read-tint : (order numbers : List ℕ) → isRefusal (refusal (readTint order numbers)) ≡ is_refused (readTint order numbers)
+      → is_refusal (report_number (reported (receive_in line count ready store (receiver_of state))))
+      ≡ is_refused (receive_in line count ready store (receiver_of state))
+  pub return_bit : (state : List ℕ) → is_refusal (back_in (receiver_of state)) ≡ eqb (back_in (receiver_of state)) A.spoiled
+  pub write_tint_lem : (numbers : List ℕ) (count : ℕ) (slice : List ℕ)
+      → is_refusal (refusal (write_tint numbers count slice)) ≡ is_refused (write_tint numbers count slice)
+  pub read_tint_lem : (order numbers : List ℕ) → is_refusal (refusal (read_tint order numbers)) ≡ is_refused (read_tint order numbers)
   pub noise : (k first second : ℕ) (slice : List ℕ)
-      → isRefusal (noiseWord (reportOf (loadIn k first second slice))) ≡ is_refused (loadIn k first second slice)
+      → is_refusal (noise_word (report_of (load_in k first second slice))) ≡ is_refused (load_in k first second slice)

@@ -1,8 +1,8 @@
 -- The ends' states in bytes that the caller lends: the two layouts, little-endian and of any alignment. Assumes nothing.
 use Rattle.std.specs.Prelude.{◌≡◌, Bool, true, false, not, ◌&&◌, List, [], ◌∷◌, ◌++◌, ℕ, zero, suc, ◌+◌, ◌-◌, ◌*◌, ◌/◌, ◌%◌, ◌^◌, ◌<◌, eqb, leb, length, take, drop, get_or}
 use Rattle.block.specs.Answer as A
-use Rattle.block.specs.Answer.{Answer, done, refuseIf}
-use Rattle.line.specs.Receiving.{arrayBytes}
+use Rattle.block.specs.Answer.{Answer, done, refuse_if}
+use Rattle.line.specs.Receiving.{array_bytes}
 use Rattle.line.specs.declared.marks.Marks.{Marks}
 use Rattle.line.specs.declared.sender.Sender.{Sender}
 use Rattle.line.specs.declared.sender.Next.{Next}
@@ -21,12 +21,12 @@ unfoldable pub word_bytes : ℕ → List ℕ
 word_bytes n = n % 256 ∷ n / 256 % 256 ∷ n / 65536 % 256 ∷ n / 16777216 % 256 ∷ []
 
 -- a truth value in a byte: 0 or 1
-abbrev pub flagAt : List ℕ → ℕ → Bool
-flagAt s at = eqb (get_or s at 0) 1
+abbrev pub flag_at : List ℕ → ℕ → Bool
+flag_at s at = eqb (get_or s at 0) 1
 
-abbrev pub flagByte : Bool → ℕ
-flagByte false = 0
-flagByte true = 1
+abbrev pub flag_byte : Bool → ℕ
+flag_byte false = 0
+flag_byte true = 1
 
 -- what goes out next, and the receiver's phase, in a byte
 abbrev pub next_of : ℕ → Next
@@ -34,77 +34,77 @@ next_of zero = N.Sync
 next_of (suc zero) = N.Older
 next_of (suc (suc n)) = N.Newer
 
-abbrev pub nextByte : Next → ℕ
-nextByte N.Sync = 0
-nextByte N.Older = 1
-nextByte N.Newer = 2
+abbrev pub next_byte : Next → ℕ
+next_byte N.Sync = 0
+next_byte N.Older = 1
+next_byte N.Newer = 2
 
-abbrev pub phaseOf : ℕ → Phase
-phaseOf zero = P.Search
-phaseOf (suc zero) = P.InStep
-phaseOf (suc (suc zero)) = P.SequenceAlarm
-phaseOf (suc (suc (suc n))) = P.LengthAlarm
+abbrev pub phase_of : ℕ → Phase
+phase_of zero = P.Search
+phase_of (suc zero) = P.InStep
+phase_of (suc (suc zero)) = P.SequenceAlarm
+phase_of (suc (suc (suc n))) = P.LengthAlarm
 
-abbrev pub phaseByte : Phase → ℕ
-phaseByte P.Search = 0
-phaseByte P.InStep = 1
-phaseByte P.SequenceAlarm = 2
-phaseByte P.LengthAlarm = 3
+abbrev pub phase_byte : Phase → ℕ
+phase_byte P.Search = 0
+phase_byte P.InStep = 1
+phase_byte P.SequenceAlarm = 2
+phase_byte P.LengthAlarm = 3
 
 -- ---- what the two layouts share: first the head, three numbers of four bytes and four bytes; last the marks, two bytes
 
-abbrev pub headSize : ℕ
-headSize = 16
+abbrev pub head_size : ℕ
+head_size = 16
 
-unfoldable pub headBytes : ℕ → ℕ → ℕ → ℕ → ℕ → ℕ → ℕ → List ℕ
-headBytes x y z d a b c = word_bytes x ++ (word_bytes y ++ (word_bytes z ++ (d ∷ a ∷ b ∷ c ∷ [])))
+unfoldable pub head_bytes : ℕ → ℕ → ℕ → ℕ → ℕ → ℕ → ℕ → List ℕ
+head_bytes x y z d a b c = word_bytes x ++ (word_bytes y ++ (word_bytes z ++ (d ∷ a ∷ b ∷ c ∷ [])))
 
-abbrev pub marksSize : ℕ
-marksSize = 2
+abbrev pub marks_size : ℕ
+marks_size = 2
 
 -- whether marks are in use, and the code size, a byte each
-unfoldable pub marksIn : List ℕ → ℕ → Marks
-marksIn s at = record { in_use = flagAt s at; size = get_or s (at + 1) 0 }
+unfoldable pub marks_in : List ℕ → ℕ → Marks
+marks_in s at = record { in_use = flag_at s at; size = get_or s (at + 1) 0 }
 
-unfoldable pub marksBytes : Marks → List ℕ
-marksBytes m = flagByte m.in_use ∷ m.size ∷ []
+unfoldable pub marks_bytes : Marks → List ℕ
+marks_bytes m = flag_byte m.in_use ∷ m.size ∷ []
 
 -- the bytes are enough; those at 13, 14 and 15, flags or an enum, are at most these, and the marks' flag at most 1
 unfoldable pub holds : ℕ → ℕ → ℕ → ℕ → List ℕ → Bool
 holds size a b c s =
     leb size (length s) && leb (get_or s 13 0) a && leb (get_or s 14 0) b && leb (get_or s 15 0) c
-    && leb (get_or s (size - marksSize) 0) 1
+    && leb (get_or s (size - marks_size) 0) 1
 
 -- ---- the sender: k, length, newer, four bytes each; run, opening, next, finished, a byte each; then the marks
 
-abbrev pub senderSize : ℕ
-senderSize = headSize + marksSize
+abbrev pub sender_size : ℕ
+sender_size = head_size + marks_size
 
-abbrev pub holdsSender : List ℕ → Bool
-holdsSender s = holds senderSize 1 2 1 s
+abbrev pub holds_sender : List ℕ → Bool
+holds_sender s = holds sender_size 1 2 1 s
 
-unfoldable pub senderIn : List ℕ → Sender
-senderIn s =
+unfoldable pub sender_in : List ℕ → Sender
+sender_in s =
     record {
-      setup = record { k = word_at s 0; length = word_at s 4; marks = marksIn s headSize };
+      setup = record { k = word_at s 0; length = word_at s 4; marks = marks_in s head_size };
       newer = word_at s 8;
       run = get_or s 12 0;
-      opening = flagAt s 13;
+      opening = flag_at s 13;
       next = next_of (get_or s 14 0);
-      finished = flagAt s 15;
+      finished = flag_at s 15;
     }
 
 -- bytes that hold no sender are refused as spoiled
-unfoldable pub senderOf : List ℕ → Answer Sender
-senderOf s = refuseIf (not (holdsSender s)) A.spoiled (done (senderIn s))
+unfoldable pub sender_of : List ℕ → Answer Sender
+sender_of s = refuse_if (not (holds_sender s)) A.spoiled (done (sender_in s))
 
-abbrev pub senderHead : Sender → List ℕ
-senderHead s =
-    headBytes s.setup.k s.setup.length s.newer (s.run % 256) (flagByte s.opening) (nextByte s.next)
-    (flagByte s.finished)
+abbrev pub sender_head : Sender → List ℕ
+sender_head s =
+    head_bytes s.setup.k s.setup.length s.newer (s.run % 256) (flag_byte s.opening) (next_byte s.next)
+    (flag_byte s.finished)
 
-unfoldable pub senderBytes : Sender → List ℕ
-senderBytes s = senderHead s ++ marksBytes s.setup.marks
+unfoldable pub sender_bytes : Sender → List ℕ
+sender_bytes s = sender_head s ++ marks_bytes s.setup.marks
 
 -- the fields that the layout can hold
 pub record SenderFits (s : Sender) : Type 0 where
@@ -115,43 +115,43 @@ pub record SenderFits (s : Sender) : Type 0 where
 
 -- ---- the receiver: k, held, taken, four bytes each; row, back, ended, phase, a byte each; then the array and the marks
 
-abbrev pub arrayEnd : ℕ
-arrayEnd = headSize + arrayBytes
+abbrev pub array_end : ℕ
+array_end = head_size + array_bytes
 
-abbrev pub receiverSize : ℕ
-receiverSize = arrayEnd + marksSize
+abbrev pub receiver_size : ℕ
+receiver_size = array_end + marks_size
 
-abbrev pub holdsReceiver : List ℕ → Bool
-holdsReceiver s = holds receiverSize 1 1 3 s
+abbrev pub holds_receiver : List ℕ → Bool
+holds_receiver s = holds receiver_size 1 1 3 s
 
-unfoldable pub receiverIn : List ℕ → Receiver
-receiverIn s =
+unfoldable pub receiver_in : List ℕ → Receiver
+receiver_in s =
     record {
-      setup = record { k = word_at s 0; marks = marksIn s arrayEnd };
-      bits = take arrayBytes (drop headSize s);
+      setup = record { k = word_at s 0; marks = marks_in s array_end };
+      bits = take array_bytes (drop head_size s);
       held = word_at s 4;
       bad_row = get_or s 12 0;
-      back = flagAt s 13;
+      back = flag_at s 13;
       taken = word_at s 8;
-      ended = flagAt s 14;
-      phase = phaseOf (get_or s 15 0);
+      ended = flag_at s 14;
+      phase = phase_of (get_or s 15 0);
     }
 
 -- bytes that hold no receiver are refused as spoiled
-unfoldable pub receiverOf : List ℕ → Answer Receiver
-receiverOf s = refuseIf (not (holdsReceiver s)) A.spoiled (done (receiverIn s))
+unfoldable pub receiver_of : List ℕ → Answer Receiver
+receiver_of s = refuse_if (not (holds_receiver s)) A.spoiled (done (receiver_in s))
 
-abbrev pub receiverHead : Receiver → List ℕ
-receiverHead s =
-    headBytes s.setup.k s.held s.taken (s.bad_row % 256) (flagByte s.back) (flagByte s.ended)
-    (phaseByte s.phase)
+abbrev pub receiver_head : Receiver → List ℕ
+receiver_head s =
+    head_bytes s.setup.k s.held s.taken (s.bad_row % 256) (flag_byte s.back) (flag_byte s.ended)
+    (phase_byte s.phase)
 
-unfoldable pub receiverBytes : Receiver → List ℕ
-receiverBytes s = receiverHead s ++ (s.bits ++ marksBytes s.setup.marks)
+unfoldable pub receiver_bytes : Receiver → List ℕ
+receiver_bytes s = receiver_head s ++ (s.bits ++ marks_bytes s.setup.marks)
 
 pub record ReceiverFits (s : Receiver) : Type 0 where
   pub k : s.setup.k < 2 ^ 32
   pub held : s.held < 2 ^ 32
   pub taken : s.taken < 2 ^ 32
-  pub bad-row : s.bad_row < 256
-  pub bits : length s.bits ≡ arrayBytes
+  pub bad_row : s.bad_row < 256
+  pub bits : length s.bits ≡ array_bytes

@@ -11,8 +11,8 @@ abbrev pub patch : ℕ
 patch = 1
 
 -- the three in one number, a byte for each of the last two
-abbrev pub libraryVersion : ℕ
-libraryVersion = major * 65536 + minor * 256 + patch
+abbrev pub library_version : ℕ
+library_version = major * 65536 + minor * 256 + patch
 
 pub record VersionCall (result : ℕ) : Type 0 where
-  pub answers : result ≡ libraryVersion
+  pub answers : result ≡ library_version

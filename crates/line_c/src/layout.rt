@@ -1,7 +1,7 @@
 // What the two states' layouts share: numbers of four bytes, the lowest first, the first 16 bytes, and the marks at the end.
 ghost use Rattle.std.specs.Prelude.{◌≡◌, ◌++◌, ◌+◌, ◌≤◌, ◌<◌, length, drop};
 ghost use Rattle.std.proofs.lemmas.List.Edits.{sets};
-ghost use Rattle.line_c.specs.State.{word_at, word_bytes, headSize, headBytes, marksSize, marksIn, marksBytes, holds};
+ghost use Rattle.line_c.specs.State.{word_at, word_bytes, head_size, head_bytes, marks_size, marks_in, marks_bytes, holds};
 
 use line::marks::Marks;
 
@@ -36,7 +36,7 @@ fn store_word(s: &mut [u8], at: usize, n: usize)
 
 // Whether there are size bytes, those at 13, 14 and 15 are at most a, b and c, and the marks' flag at most 1.
 pub(crate) fn holds_state(size: usize, a: u8, b: u8, c: u8, s: &[u8]) -> bool
-    requires { headSize ≤ size }
+    requires { head_size ≤ size }
     ensures { result ≡ holds size a b c s.now }
 {
     if s.len() < size {
@@ -59,8 +59,8 @@ pub(crate) fn holds_state(size: usize, a: u8, b: u8, c: u8, s: &[u8]) -> bool
 
 // Three numbers of four bytes and four bytes, over the first bytes of s.
 pub(crate) fn store_head(x: usize, y: usize, z: usize, d: u8, a: u8, b: u8, c: u8, s: &mut [u8])
-    requires { headSize ≤ length s.old }
-    ensures { s.new ≡ headBytes x y z d a b c ++ drop headSize s.old }
+    requires { head_size ≤ length s.old }
+    ensures { s.new ≡ head_bytes x y z d a b c ++ drop head_size s.old }
 {
     store_word(s, 0, x);
     store_word(s, 4, y);
@@ -73,8 +73,8 @@ pub(crate) fn store_head(x: usize, y: usize, z: usize, d: u8, a: u8, b: u8, c: u
 
 // The marks from place at on.
 pub(crate) fn load_marks(s: &[u8], at: usize) -> Marks
-    requires { at + marksSize ≤ length s.now }
-    ensures { result ≡ marksIn s.now at }
+    requires { at + marks_size ≤ length s.now }
+    ensures { result ≡ marks_in s.now at }
 {
     Marks {
         in_use: s[at] == 1,
@@ -83,8 +83,8 @@ pub(crate) fn load_marks(s: &[u8], at: usize) -> Marks
 }
 
 pub(crate) fn store_marks(s: &mut [u8], at: usize, marks: Marks)
-    requires { at + marksSize ≤ length s.old }
-    ensures { s.new ≡ sets s.old at (marksBytes marks) }
+    requires { at + marks_size ≤ length s.old }
+    ensures { s.new ≡ sets s.old at (marks_bytes marks) }
 {
     s[at] = marks.in_use as u8;
     s[at + 1] = marks.size;

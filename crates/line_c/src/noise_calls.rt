@@ -1,6 +1,6 @@
 // The noise load's call. The generator's two words go in and out.
 ghost use Rattle.std.specs.Prelude.{◌≡◌, ◌≤◌};
-ghost use Rattle.line_c.specs.NoiseCalls.{reportWord, NoiseCall};
+ghost use Rattle.line_c.specs.NoiseCalls.{report_word, NoiseCall};
 
 use crate::sender_calls::flag;
 use noise::{Generator, Noise};
@@ -14,7 +14,7 @@ pub const INVERTED: u32 = 0x10000;
 
 fn noise_word(inverted: u32, turned: bool) -> u32
     requires { inverted ≤ 16 }
-    ensures { result ≡ reportWord inverted turned }
+    ensures { result ≡ report_word inverted turned }
 {
     NOISE + flag(turned, TURNED) + inverted * INVERTED
 }

@@ -1,8 +1,8 @@
 // A receiver in lent bytes.
 ghost use Rattle.std.specs.Prelude.{◌≡◌, [], ◌++◌, ◌≤◌, length, take, drop};
-ghost use Rattle.line.specs.Receiving.{arrayBytes};
-ghost use Rattle.line.specs.ReceivingInPlace.{withArray};
-ghost use Rattle.line_c.specs.State.{headSize, arrayEnd, receiverSize, holdsReceiver, receiverIn, receiverHead, receiverBytes, phaseOf, phaseByte};
+ghost use Rattle.line.specs.Receiving.{array_bytes};
+ghost use Rattle.line.specs.ReceivingInPlace.{with_array};
+ghost use Rattle.line_c.specs.State.{head_size, array_end, receiver_size, holds_receiver, receiver_in, receiver_head, receiver_bytes, phase_of, phase_byte};
 
 use crate::layout::{
     HEAD_SIZE, MARKS_SIZE, holds_state, load_marks, load_word, store_head, store_marks, wide,
@@ -17,7 +17,7 @@ pub(crate) const ARRAY_END: usize = HEAD_SIZE + ARRAY_SIZE;
 pub(crate) const RECEIVER_SIZE: usize = ARRAY_END + MARKS_SIZE;
 
 fn phase_of(n: u8) -> Phase
-    ensures { result ≡ phaseOf n }
+    ensures { result ≡ phase_of n }
 {
     match n {
         0 => Phase::Search,
@@ -28,7 +28,7 @@ fn phase_of(n: u8) -> Phase
 }
 
 fn phase_byte(phase: Phase) -> u8
-    ensures { result ≡ phaseByte phase }
+    ensures { result ≡ phase_byte phase }
 {
     match phase {
         Phase::Search => 0,
@@ -40,15 +40,15 @@ fn phase_byte(phase: Phase) -> u8
 
 // Whether the bytes hold a receiver.
 pub(crate) fn holds_receiver(s: &[u8]) -> bool
-    ensures { result ≡ holdsReceiver s.now }
+    ensures { result ≡ holds_receiver s.now }
 {
     holds_state(RECEIVER_SIZE, 1, 1, 3, s)
 }
 
 // The array, behind the head.
 fn store_bits(bits: [u8; 483], s: &mut [u8])
-    requires { arrayEnd ≤ length s.old }
-    ensures { s.new ≡ take headSize s.old ++ bits ++ drop arrayEnd s.old }
+    requires { array_end ≤ length s.old }
+    ensures { s.new ≡ take head_size s.old ++ bits ++ drop array_end s.old }
 {
     let mut i = 0;
     while i < ARRAY_SIZE {
@@ -58,8 +58,8 @@ fn store_bits(bits: [u8; 483], s: &mut [u8])
 }
 
 pub(crate) fn load_head(s: &[u8]) -> Head
-    requires { receiverSize ≤ length s.now }
-    ensures { withArray result (take arrayBytes (drop headSize s.now)) ≡ receiverIn s.now }
+    requires { receiver_size ≤ length s.now }
+    ensures { with_array result (take array_bytes (drop head_size s.now)) ≡ receiver_in s.now }
 {
     Head {
         setup: Setup {
@@ -77,8 +77,8 @@ pub(crate) fn load_head(s: &[u8]) -> Head
 
 // The array and the marks stay as they are.
 pub(crate) fn put_head(head: Head, s: &mut [u8])
-    requires { headSize ≤ length s.old }
-    ensures { s.new ≡ receiverHead (withArray head []) ++ drop headSize s.old }
+    requires { head_size ≤ length s.old }
+    ensures { s.new ≡ receiver_head (with_array head []) ++ drop head_size s.old }
 {
     let setup = head.setup;
     let phase = head.phase;
@@ -95,8 +95,8 @@ pub(crate) fn put_head(head: Head, s: &mut [u8])
 }
 
 pub(crate) fn store_receiver(receiver: Receiver, s: &mut [u8])
-    requires { receiverSize ≤ length s.old }
-    ensures { s.new ≡ receiverBytes receiver ++ drop receiverSize s.old }
+    requires { receiver_size ≤ length s.old }
+    ensures { s.new ≡ receiver_bytes receiver ++ drop receiver_size s.old }
 {
     let bits = receiver.bits;
     let setup = receiver.setup;

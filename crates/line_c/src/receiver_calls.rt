@@ -1,6 +1,6 @@
 // The receiving end's calls, the receiver in lent bytes.
 ghost use Rattle.std.specs.Prelude.{◌≡◌};
-ghost use Rattle.line_c.specs.ReceiverCalls.{OpenReceiverCall, eventNumber, eventLength, eventRemainder, ReceiveCall, ReturnBitCall};
+ghost use Rattle.line_c.specs.ReceiverCalls.{OpenReceiverCall, event_number, event_length, event_remainder, ReceiveCall, ReturnBitCall};
 
 use crate::layout::HEAD_SIZE;
 use crate::receiver_bytes::{
@@ -68,7 +68,7 @@ pub extern "C" fn order_line_open_receiver_with_marks(k: usize, size: usize, sta
 }
 
 fn number_of(event: Event) -> u8
-    ensures { result ≡ eventNumber event }
+    ensures { result ≡ event_number event }
 {
     match event {
         Event::None => NONE,
@@ -85,7 +85,7 @@ fn number_of(event: Event) -> u8
 
 // An event's number; the remainder that comes with a bad event is written, and the length that comes with the end.
 fn report(event: Event, length: &mut usize, remainder: &mut u16) -> u8
-    ensures { (result ≡ eventNumber event) × (length.new ≡ eventLength length.old event) × (remainder.new ≡ eventRemainder remainder.old event) }
+    ensures { (result ≡ event_number event) × (length.new ≡ event_length length.old event) × (remainder.new ≡ event_remainder remainder.old event) }
 {
     match event {
         Event::Bad(found) => {

@@ -1,6 +1,6 @@
 // A sender in lent bytes.
 ghost use Rattle.std.specs.Prelude.{◌≡◌, ◌++◌, ◌≤◌, length, drop};
-ghost use Rattle.line_c.specs.State.{senderSize, holdsSender, senderIn, senderBytes, next_of, nextByte};
+ghost use Rattle.line_c.specs.State.{sender_size, holds_sender, sender_in, sender_bytes, next_of, next_byte};
 
 use crate::layout::{
     HEAD_SIZE, MARKS_SIZE, holds_state, load_marks, load_word, store_head, store_marks, wide,
@@ -20,7 +20,7 @@ fn next_of(n: u8) -> Next
 }
 
 fn next_byte(next: Next) -> u8
-    ensures { result ≡ nextByte next }
+    ensures { result ≡ next_byte next }
 {
     match next {
         Next::Sync => 0,
@@ -31,14 +31,14 @@ fn next_byte(next: Next) -> u8
 
 // Whether the bytes hold a sender.
 pub(crate) fn holds_sender(s: &[u8]) -> bool
-    ensures { result ≡ holdsSender s.now }
+    ensures { result ≡ holds_sender s.now }
 {
     holds_state(SENDER_SIZE, 1, 2, 1, s)
 }
 
 pub(crate) fn load_sender(s: &[u8]) -> Sender
-    requires { senderSize ≤ length s.now }
-    ensures { result ≡ senderIn s.now }
+    requires { sender_size ≤ length s.now }
+    ensures { result ≡ sender_in s.now }
 {
     Sender {
         setup: Setup {
@@ -55,8 +55,8 @@ pub(crate) fn load_sender(s: &[u8]) -> Sender
 }
 
 pub(crate) fn store_sender(sender: Sender, s: &mut [u8])
-    requires { senderSize ≤ length s.old }
-    ensures { s.new ≡ senderBytes sender ++ drop senderSize s.old }
+    requires { sender_size ≤ length s.old }
+    ensures { s.new ≡ sender_bytes sender ++ drop sender_size s.old }
 {
     let setup = sender.setup;
     let next = sender.next;

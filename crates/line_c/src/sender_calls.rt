@@ -1,6 +1,6 @@
 // The sending end's calls, the sender in lent bytes.
 ghost use Rattle.std.specs.Prelude.{◌≡◌, ◌≤◌, ◌<◌};
-ghost use Rattle.line_c.specs.SenderCalls.{OpenSenderCall, flagWord, itemWord, SendCall, SenderRestCall};
+ghost use Rattle.line_c.specs.SenderCalls.{OpenSenderCall, flag_word, item_word, SendCall, SenderRestCall};
 
 use crate::sender_bytes::{SENDER_SIZE, holds_sender, load_sender, store_sender};
 use line::marks::CodeSize;
@@ -90,14 +90,14 @@ pub const GAVE_UP: u8 = 82;
 
 // A flag where a truth value holds.
 pub(crate) fn flag(set: bool, value: u32) -> u32
-    ensures { (result ≡ flagWord set value) × (result ≤ value) }
+    ensures { (result ≡ flag_word set value) × (result ≤ value) }
 {
     if set { value } else { 0 }
 }
 
 fn item_word(number: usize, end: bool, used: bool, cancelled: bool) -> u32
     requires { number < 65536 }
-    ensures { result ≡ itemWord number end used cancelled }
+    ensures { result ≡ item_word number end used cancelled }
 {
     SENT + ITEM
         + flag(end, END)

@@ -1,8 +1,8 @@
 // The tint order's calls. Doses are a slice of 16-bit numbers, canister and steps in turn.
 ghost use Rattle.std.specs.Prelude.{◌≡◌, ◌++◌, ◌*◌, ◌/◌, ◌≤◌, length, drop};
-ghost use Rattle.tint.specs.Calls.{dosesOf, dosesFrom};
+ghost use Rattle.tint.specs.Calls.{doses_of, doses_from};
 ghost use Rattle.line_c.specs.BlockCalls.{refusal};
-ghost use Rattle.line_c.specs.TintCalls.{numbersOf, dosesHeld, judgeHeld, WriteTintCall, ReadTintCall};
+ghost use Rattle.line_c.specs.TintCalls.{numbers_of, doses_held, judge_held, WriteTintCall, ReadTintCall};
 
 use tint::{Doses, Judged, Written};
 
@@ -12,7 +12,7 @@ const DOSE_NUMBERS: usize = 2;
 // The first count doses.
 fn load_doses(count: usize, numbers: &[u16]) -> Doses
     requires { (count ≤ 12) × (count * 2 ≤ length numbers.now) }
-    ensures { result ≡ dosesFrom (dosesHeld numbers.now count) }
+    ensures { result ≡ doses_from (doses_held numbers.now count) }
 {
     let mut canisters = [0u16; 12];
     let mut steps = [0u16; 12];
@@ -33,7 +33,7 @@ fn load_doses(count: usize, numbers: &[u16]) -> Doses
 // The numbers of the doses, over the first ones of a slice.
 fn store_doses(doses: Doses, numbers: &mut [u16])
     requires { (doses.count ≤ 12) × (doses.count * 2 ≤ length numbers.old) }
-    ensures { numbers.new ≡ numbersOf (dosesOf doses) ++ drop (doses.count * 2) numbers.old }
+    ensures { numbers.new ≡ numbers_of (doses_of doses) ++ drop (doses.count * 2) numbers.old }
 {
     let count = doses.count;
     let canisters = doses.canisters;
@@ -50,7 +50,7 @@ fn store_doses(doses: Doses, numbers: &mut [u16])
 // What a slice too short for its count is refused by.
 fn refuse_short(numbers: &[u16]) -> u8
     requires { length numbers.now / 2 ≤ 12 }
-    ensures { result ≡ refusal (judgeHeld numbers.now) }
+    ensures { result ≡ refusal (judge_held numbers.now) }
 {
     let held = numbers.len() / DOSE_NUMBERS;
     if held == 0 {

@@ -1,29 +1,29 @@
 -- What a load that is not refused did to the block: its places are those that differ. Assumes nothing.
 use Rattle.std.proofs.Common.{◌≡◌, ℕ, ◌+◌, ◌-◌, ◌/◌, ◌%◌, ◌^◌, ◌≤◌, true, false, eqb, List, ◌++◌, length, take, drop, sym, refl, ap, ◌∙◌, subst, ap₂, ⊎_elim, arith, length-append, length-drop, length-take-le, take_at, drop_at}
-use Rattle.crc.specs.Bits.{Bits, zeros, binary, xorBits, bits_of, bytes_of}
+use Rattle.crc.specs.Bits.{Bits, zeros, binary, xor_bits, bits_of, bytes_of}
 use Rattle.crc.specs.Check.{passes}
 use Rattle.crc.specs.Damage.{Damage, burst}
-use Rattle.crc.proofs.Rows.{length-binary, length-xorBits, xorBits-comm, xorBits-assoc, xorBits-self, xorBits-zeros}
-use Rattle.crc.proofs.Bytes.{length-bitsOf, bitsOf-bytesOf-exact}
-use Rattle.crc.proofs.Detect.{damaged-passes}
+use Rattle.crc.proofs.Rows.{length-binary, length-xor_bits, xor_bits_comm, xor_bits_assoc, xor_bits_self, xor_bits-zeros}
+use Rattle.crc.proofs.Bytes.{length-bits_of, bits_of-bytes_of_exact}
+use Rattle.crc.proofs.Detect.{damaged_passes}
 use Rattle.block.specs.Answer.{Answer, refused, done}
-use Rattle.block.specs.Lengths.{blockLength}
-use Rattle.block.specs.Calls.{tooShort}
-use Rattle.block.proofs.Truth.{either, cond-case}
+use Rattle.block.specs.Lengths.{block_length}
+use Rattle.block.specs.Calls.{too_short}
+use Rattle.block.proofs.Truth.{either, cond_case}
 use Rattle.noise.specs.Generator.{next, drawn}
-use Rattle.noise.specs.Load.{Load, spanLoad, load, places, ones, Report, noiseAnswer, LoadedAs}
+use Rattle.noise.specs.Load.{Load, span_load, load, places, ones, Report, noise_answer, LoadedAs}
 use Rattle.noise.specs.Facts.{block_of, differences, Within16, BlockLoaded, EveryLoad}
 use Rattle.noise.specs.declared.Generator.{Generator}
 use Rattle.noise.specs.declared.Noise.TheVariants as N
 use Rattle.noise.proofs.Ones.{ones-append, ones-zeros}
-use Rattle.noise.proofs.Spans.{length-pattern}
-use Rattle.noise.proofs.Loads.{holds, place-room, load-cases}
+use Rattle.noise.proofs.Spans.{length_pattern}
+use Rattle.noise.proofs.Loads.{holds, place-room, load_cases}
 
 -- the pattern lies within the n bits
-load-room : (k : ℕ) (g : Generator) → (load (blockLength k) g).place + 16 ≤ blockLength k
-unfolding load spanLoad
+load-room : (k : ℕ) (g : Generator) → (load (block_length k) g).place + 16 ≤ block_length k
+unfolding load span_load
 load-room k g =
-    cond-case (λ (l : Load). l.place + 16 ≤ blockLength k) (eqb (drawn g % 4) 2)
+    cond_case (λ (l : Load). l.place + 16 ≤ block_length k) (eqb (drawn g % 4) 2)
     (λ e. place-room k (drawn (next g) / 2 ^ 16)) (λ e. omega arith)
 
 -- ---- the places of a load
@@ -31,7 +31,7 @@ load-room k g =
 module _ (n : ℕ) (l : Load) (room : l.place + 16 ≤ n) where
   length-places : length (places n l) ≡ n
   unfolding places
-  length-places = length-pattern l.place l.pattern (n - (l.place + 16)) ∙ omega arith
+  length-places = length_pattern l.place l.pattern (n - (l.place + 16)) ∙ omega arith
 
   ones-places : ones (places n l) ≡ ones (binary 16 l.pattern)
   unfolding places
@@ -45,21 +45,21 @@ module _ (n : ℕ) (l : Load) (room : l.place + 16 ≤ n) where
   sixteen : length (binary 16 l.pattern) ≤ 16
   sixteen = omega (arith, length-binary 16 l.pattern)
 
-  places-within : Within16 (places n l)
+  places_within : Within16 (places n l)
   unfolding places
-  places-within =
+  places_within =
       record { before = l.place; span = binary 16 l.pattern; behind = n - (l.place + 16); adjacent = sixteen; is = refl }
 
-  places-damage : Damage (places n l)
+  places_damage : Damage (places n l)
   unfolding places
-  places-damage = burst l.place (binary 16 l.pattern) (n - (l.place + 16)) sixteen
+  places_damage = burst l.place (binary 16 l.pattern) (n - (l.place + 16)) sixteen
 
 -- ---- the block before and after
 
-module _ (k : ℕ) (s s' : List ℕ) (l : Load) (room : l.place + 16 ≤ blockLength k) (held : tooShort s (blockLength k) ≡ false)
-    (w : s' ≡ bytes_of (length s) (xorBits (block_of k s) (places (blockLength k) l) ++ drop (blockLength k) (bits_of s))) where
+module _ (k : ℕ) (s s' : List ℕ) (l : Load) (room : l.place + 16 ≤ block_length k) (held : too_short s (block_length k) ≡ false)
+    (w : s' ≡ bytes_of (length s) (xor_bits (block_of k s) (places (block_length k) l) ++ drop (block_length k) (bits_of s))) where
   abbrev n : ℕ
-  n = blockLength k
+  n = block_length k
 
   abbrev row : Bits
   row = block_of k s
@@ -67,50 +67,50 @@ module _ (k : ℕ) (s s' : List ℕ) (l : Load) (room : l.place + 16 ≤ blockLe
   abbrev behind : Bits
   behind = drop n (bits_of s)
 
-  length-row : length row ≡ n
-  length-row = length-take-le n (bits_of s) (omega (arith, length-bitsOf s, holds k s held))
+  length_row : length row ≡ n
+  length_row = length-take-le n (bits_of s) (omega (arith, length-bits_of s, holds k s held))
 
   same_length : length row ≡ length (places n l)
-  same_length = length-row ∙ sym (length-places n l room)
+  same_length = length_row ∙ sym (length-places n l room)
 
-  length-after : length (xorBits row (places n l)) ≡ n
-  length-after = length-xorBits row (places n l) same_length ∙ length-row
+  length-after : length (xor_bits row (places n l)) ≡ n
+  length-after = length-xor_bits row (places n l) same_length ∙ length_row
 
-  bits-after : bits_of s' ≡ xorBits row (places n l) ++ behind
-  bits-after =
+  bits_after : bits_of s' ≡ xor_bits row (places n l) ++ behind
+  bits_after =
       ap bits_of w
-      ∙ bitsOf-bytesOf-exact (length s) (xorBits row (places n l) ++ behind)
-      (length-append (xorBits row (places n l)) behind
-      ∙ ap₂ (λ (x y : ℕ). x + y) length-after (length-drop n (bits_of s) ∙ ap (λ (x : ℕ). x - n) (length-bitsOf s))
+      ∙ bits_of-bytes_of_exact (length s) (xor_bits row (places n l) ++ behind)
+      (length-append (xor_bits row (places n l)) behind
+      ∙ ap₂ (λ (x y : ℕ). x + y) length-after (length-drop n (bits_of s) ∙ ap (λ (x : ℕ). x - n) (length-bits_of s))
       ∙ omega (arith, holds k s held))
 
-  row-after : block_of k s' ≡ xorBits row (places n l)
-  row-after = ap (take n) bits-after ∙ take_at (xorBits row (places n l)) behind n length-after
+  row_after : block_of k s' ≡ xor_bits row (places n l)
+  row_after = ap (take n) bits_after ∙ take_at (xor_bits row (places n l)) behind n length-after
 
   differ : differences k s s' ≡ places n l
   differ =
-      ap (xorBits row) row-after ∙ sym (xorBits-assoc row row (places n l))
-      ∙ ap (λ (x : Bits). xorBits x (places n l)) (xorBits-self row ∙ ap zeros same_length)
-      ∙ xorBits-comm (zeros (length (places n l))) (places n l) ∙ xorBits-zeros (places n l)
+      ap (xor_bits row) row_after ∙ sym (xor_bits_assoc row row (places n l))
+      ∙ ap (λ (x : Bits). xor_bits x (places n l)) (xor_bits_self row ∙ ap zeros same_length)
+      ∙ xor_bits_comm (zeros (length (places n l))) (places n l) ∙ xor_bits-zeros (places n l)
 
-  others-stay : drop n (bits_of s') ≡ behind
-  others-stay = ap (drop n) bits-after ∙ drop_at (xorBits row (places n l)) behind n length-after
+  others_stay : drop n (bits_of s') ≡ behind
+  others_stay = ap (drop n) bits_after ∙ drop_at (xor_bits row (places n l)) behind n length-after
 
   -- a block that passes before and after is the same block
   not_found : passes row ≡ true → passes (block_of k s') ≡ true → ones (differences k s s') ≡ 0
   not_found p q =
       let e : block_of k s' ≡ row =
-      damaged-passes (block_of k s') row (ap length row-after ∙ length-after ∙ sym length-row)
-      (subst Damage (sym (xorBits-comm (block_of k s') row ∙ differ)) (places-damage n l room)) p q in
-      ap (λ (x : Bits). ones (xorBits row x)) e ∙ ap ones (xorBits-self row) ∙ ones-zeros (length row)
+      damaged_passes (block_of k s') row (ap length row_after ∙ length-after ∙ sym length_row)
+      (subst Damage (sym (xor_bits_comm (block_of k s') row ∙ differ)) (places_damage n l room)) p q in
+      ap (λ (x : Bits). ones (xor_bits row x)) e ∙ ap ones (xor_bits_self row) ∙ ones-zeros (length row)
 
   loaded : (inverted : ℕ) → inverted ≡ ones (binary 16 l.pattern) → BlockLoaded k s s' inverted
   loaded inverted e =
       record {
-        within-16 = subst Within16 (sym differ) (places-within n l room);
-        damage = subst Damage (sym differ) (places-damage n l room);
+        within_16 = subst Within16 (sym differ) (places_within n l room);
+        damage = subst Damage (sym differ) (places_damage n l room);
         counted = c;
-        others = others-stay;
+        others = others_stay;
         found = λ p h. ⊎_elim (λ q. absurd (omega (arith, c, not_found p q, h))) (λ q. q) (either (passes (block_of k s')));
       }
     where
@@ -120,19 +120,19 @@ module _ (k : ℕ) (s s' : List ℕ) (l : Load) (room : l.place + 16 ≤ blockLe
 -- ---- by the answer
 
 -- how many bits an answer reports, and 1 for one that is not refused; 0 for a refusal
-abbrev pub invertedOf : Answer Report → ℕ
-invertedOf (refused n) = 0
-invertedOf (done r) = r.inverted
+abbrev pub inverted_of : Answer Report → ℕ
+inverted_of (refused n) = 0
+inverted_of (done r) = r.inverted
 
-abbrev pub isDone : Answer Report → ℕ
-isDone (refused n) = 0
-isDone (done r) = 1
+abbrev pub is_done : Answer Report → ℕ
+is_done (refused n) = 0
+is_done (done r) = 1
 
-pub every-load : EveryLoad
+pub every_load : EveryLoad
 unfolding EveryLoad
-every-load k g s s' r inverted turned =
-    load-cases k g s (λ (a : Answer Load). LoadedAs k g s a r s' → r.answer ≡ N.Done inverted turned → BlockLoaded k s s' inverted)
-    (λ n z a e. absurd (omega (arith, ap isDone (ap noiseAnswer (sym e) ∙ a.answers))))
+every_load k g s s' r inverted turned =
+    load_cases k g s (λ (a : Answer Load). LoadedAs k g s a r s' → r.answer ≡ N.Done inverted turned → BlockLoaded k s s' inverted)
+    (λ n z a e. absurd (omega (arith, ap is_done (ap noise_answer (sym e) ∙ a.answers))))
     (λ held a e.
-    loaded k s s' (load (blockLength k) g) (load-room k g) held a.writes inverted
-    (ap invertedOf (ap noiseAnswer (sym e) ∙ a.answers)))
+    loaded k s s' (load (block_length k) g) (load-room k g) held a.writes inverted
+    (ap inverted_of (ap noise_answer (sym e) ∙ a.answers)))

@@ -1,22 +1,22 @@
 -- The worked examples, computed. Assumes nothing.
 use Rattle.std.proofs.Common.{refl}
-use Rattle.crc.specs.Bits.{binary, xorBits}
+use Rattle.crc.specs.Bits.{binary, xor_bits}
 use Rattle.crc.specs.Check.{remainder, passes, check}
 use Rattle.block.specs.Block.{block_bits, cancelled}
-use Rattle.noise.specs.Generator.{xorLeft, xorRight, nextFirst, next, drawn}
-use Rattle.noise.specs.Load.{spanLoad, load, places}
+use Rattle.noise.specs.Generator.{xor_left, xor_right, next_first, next, drawn}
+use Rattle.noise.specs.Load.{span_load, load, places}
 use Rattle.noise.specs.Examples.{Examples}
 
 pub examples : Examples
-unfolding xorLeft xorRight nextFirst next drawn spanLoad load places binary xorBits block_bits cancelled check remainder passes
+unfolding xor_left xor_right next_first next drawn span_load load places binary xor_bits block_bits cancelled check remainder passes
 examples =
     record {
-      five-draws = refl;
+      five_draws = refl;
       span = refl;
-      seven-bits = refl;
-      turned-over = refl;
-      cancelled-fails = refl;
+      seven_bits = refl;
+      turned_over = refl;
+      cancelled_fails = refl;
       restored = refl;
-      passes-changed = refl;
+      passes_changed = refl;
       changed = refl;
     }

@@ -3,15 +3,15 @@
 use Rattle.std.proofs.Common.{◌≡◌, ℕ, ◌*◌, ◌/◌, ◌%◌, ◌^◌, ◌<◌, ◌≤◌, T, eqb, List, [], ◌∷◌, sym, refl, ap, ◌∙◌, arith, lit<}
 use lib.Bits.{bit_xor, xor_lt}
 use lib.Pow.{shr_le}
-use Rattle.crc.proofs.Basis.{Term, reg, ◌>>◌, shl, ◌⊕◌, ◌into◌, eval, eval_xor, same_on, by-basis}
+use Rattle.crc.proofs.Basis.{Term, reg, ◌>>◌, shl, ◌⊕◌, ◌into◌, eval, eval_xor, same_on, by_basis}
 use Rattle.block.specs.Answer.{Answer}
-use Rattle.block.specs.Lengths.{blockLength}
-use Rattle.block.proofs.Truth.{cond-case}
-use Rattle.noise.specs.Generator.{xorLeft, xorRight, nextFirst, next, drawn}
-use Rattle.noise.specs.Load.{Load, spanLoad, load, loadBlock, generatorAfter}
-use Rattle.noise.specs.Facts.{FirstWord, Call, afterCalls, OnlyAtTheStart}
+use Rattle.block.specs.Lengths.{block_length}
+use Rattle.block.proofs.Truth.{cond_case}
+use Rattle.noise.specs.Generator.{xor_left, xor_right, next_first, next, drawn}
+use Rattle.noise.specs.Load.{Load, span_load, load, load_block, generator_after}
+use Rattle.noise.specs.Facts.{FirstWord, Call, after_calls, OnlyAtTheStart}
 use Rattle.noise.specs.declared.Generator.{Generator}
-use Rattle.noise.proofs.Loads.{load-cases, not-13}
+use Rattle.noise.proofs.Loads.{load_cases, not_13}
 
 -- x xor (x shifted), as a term
 abbrev left : ℕ → Term
@@ -35,15 +35,15 @@ value e x = eval e x 0
 
 -- one after the other leaves every number of 32 bits
 undone : (e : Term) → T (same_on (value e) (λ x. x) 32) → (x : ℕ) → x < 2 ^ 32 → value e x ≡ x
-undone e t x h = by-basis (value e) (λ x. x) 32 (λ a b i j. eval_xor e a b 0 0) (λ a b i j. refl) t x h
+undone e t x h = by_basis (value e) (λ x. x) 32 (λ a b i j. eval_xor e a b 0 0) (λ a b i j. refl) t x h
 
-step-undone : (x : ℕ) → x < 2 ^ 32 → value back (nextFirst x) ≡ x
-unfolding nextFirst xorLeft xorRight
-step-undone = undone (step into back) tt
+step_undone : (x : ℕ) → x < 2 ^ 32 → value back (next_first x) ≡ x
+unfolding next_first xor_left xor_right
+step_undone = undone (step into back) tt
 
-back-undone : (y : ℕ) → y < 2 ^ 32 → nextFirst (value back y) ≡ y
-unfolding nextFirst xorLeft xorRight
-back-undone = undone (back into step) tt
+back_undone : (y : ℕ) → y < 2 ^ 32 → next_first (value back y) ≡ y
+unfolding next_first xor_left xor_right
+back_undone = undone (back into step) tt
 
 -- ---- below 2^32
 
@@ -53,53 +53,53 @@ left_lt n x y h = xor_lt 32 x (y * 2 ^ n % 2 ^ 32) h (omega arith)
 right_lt : (n x : ℕ) → x < 2 ^ 32 → bit_xor x (x / 2 ^ n) < 2 ^ 32
 right_lt n x h = let s : x / 2 ^ n ≤ x = shr_le x n in xor_lt 32 x (x / 2 ^ n) h (omega arith)
 
-step-lt : (x : ℕ) → x < 2 ^ 32 → nextFirst x < 2 ^ 32
-unfolding nextFirst xorLeft xorRight
-step-lt x h = left_lt 5 _ _ (right_lt 17 _ (left_lt 13 x x h))
+step_lt : (x : ℕ) → x < 2 ^ 32 → next_first x < 2 ^ 32
+unfolding next_first xor_left xor_right
+step_lt x h = left_lt 5 _ _ (right_lt 17 _ (left_lt 13 x x h))
 
-back-lt : (y : ℕ) → y < 2 ^ 32 → value back y < 2 ^ 32
-back-lt y h =
+back_lt : (y : ℕ) → y < 2 ^ 32 → value back y < 2 ^ 32
+back_lt y h =
     left_lt 26 _ _ (left_lt 13 _ _ (right_lt 17 _
     (left_lt 30 _ y (left_lt 25 _ y (left_lt 20 _ y (left_lt 15 _ y (left_lt 10 _ y (left_lt 5 y y h))))))))
 
 -- ---- a bijection, and what follows
 
-one-to-one : (x y : ℕ) → x < 2 ^ 32 → y < 2 ^ 32 → nextFirst x ≡ nextFirst y → x ≡ y
-one-to-one x y h k e = sym (step-undone x h) ∙ ap (value back) e ∙ step-undone y k
+one_to_one : (x y : ℕ) → x < 2 ^ 32 → y < 2 ^ 32 → next_first x ≡ next_first y → x ≡ y
+one_to_one x y h k e = sym (step_undone x h) ∙ ap (value back) e ∙ step_undone y k
 
 pub first_word : FirstWord
-unfolding nextFirst xorLeft xorRight
+unfolding next_first xor_left xor_right
 first_word =
     record {
-      below = step-lt;
-      one-to-one = one-to-one;
-      onto = λ y h. (value back y, back-lt y h, back-undone y h);
-      never-0 = λ x h n z. n (one-to-one x 0 h (lit< tt) z);
+      below = step_lt;
+      one_to_one = one_to_one;
+      onto = λ y h. (value back y, back_lt y h, back_undone y h);
+      never_0 = λ x h n z. n (one_to_one x 0 h (lit< tt) z);
     }
 
 -- ---- the generator's first word, from one that is not 0 on
 
 pub record Good (g : Generator) : Type 0 where
   pub fits : g.first < 2 ^ 32
-  pub not-0 : g.first ≡ 0 → ⊥
+  pub not_0 : g.first ≡ 0 → ⊥
 
-next-good : (g : Generator) → Good g → Good (next g)
+next_good : (g : Generator) → Good g → Good (next g)
 unfolding next
-next-good g a = record { fits = first_word.below g.first a.fits; not-0 = first_word.never-0 g.first a.fits a.not-0 }
+next_good g a = record { fits = first_word.below g.first a.fits; not_0 = first_word.never_0 g.first a.fits a.not_0 }
 
-load-good : (n : ℕ) (g : Generator) → Good g → Good (load n g).generator
-unfolding load spanLoad
-load-good n g a =
-    cond-case (λ (l : Load). Good l.generator) (eqb (drawn g % 4) 2)
-    (λ e. next-good (next g) (next-good g a)) (λ e. next-good g a)
+load_good : (n : ℕ) (g : Generator) → Good g → Good (load n g).generator
+unfolding load span_load
+load_good n g a =
+    cond_case (λ (l : Load). Good l.generator) (eqb (drawn g % 4) 2)
+    (λ e. next_good (next g) (next_good g a)) (λ e. next_good g a)
 
-after-good : (k : ℕ) (g : Generator) (slice : List ℕ) → Good g → Good (generatorAfter g (loadBlock k g slice))
-after-good k g slice a = load-cases k g slice (λ (r : Answer Load). Good (generatorAfter g r)) (λ n e. a) (λ t. load-good (blockLength k) g a)
+after_good_lem : (k : ℕ) (g : Generator) (slice : List ℕ) → Good g → Good (generator_after g (load_block k g slice))
+after_good_lem k g slice a = load_cases k g slice (λ (r : Answer Load). Good (generator_after g r)) (λ n e. a) (λ t. load_good (block_length k) g a)
 
-calls-good : (g : Generator) (calls : List Call) → Good g → Good (afterCalls g calls)
-calls-good g [] a = a
-calls-good g (c ∷ calls) a = calls-good (generatorAfter g (loadBlock c.k g c.slice)) calls (after-good c.k g c.slice a)
+calls_good : (g : Generator) (calls : List Call) → Good g → Good (after_calls g calls)
+calls_good g [] a = a
+calls_good g (c ∷ calls) a = calls_good (generator_after g (load_block c.k g c.slice)) calls (after_good_lem c.k g c.slice a)
 
-pub only-at-the-start : OnlyAtTheStart
+pub only_at_the_start : OnlyAtTheStart
 unfolding OnlyAtTheStart
-only-at-the-start g f n calls k slice e = not-13 k (afterCalls g calls) slice (calls-good g calls (record { fits = f; not-0 = n })).not-0 e
+only_at_the_start g f n calls k slice e = not_13 k (after_calls g calls) slice (calls_good g calls (record { fits = f; not_0 = n })).not_0 e

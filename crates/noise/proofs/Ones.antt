@@ -2,7 +2,7 @@
 use Rattle.std.proofs.Common.{◌≡◌, ℕ, zero, suc, ◌+◌, ◌*◌, ◌/◌, ◌%◌, ◌^◌, ◌<◌, ◌≤◌, [], ◌∷◌, ◌++◌, length, sym, refl, ap, ◌∙◌, ap₂, add-zero, add_assoc, add_comm, pow-suc, add-one, arith}
 use lib.Count as Count
 use Rattle.crc.specs.Bits.{Bits, zeros, bit, odd, binary}
-use Rattle.crc.proofs.Rows.{bit-lt, bit-odd, binary-split}
+use Rattle.crc.proofs.Rows.{bit-lt, bit-odd, binary_split}
 use Rattle.noise.specs.Load.{ones}
 
 pub ones-append : (x y : Bits) → ones (x ++ y) ≡ ones x + ones y
@@ -25,7 +25,7 @@ ones-binary zero n h = omega (arith, Count.ones-le 0 n h)
 ones-binary (suc w) n h =
     let e : 2 ^ suc w ≡ 2 ^ w * 2 = pow-suc 2 w in
     let b : n / 2 < 2 ^ w = omega arith in
-    ap (λ (x : ℕ). ones (binary x n)) (sym (add-one w)) ∙ ap ones (binary-split w 1 n) ∙ ones-append (binary w (n / 2)) (binary 1 n)
+    ap (λ (x : ℕ). ones (binary x n)) (sym (add-one w)) ∙ ap ones (binary_split w 1 n) ∙ ones-append (binary w (n / 2)) (binary 1 n)
     ∙ ap₂ (λ (x y : ℕ). x + y) (ones-binary w (n / 2) b) (ones_low n)
     ∙ add_comm (Count.ones (n / 2)) (n % 2) ∙ sym (Count.ones_step n)
 

@@ -1,11 +1,11 @@
 -- Worked examples: numbers drawn, a damaged span, a turned-over reading, and what the load can do to a cancelled block.
 -- Assumes nothing.
 use Rattle.std.specs.Prelude.{◌≡◌, ℕ, zero, suc, true, false, List, [], ◌∷◌, ◌++◌}
-use Rattle.crc.specs.Bits.{Bits, zeros, binary, xorBits}
+use Rattle.crc.specs.Bits.{Bits, zeros, binary, xor_bits}
 use Rattle.crc.specs.Check.{passes}
-use Rattle.block.specs.Block.{block_bits, payloadOf, cancelled}
+use Rattle.block.specs.Block.{block_bits, payload_of, cancelled}
 use Rattle.noise.specs.Generator.{next, drawn}
-use Rattle.noise.specs.Load.{wholeLoad, load, places, ones}
+use Rattle.noise.specs.Load.{whole_load, load, places, ones}
 use Rattle.noise.specs.declared.Generator.{Generator}
 
 abbrev pub words : ℕ → ℕ → Generator
@@ -25,20 +25,20 @@ sent = cancelled whole
 
 -- and as it arrives from a load by these words
 abbrev pub arrives : Generator → Bits
-arrives g = xorBits sent (places 260 (load 260 g))
+arrives g = xor_bits sent (places 260 (load 260 g))
 
 pub record Examples : Type 0 where
-  pub five-draws : draws 5 (words 1 0) ≡ 632806 ∷ 68359563 ∷ 2648522772 ∷ 309049443 ∷ 2400501418 ∷ []
+  pub five_draws : draws 5 (words 1 0) ≡ 632806 ∷ 68359563 ∷ 2648522772 ∷ 309049443 ∷ 2400501418 ∷ []
   -- 632,806 leaves 2 when it is divided by 4; 68,359,563 is 1,043 times 65,536 and 5,515, and 1,043 leaves 63 when divided by 245
   pub span : load 260 (words 1 0) ≡ record { pattern = 5515; place = 63; turned = false; generator = words 67634689 724874 }
   -- 5,515 is 0001010110001011 in binary
-  pub seven-bits : ones (binary 16 5515) ≡ 7
+  pub seven_bits : ones (binary 16 5515) ≡ 7
   -- 903,175 leaves 3
-  pub turned-over : load 260 (words 2 0) ≡ wholeLoad true (words 540738 362437)
+  pub turned_over : load 260 (words 2 0) ≡ whole_load true (words 540738 362437)
   -- a cancelled block fails
-  pub cancelled-fails : passes sent ≡ false
+  pub cancelled_fails : passes sent ≡ false
   -- the load can invert its last bit again: it arrives whole, as it was before it was cancelled
   pub restored : arrives (words 9940 7408) ≡ whole
   -- or make it pass with other data: the last of the 240 zero bits arrives as a one
-  pub passes-changed : passes (arrives (words 6721 5040)) ≡ true
-  pub changed : payloadOf 240 (arrives (words 6721 5040)) ≡ zeros 239 ++ (true ∷ [])
+  pub passes_changed : passes (arrives (words 6721 5040)) ≡ true
+  pub changed : payload_of 240 (arrives (words 6721 5040)) ≡ zeros 239 ++ (true ∷ [])

@@ -8,24 +8,24 @@ abbrev pub kept : ℕ → ℕ
 kept x = x % 2 ^ 32
 
 -- x xor (x shifted left)
-unfoldable pub xorLeft : ℕ → ℕ → ℕ
-xorLeft places x = bit_xor x (kept (x * 2 ^ places))
+unfoldable pub xor_left : ℕ → ℕ → ℕ
+xor_left places x = bit_xor x (kept (x * 2 ^ places))
 
 -- x xor (x shifted right)
-unfoldable pub xorRight : ℕ → ℕ → ℕ
-xorRight places x = bit_xor x (x / 2 ^ places)
+unfoldable pub xor_right : ℕ → ℕ → ℕ
+xor_right places x = bit_xor x (x / 2 ^ places)
 
 -- the first word: left 13, then right 17, then left 5, each on the new value
-unfoldable pub nextFirst : ℕ → ℕ
-nextFirst x = xorLeft 5 (xorRight 17 (xorLeft 13 x))
+unfoldable pub next_first : ℕ → ℕ
+next_first x = xor_left 5 (xor_right 17 (xor_left 13 x))
 
 -- the other grows by 362,437
-abbrev pub nextSecond : ℕ → ℕ
-nextSecond y = kept (y + 362437)
+abbrev pub next_second : ℕ → ℕ
+next_second y = kept (y + 362437)
 
 -- a draw updates both
 unfoldable pub next : Generator → Generator
-next g = record { first = nextFirst g.first; second = nextSecond g.second }
+next g = record { first = next_first g.first; second = next_second g.second }
 
 -- and the number drawn is their sum
 unfoldable pub drawn : Generator → ℕ

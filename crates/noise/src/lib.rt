@@ -1,11 +1,11 @@
 // The noise load: the same rough line on every visit. For a bench; no end of the line calls it.
 ghost use Rattle.std.specs.Prelude.{◌≡◌, ◌+◌, ◌/◌, ◌≤◌, true, false, length};
 ghost use Rattle.block.specs.Answer.{done};
-ghost use Rattle.block.specs.Lengths.{isLength, blockLength};
-ghost use Rattle.block.specs.Calls.{tooShort};
-ghost use Rattle.noise.specs.Generator.{nextFirst, Draw};
-ghost use Rattle.noise.specs.Load.{load, spanLoad, LoadedAs, LoadBlock};
-ghost use Rattle.noise.specs.Code.{xorThree, laid};
+ghost use Rattle.block.specs.Lengths.{is_length, block_length};
+ghost use Rattle.block.specs.Calls.{too_short};
+ghost use Rattle.noise.specs.Generator.{next_first, Draw};
+ghost use Rattle.noise.specs.Load.{load, span_load, LoadedAs, LoadBlock};
+ghost use Rattle.noise.specs.Code.{xor_three, laid};
 
 use block::{known_length, too_short};
 
@@ -52,7 +52,7 @@ pub struct Loaded {
 
 // The first word's next value: each line is on the value of the one before.
 fn next_first(x: u32) -> u32
-    ensures { result ≡ nextFirst x }
+    ensures { result ≡ next_first x }
 {
     let a = x ^ x << 13;
     let b = a ^ a >> 17;
@@ -81,7 +81,7 @@ impl Generator {
 // Three bytes of a slice, each xor another.
 fn xor_three(at: usize, a: u8, b: u8, c: u8, block: &mut [u8])
     requires { at + 3 ≤ length block.old }
-    ensures { block.new ≡ xorThree at a b c block.old }
+    ensures { block.new ≡ xor_three at a b c block.old }
 {
     block[at] = block[at] ^ a;
     block[at + 1] = block[at + 1] ^ b;
@@ -106,8 +106,8 @@ fn lay(pattern: u16, place: usize, block: &mut [u8])
 impl Generator {
     // One damaged span, by a second draw.
     fn damage(self, k: usize, block: &mut [u8]) -> Loaded
-        requires { (isLength k ≡ true) × (tooShort block.old (blockLength k) ≡ false) }
-        ensures { LoadedAs k self block.old (done (spanLoad (blockLength k) self)) result block.new }
+        requires { (is_length k ≡ true) × (too_short block.old (block_length k) ≡ false) }
+        ensures { LoadedAs k self block.old (done (span_load (block_length k) self)) result block.new }
     {
         let drawn = self.draw();
         let after = drawn.generator;
@@ -127,8 +127,8 @@ impl Generator {
 
     // What the low two bits of a draw choose.
     fn choose(self, k: usize, block: &mut [u8]) -> Loaded
-        requires { (isLength k ≡ true) × (tooShort block.old (blockLength k) ≡ false) }
-        ensures { LoadedAs k self block.old (done (load (blockLength k) self)) result block.new }
+        requires { (is_length k ≡ true) × (too_short block.old (block_length k) ≡ false) }
+        ensures { LoadedAs k self block.old (done (load (block_length k) self)) result block.new }
     {
         let drawn = self.draw();
         let generator = drawn.generator;

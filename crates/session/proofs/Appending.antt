@@ -7,7 +7,7 @@ use native.Mathlib.Numerals.{add-one}
 use native.Mathlib.Omega.{arith}
 use lib.ListN.{length, take, drop, set, length-append, take-append-drop, replicate}
 use lib.Seq.{take_at, drop-append-add, drop-drop, length-take-le, set_split}
-use Rattle.session.specs.Text.{Appends, emptyText, holding, room}
+use Rattle.session.specs.Text.{Appends, empty_text, holding, room}
 use Rattle.session.specs.declared.text.Text.{Text}
 
 -- bytes over those of a list from a place on
@@ -17,8 +17,8 @@ over s at added = take at s ++ (added ++ drop (at + length added) s)
 over_none : (s : List ℕ) (at : ℕ) → s ≡ over s at []
 over_none s at = rw add-zero (sym (take-append-drop at s))
 
-pub over-one : (s : List ℕ) (at b : ℕ) → at < length s → set s at b ≡ over s at (b ∷ [])
-over-one s at b h = rw add-one (set_split s at b h)
+pub over_one : (s : List ℕ) (at b : ℕ) → at < length s → set s at b ≡ over s at (b ∷ [])
+over_one s at b h = rw add-one (set_split s at b h)
 
 over-over : (s a b : List ℕ) (at : ℕ) → at ≤ length s → over (over s at a) (at + length a) b ≡ over s at (a ++ b)
 over-over s a b at h =
@@ -30,11 +30,11 @@ over-over s a b at h =
     rw (← append_assoc) (ap (λ (m : ℕ). drop (m + length b) ((T ++ a) ++ D)) (sym n) ∙ drop-append-add (T ++ a) D (length b) ∙ drop-drop (length b) (at + length a) s) in
     rw (t, d) (simp (append_assoc, length-append, add_assoc))
 
-pub appends-none : (t : Text) → Appends t [] t
-appends-none t = record { bytes = over_none t.bytes t.len; len = sym (add-zero t.len) }
+pub appends_none : (t : Text) → Appends t [] t
+appends_none t = record { bytes = over_none t.bytes t.len; len = sym (add-zero t.len) }
 
-pub appends-more : (t r s : Text) (a b : List ℕ) → t.len ≤ length t.bytes → Appends t a r → Appends r b s → Appends t (a ++ b) s
-appends-more t r s a b h x y =
+pub appends_more : (t r s : Text) (a b : List ℕ) → t.len ≤ length t.bytes → Appends t a r → Appends r b s → Appends t (a ++ b) s
+appends_more t r s a b h x y =
     record {
       bytes =
           y.bytes ∙ ap (λ (l : List ℕ). over l r.len b) x.bytes ∙ ap (λ (n : ℕ). over (over t.bytes t.len a) n b) x.len
@@ -43,8 +43,8 @@ appends-more t r s a b h x y =
     }
 
 -- what is appended to the empty text is all that the text holds
-pub appends-all : (s : List ℕ) (r : Text) → Appends emptyText s r → r ≡ holding s
-appends-all s r x =
+pub appends_all : (s : List ℕ) (r : Text) → Appends empty_text s r → r ≡ holding s
+appends_all s r x =
     let z : 0 + length s ≡ length s = zero-add (length s) in
     let b : r.bytes ≡ s ++ drop (length s) (replicate room 0) = rw z at x.bytes in
     ap₂ (λ (l : List ℕ) (n : ℕ). the (record { bytes = l; len = n })) b (x.len ∙ z)
@@ -52,5 +52,5 @@ appends-all s r x =
     the : Text → Text
     the t = t
 
-pub appends-next : (r s : Text) (a b : List ℕ) → Appends emptyText a r → Appends r b s → Appends emptyText (a ++ b) s
-appends-next r s a b x y = appends-more emptyText r s a b (omega arith) x y
+pub appends_next : (r s : Text) (a b : List ℕ) → Appends empty_text a r → Appends r b s → Appends empty_text (a ++ b) s
+appends_next r s a b x y = appends_more empty_text r s a b (omega arith) x y

@@ -9,7 +9,7 @@ use native.Mathlib.Omega.{arith}
 use lib.Dec.{ltb}
 use lib.ListN.{length, length-append}
 use borrow.Author.Tests.{lt-ltb, le-ltb, ltb-true, ltb-false}
-use Rattle.session.specs.Text.{decimalTo, decimal, bitText}
+use Rattle.session.specs.Text.{decimal_to, decimal, bit_text}
 
 -- below a number or not
 pub below_or : (a b : ℕ) (t : Bool) → ltb a b ≡ t → (a < b) ⊎ (b ≤ a)
@@ -17,7 +17,7 @@ below_or a b true e = inl (ltb-true a b e)
 below_or a b false e = inr (ltb-false a b e)
 
 -- enough places are enough
-decimal-places : (f g n : ℕ) → n < f → n < g → decimalTo f n ≡ decimalTo g n
+decimal-places : (f g n : ℕ) → n < f → n < g → decimal_to f n ≡ decimal_to g n
 decimal-places zero g n hf hg = absurd (omega arith)
 decimal-places (suc f) zero n hf hg = absurd (omega arith)
 decimal-places (suc f) (suc g) n hf hg =
@@ -25,27 +25,27 @@ decimal-places (suc f) (suc g) n hf hg =
     (λ h. rw (le-ltb n 10 h) (ap (λ (l : List ℕ). l ++ ((48 + n % 10) ∷ [])) (decimal-places f g (n / 10) (omega arith) (omega arith))))
     (below_or n 10 _ refl)
 
-pub decimal-one : (n : ℕ) → n < 10 → decimal n ≡ (48 + n) ∷ []
+pub decimal_one : (n : ℕ) → n < 10 → decimal n ≡ (48 + n) ∷ []
 unfolding decimal
-decimal-one n h = rw (lt-ltb n 10 h)
+decimal_one n h = rw (lt-ltb n 10 h)
 
-pub decimal-more : (n : ℕ) → 10 ≤ n → decimal n ≡ decimal (n / 10) ++ ((48 + n % 10) ∷ [])
+pub decimal_more : (n : ℕ) → 10 ≤ n → decimal n ≡ decimal (n / 10) ++ ((48 + n % 10) ∷ [])
 unfolding decimal
-decimal-more n h =
+decimal_more n h =
     rw (le-ltb n 10 h)
     (ap (λ (l : List ℕ). l ++ ((48 + n % 10) ∷ [])) (decimal-places n (suc (n / 10)) (n / 10) (omega arith) (omega arith)))
 
 pub length-decimal : (p n : ℕ) → n < 10 ^ suc p → length (decimal n) ≤ suc p
-length-decimal zero n h = rw (decimal-one n h) (omega arith)
+length-decimal zero n h = rw (decimal_one n h) (omega arith)
 length-decimal (suc p) n h =
-    ⊎_elim (λ s. rw (decimal-one n s) (omega arith))
+    ⊎_elim (λ s. rw (decimal_one n s) (omega arith))
     (λ m.
     let e : 10 ^ suc (suc p) ≡ 10 ^ suc p * 10 = pow-suc 10 (suc p) in
     let l : length (decimal (n / 10)) ≤ suc p = length-decimal p (n / 10) (omega arith) in
-    rw (decimal-more n m, length-append) (omega arith))
+    rw (decimal_more n m, length-append) (omega arith))
     (below_or n 10 _ refl)
 
 -- a truth value is shown in one
-pub length-bit : (b : Bool) → length (bitText b) ≡ 1
+pub length-bit : (b : Bool) → length (bit_text b) ≡ 1
 length-bit false = refl
 length-bit true = refl

@@ -7,22 +7,22 @@ use Prim.Native.Nat.{ℕ, ◌+◌, ◌*◌, ◌^◌, ◌≤◌, ◌<◌}
 use native.Mathlib.Omega.{arith}
 use lib.ListN.{length, replicate}
 use Rattle.block.specs.Answer.{Answer, refused, done}
-use Rattle.block.specs.Lengths.{isLength}
-use Rattle.line.specs.Marks.{marksOf}
-use Rattle.line.specs.MostBlocks.{firstPair, laterPair}
-use Rattle.line.specs.Order.{mostItems, validLength, itemCount}
+use Rattle.block.specs.Lengths.{is_length}
+use Rattle.line.specs.Marks.{marks_of}
+use Rattle.line.specs.MostBlocks.{first_pair, later_pair}
+use Rattle.line.specs.Order.{most_items, valid_length, item_count}
 use Rattle.line.specs.Sending as S
-use Rattle.line.specs.Sending.{send, openSender}
-use Rattle.line.specs.Receiving.{openReceiver, freshReceiver}
-use Rattle.line.proofs.Items.{itemCount-fits}
-use Rattle.line.proofs.MostBlocks.{blocksLeft, send-lowers, fresh-left}
+use Rattle.line.specs.Sending.{send, open_sender}
+use Rattle.line.specs.Receiving.{open_receiver, fresh_receiver}
+use Rattle.line.proofs.Items.{item_count_fits}
+use Rattle.line.proofs.MostBlocks.{blocks_left, send_lowers, fresh_left}
 use Rattle.line.proofs.SenderRange.{opened}
 use Rattle.line.specs.declared.sender.Sender.{Sender}
 use Rattle.line.specs.declared.receiver.Receiver.{Receiver}
-use Rattle.session.specs.LineOne.{Opening, lineOne}
-use Rattle.session.specs.Lines.{firstLine, afterLine, lines}
-use Rattle.session.specs.Outcomes.{speed, loop-ms, code-size, storeRoom, kind_of, unlessRefused, lineOutcomes, periods, receiverOutcomes, senderOutcomes, openingOutcomes, outcomes, lineCount, items_of, MostPeriods}
-use Rattle.session.specs.Period.{PeriodResult, reading_of, lineBytes, sentResult, period}
+use Rattle.session.specs.LineOne.{Opening, line_one}
+use Rattle.session.specs.Lines.{first_line, after_line, lines}
+use Rattle.session.specs.Outcomes.{speed, loop_ms, code_size, store_room, kind_of, outcomes_unless_refused, line_outcomes, periods, receiver_outcomes, sender_outcomes, opening_outcomes, outcomes, line_count, items_of, MostPeriods}
+use Rattle.session.specs.Period.{PeriodResult, reading_of, line_bytes, sent_result, period}
 use Rattle.session.specs.declared.period.Kind.{Kind}
 use Rattle.session.specs.declared.period.Line.{Line}
 use Rattle.session.specs.declared.period.Outcome.{Outcome}
@@ -30,89 +30,89 @@ use Rattle.session.specs.declared.period.Outcome.TheVariants as O
 
 -- so many lines at most, and one refusal at most behind them
 pub record Few (most : ℕ) (os : List Outcome) : Type 0 where
-  pub lines-few : lineCount os ≤ most
-  pub one-refusal : length os ≤ lineCount os + 1
+  pub lines_few : line_count os ≤ most
+  pub one_refusal : length os ≤ line_count os + 1
 
-few-none : (most : ℕ) → Few most []
-few-none most = record { lines-few = omega arith; one-refusal = omega arith }
+few_none : (most : ℕ) → Few most []
+few_none most = record { lines_few = omega arith; one_refusal = omega arith }
 
-few-refused : (most n : ℕ) → Few most (O.Refused n ∷ [])
-few-refused most n = record { lines-few = omega arith; one-refusal = omega arith }
+few_refused : (most n : ℕ) → Few most (O.Refused n ∷ [])
+few_refused most n = record { lines_few = omega arith; one_refusal = omega arith }
 
 -- ---- a period with a line is one with a block sent
 
-sent-lowers : (kind : Kind) (s : Sender) (r : Receiver) (reading : Bool) (order store : List ℕ) (a : Answer S.Block)
-    → send s order reading (replicate lineBytes 0) ≡ a → (l : Line) → (sentResult kind s r reading order store a).period.outcome ≡ O.Line l
-    → blocksLeft (sentResult kind s r reading order store a).period.sender < blocksLeft s
-sent-lowers kind s r reading order store (refused n) e l o = absurd (let z : ◌≡◌ {A = ℕ} 0 1 = cc in omega arith)
-sent-lowers kind s r reading order store (done b) e l o = send-lowers s order reading (replicate lineBytes 0) b e
+sent_lowers : (kind : Kind) (s : Sender) (r : Receiver) (reading : Bool) (order store : List ℕ) (a : Answer S.Block)
+    → send s order reading (replicate line_bytes 0) ≡ a → (l : Line) → (sent_result kind s r reading order store a).period.outcome ≡ O.Line l
+    → blocks_left (sent_result kind s r reading order store a).period.sender < blocks_left s
+sent_lowers kind s r reading order store (refused n) e l o = absurd (let z : ◌≡◌ {A = ℕ} 0 1 = cc in omega arith)
+sent_lowers kind s r reading order store (done b) e l o = send_lowers s order reading (replicate line_bytes 0) b e
 
-period-lowers : (kind : Kind) (s : Sender) (r : Receiver) (order store : List ℕ) (l : Line) → (period kind s r order store).period.outcome ≡ O.Line l
-    → blocksLeft (period kind s r order store).period.sender < blocksLeft s
+period_lowers : (kind : Kind) (s : Sender) (r : Receiver) (order store : List ℕ) (l : Line) → (period kind s r order store).period.outcome ≡ O.Line l
+    → blocks_left (period kind s r order store).period.sender < blocks_left s
 unfolding period
-period-lowers kind s r order store l o =
-    sent-lowers kind s r (reading_of kind r.back) order store (send s order (reading_of kind r.back) (replicate lineBytes 0)) refl l o
+period_lowers kind s r order store l o =
+    sent_lowers kind s r (reading_of kind r.back) order store (send s order (reading_of kind r.back) (replicate line_bytes 0)) refl l o
 
-few-more : (most left : ℕ) (out : Outcome) (rest : List Outcome) → ((l : Line) → out ≡ O.Line l → left < most) → Few left rest
-    → Few most (out ∷ unlessRefused out rest)
-few-more most left (O.Refused n) rest h f = few-refused most n
-few-more most left (O.Line l) rest h f =
-    record { lines-few = omega (arith, h l refl, f.lines-few); one-refusal = omega (arith, f.one-refusal) }
+few_more : (most left : ℕ) (out : Outcome) (rest : List Outcome) → ((l : Line) → out ≡ O.Line l → left < most) → Few left rest
+    → Few most (out ∷ outcomes_unless_refused out rest)
+few_more most left (O.Refused n) rest h f = few_refused most n
+few_more most left (O.Line l) rest h f =
+    record { lines_few = omega (arith, h l refl, f.lines_few); one_refusal = omega (arith, f.one_refusal) }
 
-periods-few : (ls : List (List ℕ)) (s : Sender) (r : Receiver) (order store : List ℕ) → Few (blocksLeft s) (periods s r order store ls)
+periods_few : (ls : List (List ℕ)) (s : Sender) (r : Receiver) (order store : List ℕ) → Few (blocks_left s) (periods s r order store ls)
 unfolding periods
-periods-few [] s r order store = few-none (blocksLeft s)
-periods-few (l ∷ ls) s r order store =
+periods_few [] s r order store = few_none (blocks_left s)
+periods_few (l ∷ ls) s r order store =
     by_kind (kind_of l) (λ c. periods c.period.sender c.period.receiver order c.store ls)
-    (λ c. periods-few ls c.period.sender c.period.receiver order c.store)
+    (λ c. periods_few ls c.period.sender c.period.receiver order c.store)
   where
-    by_kind : (k : Option Kind) (next : PeriodResult → List Outcome) → ((c : PeriodResult) → Few (blocksLeft c.period.sender) (next c))
-        → Few (blocksLeft s) (lineOutcomes s r order store next k)
-    by_kind none next few = few-none (blocksLeft s)
+    by_kind : (k : Option Kind) (next : PeriodResult → List Outcome) → ((c : PeriodResult) → Few (blocks_left c.period.sender) (next c))
+        → Few (blocks_left s) (line_outcomes s r order store next k)
+    by_kind none next few = few_none (blocks_left s)
     by_kind (some kind) next few =
         let c : PeriodResult = period kind s r order store in
-        few-more (blocksLeft s) (blocksLeft c.period.sender) c.period.outcome (next c)
-        (λ l e. period-lowers kind s r order store l e) (few c)
+        few_more (blocks_left s) (blocks_left c.period.sender) c.period.outcome (next c)
+        (λ l e. period_lowers kind s r order store l e) (few c)
 
 -- ---- both ends opened
 
 abbrev most : ℕ → ℕ
-most N = firstPair + laterPair * N
+most N = first_pair + later_pair * N
 
 -- for a bound on the items of an order that is not refused
-module _ (o : Opening) (N : ℕ) (fits : isLength o.k ≡ true → validLength o.order.bits ≡ true → itemCount o.k o.order.bits ≤ N)
+module _ (o : Opening) (N : ℕ) (fits : is_length o.k ≡ true → valid_length o.order.bits ≡ true → item_count o.k o.order.bits ≤ N)
     (ls : List (List ℕ)) where
-  receiver-few : (s : Sender) → blocksLeft s ≤ most N → (a : Answer (Unit {0})) → Few (most N) (receiverOutcomes o s ls a)
-  receiver-few s h (refused n) = few-refused (most N) n
-  receiver-few s h (done u) =
-      let f = periods-few ls s (freshReceiver o.k (marksOf code-size)) o.order.bytes (replicate storeRoom 0) in
-      record { lines-few = omega (arith, f.lines-few); one-refusal = f.one-refusal }
+  receiver_few : (s : Sender) → blocks_left s ≤ most N → (a : Answer (Unit {0})) → Few (most N) (receiver_outcomes o s ls a)
+  receiver_few s h (refused n) = few_refused (most N) n
+  receiver_few s h (done u) =
+      let f = periods_few ls s (fresh_receiver o.k (marks_of code_size)) o.order.bytes (replicate store_room 0) in
+      record { lines_few = omega (arith, f.lines_few); one_refusal = f.one_refusal }
 
-  sender-few : (a : Answer Sender) → openSender o.k speed loop-ms o.order.bits code-size o.order.bytes ≡ a
-      → Few (most N) (senderOutcomes o ls a)
-  sender-few (refused n) e = few-refused (most N) n
-  sender-few (done s) e =
-      let g = opened o.k speed loop-ms o.order.bits code-size o.order.bytes s e in
-      let b = ap blocksLeft g.state ∙ fresh-left o.k o.order.bits (marksOf code-size) in
-      receiver-few s (omega (arith, b, fits g.known g.valid)) (openReceiver o.k code-size)
+  sender_few : (a : Answer Sender) → open_sender o.k speed loop_ms o.order.bits code_size o.order.bytes ≡ a
+      → Few (most N) (sender_outcomes o ls a)
+  sender_few (refused n) e = few_refused (most N) n
+  sender_few (done s) e =
+      let g = opened o.k speed loop_ms o.order.bits code_size o.order.bytes s e in
+      let b = ap blocks_left g.state ∙ fresh_left o.k o.order.bits (marks_of code_size) in
+      receiver_few s (omega (arith, b, fits g.known g.valid)) (open_receiver o.k code_size)
 
-opening-few : (p : Option Opening) (N : ℕ)
-    → ((o : Opening) → p ≡ some o → isLength o.k ≡ true → validLength o.order.bits ≡ true → itemCount o.k o.order.bits ≤ N)
-    → (ls : List (List ℕ)) → Few (most N) (openingOutcomes p ls)
-opening-few none N fits ls = few-none (most N)
-opening-few (some o) N fits ls =
-    sender-few o N (fits o refl) ls (openSender o.k speed loop-ms o.order.bits code-size o.order.bytes) refl
+opening_few : (p : Option Opening) (N : ℕ)
+    → ((o : Opening) → p ≡ some o → is_length o.k ≡ true → valid_length o.order.bits ≡ true → item_count o.k o.order.bits ≤ N)
+    → (ls : List (List ℕ)) → Few (most N) (opening_outcomes p ls)
+opening_few none N fits ls = few_none (most N)
+opening_few (some o) N fits ls =
+    sender_few o N (fits o refl) ls (open_sender o.k speed loop_ms o.order.bits code_size o.order.bytes) refl
 
-pub most-periods : MostPeriods
+pub most_periods : MostPeriods
 unfolding MostPeriods outcomes
-most-periods input =
-    (opening-few (lineOne (firstLine input)) (items_of (lineOne (firstLine input)))
-    (λ o e known valid. rw e (omega arith)) (lines (afterLine input))).lines-few
+most_periods input =
+    (opening_few (line_one (first_line input)) (items_of (line_one (first_line input)))
+    (λ o e known valid. rw e (omega arith)) (lines (after_line input))).lines_few
 
 -- no number of a period comes near the largest machine word
-pub few-outcomes : (input : List ℕ) → length (outcomes input) < 2 ^ 64
+pub few_outcomes : (input : List ℕ) → length (outcomes input) < 2 ^ 64
 unfolding outcomes
-few-outcomes input =
-    let f = opening-few (lineOne (firstLine input)) mostItems (λ o e known valid. itemCount-fits o.k o.order.bits known valid)
-    (lines (afterLine input)) in
-    omega (arith, f.lines-few, f.one-refusal)
+few_outcomes input =
+    let f = opening_few (line_one (first_line input)) most_items (λ o e known valid. item_count_fits o.k o.order.bits known valid)
+    (lines (after_line input)) in
+    omega (arith, f.lines_few, f.one_refusal)

@@ -8,8 +8,8 @@ use lib.ListN.{length, take}
 use lib.Seq.{take_all}
 use Rattle.session.proofs.Decimal.{below_or}
 
-pub take-least : (n : ℕ) (l : List ℕ) → take (min n (length l)) l ≡ take n l
-take-least n l =
+pub take_least : (n : ℕ) (l : List ℕ) → take (min n (length l)) l ≡ take n l
+take_least n l =
     ⊎_elim (λ (h : n < length l). let e : min n (length l) ≡ n = omega arith in rw e)
     (λ (h : length l ≤ n). let e : min n (length l) ≡ length l = omega arith in rw (e, take_all (length l) l (omega arith), take_all n l h))
     (below_or n (length l) _ refl)

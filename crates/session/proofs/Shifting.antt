@@ -8,8 +8,8 @@ use native.Mathlib.Omega.{arith}
 use lib.ListN.{length, get_or, set, take, drop, length-append, length-drop}
 use lib.Seq.{take-suc-set, drop-set-lt, take-append-le, drop-append-le, drop-nil, drop-drop, get_or-drop}
 use Rattle.crc.specs.Bits.{Bits, binary, number, bits_of, bytes_of, zeros}
-use Rattle.crc.proofs.Rows.{length-binary, number-binary-mod, binary-join, take-binary, drop-binary, binary-zero}
-use Rattle.crc.proofs.Bytes.{drop-bitsOf, bytesOf-add}
+use Rattle.crc.proofs.Rows.{length-binary, number-binary-mod, binary_join, take-binary, drop-binary, binary-zero}
+use Rattle.crc.proofs.Bytes.{drop-bits_of, bytes_of-add}
 
 -- eight bits of two bytes
 two_bytes : (part x y : ℕ) (r : Bits) → part ≤ 8 → y < 256
@@ -17,7 +17,7 @@ two_bytes : (part x y : ℕ) (r : Bits) → part ≤ 8 → y < 256
 two_bytes part x y r h hy =
     let m : ℕ = x * 256 + y in
     let w : ℕ = 8 - part in
-    let j : binary 16 m ≡ binary 8 x ++ binary 8 y = binary-join 8 8 x y hy in
+    let j : binary 16 m ≡ binary 8 x ++ binary 8 y = binary_join 8 8 x y hy in
     let e : 16 ≡ part + (8 + w) = omega arith in
     let l : part ≤ length (binary 16 m) = rw (length-binary 16 m) (omega arith) in
     let d : drop part (binary 16 m) ≡ binary (8 + w) m = rw e (drop-binary part (8 + w) m) in
@@ -54,12 +54,12 @@ byte_more s used i bytes =
     let u : used ≡ 8 * (used / 8) + used % 8 = omega arith in
     let e : drop (8 * i) (drop used (bits_of s)) ≡ drop (used % 8) (bits_of t) =
     drop-drop (8 * i) used (bits_of s)
-    ∙ ap (λ (n : ℕ). drop n (bits_of s)) (omega-path used i)
-    ∙ sym (drop-drop (used % 8) (8 * (used / 8 + i)) (bits_of s)) ∙ ap (drop (used % 8)) (drop-bitsOf (used / 8 + i) s) in
-    rw (bytesOf-add i 1, e, first_byte (used % 8) t (omega arith) (rw get_or-drop (bytes _)), get_or-drop, get_or-drop, add-zero)
+    ∙ ap (λ (n : ℕ). drop n (bits_of s)) (omega_path used i)
+    ∙ sym (drop-drop (used % 8) (8 * (used / 8 + i)) (bits_of s)) ∙ ap (drop (used % 8)) (drop-bits_of (used / 8 + i) s) in
+    rw (bytes_of-add i 1, e, first_byte (used % 8) t (omega arith) (rw get_or-drop (bytes _)), get_or-drop, get_or-drop, add-zero)
   where
-    omega-path : (used i : ℕ) → used + 8 * i ≡ 8 * (used / 8 + i) + used % 8
-    omega-path used i = omega arith
+    omega_path : (used i : ℕ) → used + 8 * i ≡ 8 * (used / 8 + i) + used % 8
+    omega_path used i = omega arith
 
 -- the slice behind the bytes written is as it was
 unwritten : (s s₀ : List ℕ) (i j : ℕ) → drop i s ≡ drop i s₀ → i ≤ j → get_or s j 0 ≡ get_or s₀ j 0
@@ -67,11 +67,11 @@ unwritten s s₀ i j e h =
     let p : j ≡ i + (j - i) = omega arith in
     rw (p, ← get_or-drop i s, ← get_or-drop i s₀, e)
 
-pub shift-more : (s s₀ : List ℕ) (used i v : ℕ) → i < length s → ((j : ℕ) → get_or s₀ j 0 < 256)
+pub shift_more : (s s₀ : List ℕ) (used i v : ℕ) → i < length s → ((j : ℕ) → get_or s₀ j 0 < 256)
     → take i s ≡ bytes_of i (drop used (bits_of s₀)) → drop i s ≡ drop i s₀
     → v ≡ (get_or s (used / 8 + i) 0 * 256 + get_or s (used / 8 + i + 1) 0) / 2 ^ (8 - used % 8) % 256
     → (take (i + 1) (set s i v) ≡ bytes_of (i + 1) (drop used (bits_of s₀))) × (drop (i + 1) (set s i v) ≡ drop (i + 1) s₀)
-shift-more s s₀ used i v h bytes t d e =
+shift_more s s₀ used i v h bytes t d e =
     let a = unwritten s s₀ i (used / 8 + i) d (omega arith) in
     let b = unwritten s s₀ i (used / 8 + i + 1) d (omega arith) in (
       rw (byte_more s₀ used i bytes, ← a, ← b, ← e, ← t) (rw (← add-one) at (take-suc-set s i v h)),

@@ -7,12 +7,12 @@ use Prim.Native.Nat.{ℕ}
 use lib.ListN.{take, replicate}
 use Rattle.crc.specs.Bits.{binary, number, bits_of, bytes_of}
 use Rattle.crc.specs.Check.{remainder, passes, check}
-use Rattle.block.specs.Lengths.{isLength}
+use Rattle.block.specs.Lengths.{is_length}
 use Rattle.block.specs.Block.{block_bits, verdict}
-use Rattle.line.specs.Marks.{marksOf, marksInRange}
-use Rattle.line.specs.Order.{validLength, itemCount, letter, isLetter, dataService, filled, itemService, itemPayload, orderBits, itemBits}
-use Rattle.line.specs.Sending.{senderInRange, send, transmit, sentBits}
-use Rattle.line.specs.Receiving.{freshReceiver, zeroArray, is_of, place, serviceRule, looksSync, judge, afterGood, holding, inStep, reception, receiverInRange, receive, storeAt}
+use Rattle.line.specs.Marks.{marks_of, marks_in_range}
+use Rattle.line.specs.Order.{valid_length, item_count, letter, is_letter, data_service, filled, item_service, item_payload, order_bits, item_bits}
+use Rattle.line.specs.Sending.{sender_in_range, send, transmit, sent_bits}
+use Rattle.line.specs.Receiving.{fresh_receiver, zero_array, is_of, place, service_rule, looks_sync, judge, after_good, holding, in_step, reception, receiver_in_range, receive, store_at}
 use Rattle.line.specs.declared.marks.CodeSize.TheVariants as C
 use Rattle.line.specs.declared.marks.Marks.{Marks}
 use Rattle.line.specs.declared.receiver.Receiver.{Receiver}
@@ -20,10 +20,10 @@ use Rattle.line.specs.declared.receiving.Event.{Event}
 use Rattle.line.specs.declared.receiving.Event.TheVariants as E
 use Rattle.line.specs.declared.sender.Sender.{Sender}
 use Rattle.line.specs.declared.sender.Next.TheVariants as N
-use Rattle.session.specs.LastEvent.{heardEvents, periodEvents, shownEvents}
+use Rattle.session.specs.LastEvent.{heard_events, period_events, shown_events}
 use Rattle.session.specs.Period.{period}
 use Rattle.session.specs.declared.period.Kind.TheVariants as K
-use Rattle.session.proofs.LastEvent.{last-event}
+use Rattle.session.proofs.LastEvent.{last_event_lem}
 
 abbrev order : List ℕ
 order = 0xa5 ∷ []
@@ -32,7 +32,7 @@ abbrev store : List ℕ
 store = replicate 30 0
 
 abbrev marks : Marks
-marks = marksOf C.NotGiven
+marks = marks_of C.NotGiven
 
 -- the older item is next
 abbrev sender : Sender
@@ -48,26 +48,26 @@ sender =
 
 -- in step
 abbrev receiver : Receiver
-receiver = afterGood (freshReceiver 240 marks) 0 false
+receiver = after_good (fresh_receiver 240 marks) 0 false
 
 -- one bit of item 0 is missing
 abbrev nearly : Receiver
-nearly = holding receiver (take 259 (itemBits marks 240 8 (orderBits 8 order) 0))
+nearly = holding receiver (take 259 (item_bits marks 240 8 (order_bits 8 order) 0))
 
 -- where this unfolds, so does all that both ends compute with
 unfoldable pub events : Receiver → List Event
-unfolding periodEvents heardEvents send senderInRange transmit sentBits itemBits itemPayload itemService dataService filled receive receiverInRange marksInRange reception inStep judge looksSync verdict passes remainder check block_bits serviceRule place is_of letter isLetter validLength itemCount number binary bits_of bytes_of zeroArray freshReceiver isLength storeAt
-events r = periodEvents K.Undisturbed sender r order store
+unfolding period_events heard_events send sender_in_range transmit sent_bits item_bits item_payload item_service data_service filled receive receiver_in_range marks_in_range reception in_step judge looks_sync verdict passes remainder check block_bits service_rule place is_of letter is_letter valid_length item_count number binary bits_of bytes_of zero_array fresh_receiver is_length store_at
+events r = period_events K.Undisturbed sender r order store
 
 pub accepted-whole : events receiver ≡ E.Accepted ∷ []
 unfolding events
 accepted-whole = refl
 
-pub accepted-first : events nearly ≡ E.Accepted ∷ E.None ∷ []
+pub accepted_first : events nearly ≡ E.Accepted ∷ E.None ∷ []
 unfolding events
-accepted-first = refl
+accepted_first = refl
 
 -- and the line shows it
-pub accepted-shown : shownEvents (period K.Undisturbed sender nearly order store).period.outcome ≡ E.Accepted ∷ []
+pub accepted-shown : shown_events (period K.Undisturbed sender nearly order store).period.outcome ≡ E.Accepted ∷ []
 unfolding events
-accepted-shown = ((last-event.tells K.Undisturbed sender nearly order store refl).last [] E.Accepted (E.None ∷ []) accepted-first refl).1
+accepted-shown = ((last_event_lem.tells K.Undisturbed sender nearly order store refl).last [] E.Accepted (E.None ∷ []) accepted_first refl).1

@@ -3,16 +3,16 @@
 use Rattle.std.specs.Prelude.{◌≡◌, Bool, true, ◌||◌, List, [], ◌∷◌, ◌++◌, ℕ, zero, suc, ◌+◌, length, drop, replicate}
 use Rattle.crc.specs.Bits.{Bits, bit, bytes_of}
 use Rattle.block.specs.Answer.{Answer, refused, done}
-use Rattle.line.specs.Order.{orderBits}
+use Rattle.line.specs.Order.{order_bits}
 use Rattle.line.specs.Sending as S
-use Rattle.line.specs.Sending.{send, sentBits}
-use Rattle.line.specs.Receiving.{Reception, meaning, isAccepted, isEnded, takesBlock, receive, receiveStore}
+use Rattle.line.specs.Sending.{send, sent_bits}
+use Rattle.line.specs.Receiving.{Reception, meaning, is_accepted, is_ended, takes_block, receive, receive_store}
 use Rattle.line.specs.Delivery.{All, some}
 use Rattle.line.specs.declared.sender.Sender.{Sender}
 use Rattle.line.specs.declared.receiver.Receiver.{Receiver}
 use Rattle.line.specs.declared.receiving.Event.{Event}
 use Rattle.line.specs.declared.receiving.Event.TheVariants as E
-use Rattle.session.specs.Period.{reading_of, arriving, lineBytes, lastEvent, ready, period}
+use Rattle.session.specs.Period.{reading_of, arriving, line_bytes, last_event, ready, period}
 use Rattle.session.specs.declared.period.Kind.{Kind}
 use Rattle.session.specs.declared.period.Line.{Line}
 use Rattle.session.specs.declared.period.Outcome.{Outcome}
@@ -21,59 +21,59 @@ use Rattle.session.specs.declared.period.Period.{Period}
 
 -- ---- the events of a period's receiving calls, call by call, none included: as `hear` and `period` go through them
 
-abbrev pub answeredEvents : (Receiver → Bits → List ℕ → List Event) → Receiver → Bits → List ℕ → Answer Reception → List Event
-answeredEvents next s bits store (refused n) = []
-answeredEvents next s bits store (done x) =
-    (meaning x.rule).event ∷ next x.state (drop x.used bits) (receiveStore s store (done x))
+abbrev pub answered_events : (Receiver → Bits → List ℕ → List Event) → Receiver → Bits → List ℕ → Answer Reception → List Event
+answered_events next s bits store (refused n) = []
+answered_events next s bits store (done x) =
+    (meaning x.rule).event ∷ next x.state (drop x.used bits) (receive_store s store (done x))
 
-unfoldable pub heardEvents : ℕ → Receiver → Bits → List ℕ → List Event
-heardEvents zero s bits store = []
-heardEvents (suc calls) s [] store = []
-heardEvents (suc calls) s (b ∷ bs) store =
-    answeredEvents (heardEvents calls) s (b ∷ bs) store (receive s (bytes_of lineBytes (b ∷ bs)) (length (b ∷ bs)) ready store)
+unfoldable pub heard_events : ℕ → Receiver → Bits → List ℕ → List Event
+heard_events zero s bits store = []
+heard_events (suc calls) s [] store = []
+heard_events (suc calls) s (b ∷ bs) store =
+    answered_events (heard_events calls) s (b ∷ bs) store (receive s (bytes_of line_bytes (b ∷ bs)) (length (b ∷ bs)) ready store)
 
-abbrev pub sentEvents : Kind → Sender → Receiver → List ℕ → List ℕ → Answer S.Block → List Event
-sentEvents kind s r order store (refused n) = []
-sentEvents kind s r order store (done b) =
-    let bits : Bits = sentBits s.setup.marks s.setup.k s.setup.length (orderBits s.setup.length order) b in
-    heardEvents (length bits) r (arriving kind bits) store
+abbrev pub sent_events : Kind → Sender → Receiver → List ℕ → List ℕ → Answer S.Block → List Event
+sent_events kind s r order store (refused n) = []
+sent_events kind s r order store (done b) =
+    let bits : Bits = sent_bits s.setup.marks s.setup.k s.setup.length (order_bits s.setup.length order) b in
+    heard_events (length bits) r (arriving kind bits) store
 
-unfoldable pub periodEvents : Kind → Sender → Receiver → List ℕ → List ℕ → List Event
-periodEvents kind s r order store = sentEvents kind s r order store (send s order (reading_of kind r.back) (replicate lineBytes 0))
+unfoldable pub period_events : Kind → Sender → Receiver → List ℕ → List ℕ → List Event
+period_events kind s r order store = sent_events kind s r order store (send s order (reading_of kind r.back) (replicate line_bytes 0))
 
 -- ---- what is said of them
 
 -- the last of them other than none
 abbrev pub last_of : Event → List Event → Event
 last_of last [] = last
-last_of last (e ∷ es) = last_of (lastEvent last e) es
+last_of last (e ∷ es) = last_of (last_event last e) es
 
-abbrev pub howMany : (Event → Bool) → List Event → ℕ
-howMany p [] = 0
-howMany p (e ∷ es) = bit (p e) + howMany p es
+abbrev pub how_many : (Event → Bool) → List Event → ℕ
+how_many p [] = 0
+how_many p (e ∷ es) = bit (p e) + how_many p es
 
 -- the event of a line; a refusal shows none
-abbrev pub shownEvents : Outcome → List Event
-shownEvents (O.Refused n) = []
-shownEvents (O.Line l) = l.event ∷ []
+abbrev pub shown_events : Outcome → List Event
+shown_events (O.Refused n) = []
+shown_events (O.Line l) = l.event ∷ []
 
 -- ---- what a period's line tells, by its events and the receiver before it
 
 pub record Tells (r : Receiver) (events : List Event) (p : Period) : Type 0 where
   -- after accepted or ended no call of the period has an event or is refused, and the line shows it
-  pub last : (before : List Event) (e : Event) (after : List Event) → events ≡ before ++ (e ∷ after) → takesBlock e ≡ true
-      → All (λ x. x ≡ E.None) after × (shownEvents p.outcome ≡ e ∷ [])
+  pub last : (before : List Event) (e : Event) (after : List Event) → events ≡ before ++ (e ∷ after) → takes_block e ≡ true
+      → All (λ x. x ≡ E.None) after × (shown_events p.outcome ≡ e ∷ [])
   -- as many are shown as there were, of accepted, of ended, or of any choice among them
-  pub number : (choice : Event → Bool) → ((e : Event) → choice e ≡ true → takesBlock e ≡ true)
-      → howMany choice events ≡ howMany choice (shownEvents p.outcome)
+  pub number : (choice : Event → Bool) → ((e : Event) → choice e ≡ true → takes_block e ≡ true)
+      → how_many choice events ≡ how_many choice (shown_events p.outcome)
   -- an item more is taken exactly if the line shows accepted, and the end is if it was or if the line shows ended
-  pub taken : p.receiver.taken ≡ r.taken + howMany isAccepted (shownEvents p.outcome)
-  pub ended : p.receiver.ended ≡ r.ended || some isEnded (shownEvents p.outcome)
+  pub taken : p.receiver.taken ≡ r.taken + how_many is_accepted (shown_events p.outcome)
+  pub ended : p.receiver.ended ≡ r.ended || some is_ended (shown_events p.outcome)
 
 -- both ends with the same k; otherwise in any state, with any order and store
 pub record LastEvent : Type 0 where
   pub tells : (kind : Kind) (s : Sender) (r : Receiver) (order store : List ℕ) → s.setup.k ≡ r.setup.k
-      → Tells r (periodEvents kind s r order store) (period kind s r order store).period
+      → Tells r (period_events kind s r order store) (period kind s r order store).period
   -- whatever k: the line's event is the last of the period's events other than none
   pub shows : (kind : Kind) (s : Sender) (r : Receiver) (order store : List ℕ) (l : Line)
-      → (period kind s r order store).period.outcome ≡ O.Line l → l.event ≡ last_of E.None (periodEvents kind s r order store)
+      → (period kind s r order store).period.outcome ≡ O.Line l → l.event ≡ last_of E.None (period_events kind s r order store)

@@ -5,13 +5,13 @@ abbrev pub newline : ℕ
 newline = 10
 
 -- the first line, and what follows its newline
-abbrev pub firstLine : List ℕ → List ℕ
-firstLine [] = []
-firstLine (c ∷ cs) = cond (eqb c newline) [] (c ∷ firstLine cs)
+abbrev pub first_line : List ℕ → List ℕ
+first_line [] = []
+first_line (c ∷ cs) = cond (eqb c newline) [] (c ∷ first_line cs)
 
-abbrev pub afterLine : List ℕ → List ℕ
-afterLine [] = []
-afterLine (c ∷ cs) = cond (eqb c newline) cs (afterLine cs)
+abbrev pub after_line : List ℕ → List ℕ
+after_line [] = []
+after_line (c ∷ cs) = cond (eqb c newline) cs (after_line cs)
 
 -- a byte before the first of these lines
 abbrev pub joined : ℕ → List (List ℕ) → List (List ℕ)

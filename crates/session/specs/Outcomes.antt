@@ -3,17 +3,17 @@
 use Rattle.std.specs.Prelude.{cond, List, [], ◌∷◌, ℕ, ◌+◌, ◌*◌, ◌/◌, ◌≤◌, eqb, replicate}
 use Rattle.std.proofs.Math.Option.{Option, none, some}
 use Rattle.block.specs.Answer.{Answer, refused, done}
-use Rattle.line.specs.Marks.{marksOf}
-use Rattle.line.specs.MostBlocks.{firstPair, laterPair}
-use Rattle.line.specs.Order.{longestOrder, itemCount}
-use Rattle.line.specs.Sending.{openSender}
-use Rattle.line.specs.Receiving.{openReceiver, freshReceiver}
+use Rattle.line.specs.Marks.{marks_of}
+use Rattle.line.specs.MostBlocks.{first_pair, later_pair}
+use Rattle.line.specs.Order.{longest_order, item_count}
+use Rattle.line.specs.Sending.{open_sender}
+use Rattle.line.specs.Receiving.{open_receiver, fresh_receiver}
 use Rattle.line.specs.declared.marks.CodeSize.{CodeSize}
 use Rattle.line.specs.declared.marks.CodeSize.TheVariants as C
 use Rattle.line.specs.declared.sender.Sender.{Sender}
 use Rattle.line.specs.declared.receiver.Receiver.{Receiver}
-use Rattle.session.specs.LineOne.{Opening, lineOne}
-use Rattle.session.specs.Lines.{firstLine, afterLine, lines}
+use Rattle.session.specs.LineOne.{Opening, line_one}
+use Rattle.session.specs.Lines.{first_line, after_line, lines}
 use Rattle.session.specs.Period.{PeriodResult, period}
 use Rattle.session.specs.declared.period.Kind.{Kind}
 use Rattle.session.specs.declared.period.Kind.TheVariants as K
@@ -24,84 +24,84 @@ use Rattle.session.specs.declared.period.Outcome.TheVariants as O
 abbrev pub speed : ℕ
 speed = 200
 
-abbrev pub loop-ms : ℕ
-loop-ms = 0
+abbrev pub loop_ms : ℕ
+loop_ms = 0
 
-abbrev pub code-size : CodeSize
-code-size = C.NotGiven
+abbrev pub code_size : CodeSize
+code_size = C.NotGiven
 
 -- the bytes of the longest order, and of the store: the longest order in items of 3840 bits, the last one filled; shorter items
 -- take no more, since every k divides 3840
-abbrev pub orderRoom : ℕ
-orderRoom = longestOrder / 8
+abbrev pub order_room : ℕ
+order_room = longest_order / 8
 
-abbrev pub storeRoom : ℕ
-storeRoom = (longestOrder + 3839) / 3840 * 480
+abbrev pub store_room : ℕ
+store_room = (longest_order + 3839) / 3840 * 480
 
 -- ---- a line for each period
 
 -- the letters of the three kinds
-unfoldable pub letterKind : ℕ → Option Kind
-letterKind c =
+unfoldable pub letter_kind : ℕ → Option Kind
+letter_kind c =
     cond (eqb c 116) (some K.Undisturbed) (cond (eqb c 102) (some K.Turned) (cond (eqb c 100) (some K.Damaged) none))
 
 -- a line of one of the kinds is one letter
 abbrev pub kind_of : List ℕ → Option Kind
 kind_of [] = none
-kind_of (c ∷ []) = letterKind c
+kind_of (c ∷ []) = letter_kind c
 kind_of (c ∷ d ∷ cs) = none
 
 -- a refusal ends the run
-abbrev pub unlessRefused : Outcome → List Outcome → List Outcome
-unlessRefused (O.Refused n) rest = []
-unlessRefused (O.Line l) rest = rest
+abbrev pub outcomes_unless_refused : Outcome → List Outcome → List Outcome
+outcomes_unless_refused (O.Refused n) rest = []
+outcomes_unless_refused (O.Line l) rest = rest
 
 -- a line of another kind ends the run with no outcome
-abbrev pub lineOutcomes : Sender → Receiver → List ℕ → List ℕ → (PeriodResult → List Outcome) → Option Kind → List Outcome
-lineOutcomes s r order store next none = []
-lineOutcomes s r order store next (some kind) =
+abbrev pub line_outcomes : Sender → Receiver → List ℕ → List ℕ → (PeriodResult → List Outcome) → Option Kind → List Outcome
+line_outcomes s r order store next none = []
+line_outcomes s r order store next (some kind) =
     let c : PeriodResult = period kind s r order store in
-    c.period.outcome ∷ unlessRefused c.period.outcome (next c)
+    c.period.outcome ∷ outcomes_unless_refused c.period.outcome (next c)
 
 -- the periods of these lines
 unfoldable pub periods : Sender → Receiver → List ℕ → List ℕ → List (List ℕ) → List Outcome
 periods s r order store [] = []
 periods s r order store (l ∷ ls) =
-    lineOutcomes s r order store (λ c. periods c.period.sender c.period.receiver order c.store ls) (kind_of l)
+    line_outcomes s r order store (λ c. periods c.period.sender c.period.receiver order c.store ls) (kind_of l)
 
 -- ---- line one: both ends opened, the sender first, or a refusal
 
-abbrev pub receiverOutcomes : Opening → Sender → List (List ℕ) → Answer (Unit {0}) → List Outcome
-receiverOutcomes o s ls (refused n) = O.Refused n ∷ []
-receiverOutcomes o s ls (done u) =
-    periods s (freshReceiver o.k (marksOf code-size)) o.order.bytes (replicate storeRoom 0) ls
+abbrev pub receiver_outcomes : Opening → Sender → List (List ℕ) → Answer (Unit {0}) → List Outcome
+receiver_outcomes o s ls (refused n) = O.Refused n ∷ []
+receiver_outcomes o s ls (done u) =
+    periods s (fresh_receiver o.k (marks_of code_size)) o.order.bytes (replicate store_room 0) ls
 
-abbrev pub senderOutcomes : Opening → List (List ℕ) → Answer Sender → List Outcome
-senderOutcomes o ls (refused n) = O.Refused n ∷ []
-senderOutcomes o ls (done s) = receiverOutcomes o s ls (openReceiver o.k code-size)
+abbrev pub sender_outcomes : Opening → List (List ℕ) → Answer Sender → List Outcome
+sender_outcomes o ls (refused n) = O.Refused n ∷ []
+sender_outcomes o ls (done s) = receiver_outcomes o s ls (open_receiver o.k code_size)
 
 -- line one that cannot be read has no outcome
-abbrev pub openingOutcomes : Option Opening → List (List ℕ) → List Outcome
-openingOutcomes none ls = []
-openingOutcomes (some o) ls =
-    senderOutcomes o ls (openSender o.k speed loop-ms o.order.bits code-size o.order.bytes)
+abbrev pub opening_outcomes : Option Opening → List (List ℕ) → List Outcome
+opening_outcomes none ls = []
+opening_outcomes (some o) ls =
+    sender_outcomes o ls (open_sender o.k speed loop_ms o.order.bits code_size o.order.bytes)
 
 unfoldable pub outcomes : List ℕ → List Outcome
-outcomes input = openingOutcomes (lineOne (firstLine input)) (lines (afterLine input))
+outcomes input = opening_outcomes (line_one (first_line input)) (lines (after_line input))
 
 -- ---- how many
 
 -- the periods that are not refused
-abbrev pub lineCount : List Outcome → ℕ
-lineCount [] = 0
-lineCount (O.Refused n ∷ os) = lineCount os
-lineCount (O.Line l ∷ os) = lineCount os + 1
+abbrev pub line_count : List Outcome → ℕ
+line_count [] = 0
+line_count (O.Refused n ∷ os) = line_count os
+line_count (O.Line l ∷ os) = line_count os + 1
 
 -- the number of data items that line one gives; 0 if it cannot be read
 abbrev pub items_of : Option Opening → ℕ
 items_of none = 0
-items_of (some o) = itemCount o.k o.order.bits
+items_of (some o) = item_count o.k o.order.bits
 
 -- Whatever the input, however long: no more than the blocks that the sender sends, 192 + 187 N.
 unfoldable pub MostPeriods : Type 0
-MostPeriods = (input : List ℕ) → lineCount (outcomes input) ≤ firstPair + laterPair * items_of (lineOne (firstLine input))
+MostPeriods = (input : List ℕ) → line_count (outcomes input) ≤ first_pair + later_pair * items_of (line_one (first_line input))

@@ -4,10 +4,10 @@ use Rattle.std.specs.Prelude.{◌≡◌, Bool, true, false, cond, not, List, [],
 use Rattle.std.specs.Int.Bits.{bit_xor}
 use Rattle.crc.specs.Bits.{Bits, bits_of, bytes_of}
 use Rattle.block.specs.Answer.{Answer, refused, done}
-use Rattle.line.specs.Order.{orderBits}
+use Rattle.line.specs.Order.{order_bits}
 use Rattle.line.specs.Sending as S
-use Rattle.line.specs.Sending.{send, sendState, sentBits}
-use Rattle.line.specs.Receiving.{Reception, meaning, eventKind, receive, receiveStore}
+use Rattle.line.specs.Sending.{send, send_state, sent_bits}
+use Rattle.line.specs.Receiving.{Reception, meaning, event_kind, receive, receive_store}
 use Rattle.line.specs.declared.sender.Sender.{Sender}
 use Rattle.line.specs.declared.receiver.Receiver.{Receiver}
 use Rattle.line.specs.declared.receiving.Event.{Event}
@@ -34,24 +34,24 @@ reading_of K.Undisturbed back = back
 reading_of K.Turned back = not back
 reading_of K.Damaged back = back
 
-abbrev pub invertFirst : Bits → Bits
-invertFirst [] = []
-invertFirst (b ∷ bs) = not b ∷ bs
+abbrev pub invert_first : Bits → Bits
+invert_first [] = []
+invert_first (b ∷ bs) = not b ∷ bs
 
 abbrev pub arriving : Kind → Bits → Bits
 arriving K.Undisturbed bits = bits
 arriving K.Turned bits = bits
-arriving K.Damaged bits = invertFirst bits
+arriving K.Damaged bits = invert_first bits
 
 -- ---- receiving
 
 -- the bytes of the array that the block is sent into, and that its bits are lent in
-abbrev pub lineBytes : ℕ
-lineBytes = 483
+abbrev pub line_bytes : ℕ
+line_bytes = 483
 
 -- an array that holds this many bits, zeros behind them
 abbrev pub Lent : List ℕ → ℕ → Type 0
-Lent line count = (count ≤ 8 * lineBytes) × (line ≡ bytes_of lineBytes (take count (bits_of line)))
+Lent line count = (count ≤ 8 * line_bytes) × (line ≡ bytes_of line_bytes (take count (bits_of line)))
 
 -- the array with its first bit inverted
 abbrev pub disturbed : Kind → List ℕ → List ℕ
@@ -60,16 +60,16 @@ disturbed K.Turned line = line
 disturbed K.Damaged line = set line 0 (bit_xor (get_or line 0 0) 128)
 
 -- the last event other than none
-abbrev pub lastEvent : Event → Event → Event
-lastEvent last E.None = last
-lastEvent last E.Sync = E.Sync
-lastEvent last (E.Bad r) = E.Bad r
-lastEvent last E.Accepted = E.Accepted
-lastEvent last E.Previous = E.Previous
-lastEvent last E.SequenceAlarm = E.SequenceAlarm
-lastEvent last E.LengthAlarm = E.LengthAlarm
-lastEvent last (E.Ended L) = E.Ended L
-lastEvent last E.Wait = E.Wait
+abbrev pub last_event : Event → Event → Event
+last_event last E.None = last
+last_event last E.Sync = E.Sync
+last_event last (E.Bad r) = E.Bad r
+last_event last E.Accepted = E.Accepted
+last_event last E.Previous = E.Previous
+last_event last E.SequenceAlarm = E.SequenceAlarm
+last_event last E.LengthAlarm = E.LengthAlarm
+last_event last (E.Ended L) = E.Ended L
+last_event last E.Wait = E.Wait
 
 -- the receiver, the last event or the refusal, and the store
 pub record Hearing : Type 0 where
@@ -83,7 +83,7 @@ hearing s last store = record { heard = record { receiver = s; last = last }; st
 abbrev pub answered : (Receiver → Bits → List ℕ → Event → Hearing) → Receiver → Bits → List ℕ → Event → Answer Reception → Hearing
 answered next s bits store last (refused n) = hearing s (L.Refused n) store
 answered next s bits store last (done x) =
-    next x.state (drop x.used bits) (receiveStore s store (done x)) (lastEvent last (meaning x.rule).event)
+    next x.state (drop x.used bits) (receive_store s store (done x)) (last_event last (meaning x.rule).event)
 
 -- the run program's machine is always ready
 abbrev pub ready : Bool
@@ -95,25 +95,25 @@ unfoldable pub hear : ℕ → Receiver → Bits → List ℕ → Event → Heari
 hear zero s bits store last = hearing s (L.Event last) store
 hear (suc calls) s [] store last = hearing s (L.Event last) store
 hear (suc calls) s (b ∷ bs) store last =
-    answered (hear calls) s (b ∷ bs) store last (receive s (bytes_of lineBytes (b ∷ bs)) (length (b ∷ bs)) ready store)
+    answered (hear calls) s (b ∷ bs) store last (receive s (bytes_of line_bytes (b ∷ bs)) (length (b ∷ bs)) ready store)
 
 -- ---- a period
 
 -- the block and the reading as the line shows them
-abbrev pub shownBlock : S.Block → Block
-shownBlock S.synchronising = B.Synchronising
-shownBlock (S.item i end used cancelled) = B.Item i end cancelled
+abbrev pub shown_block : S.Block → Block
+shown_block S.synchronising = B.Synchronising
+shown_block (S.item i end used cancelled) = B.Item i end cancelled
 
-abbrev pub ifUsed : Bool → Bool → Shown.Reading
-ifUsed used reading = cond used (R.Used reading) R.Ignored
+abbrev pub if_used : Bool → Bool → Shown.Reading
+if_used used reading = cond used (R.Used reading) R.Ignored
 
-abbrev pub shownReading : S.Block → Bool → Shown.Reading
-shownReading S.synchronising reading = R.Ignored
-shownReading (S.item i end used cancelled) reading = ifUsed used reading
+abbrev pub shown_reading : S.Block → Bool → Shown.Reading
+shown_reading S.synchronising reading = R.Ignored
+shown_reading (S.item i end used cancelled) reading = if_used used reading
 
-abbrev pub shownSending : Answer S.Block → Bool → Sending
-shownSending (refused n) reading = W.Refused n
-shownSending (done b) reading = W.Sent (shownBlock b) (shownReading b reading)
+abbrev pub shown_sending : Answer S.Block → Bool → Sending
+shown_sending (refused n) reading = W.Refused n
+shown_sending (done b) reading = W.Sent (shown_block b) (shown_reading b reading)
 
 abbrev pub line_of : Block → Shown.Reading → Bool → Last → Outcome
 line_of block reading back (L.Refused n) = O.Refused n
@@ -124,8 +124,8 @@ pub record PeriodResult : Type 0 where
   pub period : Period
   pub store : List ℕ
 
-abbrev pub heardResult : Sender → Block → Shown.Reading → Hearing → PeriodResult
-heardResult s block reading h =
+abbrev pub heard_result : Sender → Block → Shown.Reading → Hearing → PeriodResult
+heard_result s block reading h =
     record {
       period =
           record {
@@ -136,18 +136,18 @@ heardResult s block reading h =
       store = h.store;
     }
 
-abbrev pub sentResult : Kind → Sender → Receiver → Bool → List ℕ → List ℕ → Answer S.Block → PeriodResult
-sentResult kind s r reading order store (refused n) =
+abbrev pub sent_result : Kind → Sender → Receiver → Bool → List ℕ → List ℕ → Answer S.Block → PeriodResult
+sent_result kind s r reading order store (refused n) =
     record { period = record { sender = s; receiver = r; outcome = O.Refused n }; store = store }
-sentResult kind s r reading order store (done b) =
-    let bits : Bits = sentBits s.setup.marks s.setup.k s.setup.length (orderBits s.setup.length order) b in
-    heardResult (sendState s reading (done b)) (shownBlock b) (shownReading b reading)
+sent_result kind s r reading order store (done b) =
+    let bits : Bits = sent_bits s.setup.marks s.setup.k s.setup.length (order_bits s.setup.length order) b in
+    heard_result (send_state s reading (done b)) (shown_block b) (shown_reading b reading)
     (hear (length bits) r (arriving kind bits) store E.None)
 
 unfoldable pub period : Kind → Sender → Receiver → List ℕ → List ℕ → PeriodResult
 period kind s r order store =
     let reading : Bool = reading_of kind r.back in
-    sentResult kind s r reading order store (send s order reading (replicate lineBytes 0))
+    sent_result kind s r reading order store (send s order reading (replicate line_bytes 0))
 
 -- what a period answers, hands back and leaves in the store
 pub record RunPeriod (kind : Kind) (s : Sender) (r : Receiver) (order store : List ℕ) (result : Period) (store' : List ℕ) : Type 0 where
@@ -155,10 +155,10 @@ pub record RunPeriod (kind : Kind) (s : Sender) (r : Receiver) (order store : Li
   pub writes : store' ≡ (period kind s r order store).store
 
 -- no line that is written shows a wait
-abbrev pub showsWait : Outcome → Bool
-showsWait (O.Refused n) = false
-showsWait (O.Line l) = (eventKind l.event).wait
+abbrev pub shows_wait : Outcome → Bool
+shows_wait (O.Refused n) = false
+shows_wait (O.Line l) = (event_kind l.event).wait
 
 unfoldable pub NeverWaits : Type 0
 NeverWaits =
-    (kind : Kind) (s : Sender) (r : Receiver) (order store : List ℕ) → showsWait (period kind s r order store).period.outcome ≡ false
+    (kind : Kind) (s : Sender) (r : Receiver) (order store : List ℕ) → shows_wait (period kind s r order store).period.outcome ≡ false

@@ -1,10 +1,10 @@
 -- The run program, a part of its input at a time: what it keeps and what is to be written, which is what the session yields, as
 -- text; and that the outputs are the text of the input, however it is divided. Assumes nothing.
 use Rattle.std.specs.Prelude.{◌≡◌, cond, List, [], ◌∷◌, ◌++◌, ℕ, ◌+◌, ◌-◌, ◌*◌, ◌^◌, ◌≤◌, ltb, length, take, drop, replicate}
-use Rattle.session.specs.Outcomes.{orderRoom, storeRoom}
-use Rattle.session.specs.Run.{runText}
-use Rattle.session.specs.Session.{placed, fresh, takes, takesOrder, takesStore, ends, endsStore, over}
-use Rattle.session.specs.Text.{room, heading, outcomeText}
+use Rattle.session.specs.Outcomes.{order_room, store_room}
+use Rattle.session.specs.Run.{run_text}
+use Rattle.session.specs.Session.{placed, fresh, takes, takes_order, takes_store, ends, ends_store, over}
+use Rattle.session.specs.Text.{room, heading, outcome_text}
 use Rattle.session.specs.declared.program.Output.{Output}
 use Rattle.session.specs.declared.program.Program.{Program}
 use Rattle.session.specs.declared.program.Turn.{Turn}
@@ -15,11 +15,11 @@ use Rattle.session.specs.declared.script.Yield.{Yield}
 use Rattle.session.specs.declared.script.Yield.TheVariants as Y
 
 -- the most bytes of a part, which is what one read of the input brings; a byte brings a text at most
-abbrev pub partRoom : ℕ
-partRoom = 2048
+abbrev pub part_room : ℕ
+part_room = 2048
 
-abbrev pub outputRoom : ℕ
-outputRoom = room * partRoom
+abbrev pub output_room : ℕ
+output_room = room * part_room
 
 -- what is kept from part to part: the session, the number of the next period, the order and the store
 abbrev pub keeping : Session → ℕ → List ℕ → List ℕ → Program
@@ -27,40 +27,40 @@ keeping s number order store = record { session = s; number = number; order = or
 
 -- before the first byte
 abbrev pub at_start : Program
-at_start = keeping fresh 0 (replicate orderRoom 0) (replicate storeRoom 0)
+at_start = keeping fresh 0 (replicate order_room 0) (replicate store_room 0)
 
 -- ---- what is yielded, as text
 
-abbrev pub yieldText : ℕ → Yield → List ℕ
-yieldText n Y.Nothing = []
-yieldText n (Y.Outcome o) = outcomeText n o
+abbrev pub yield_text : ℕ → Yield → List ℕ
+yield_text n Y.Nothing = []
+yield_text n (Y.Outcome o) = outcome_text n o
 
 -- the next number, up to the largest machine word, which no session comes to
 abbrev pub counted : ℕ → ℕ
 counted n = cond (ltb n (2 ^ 64 - 1)) (n + 1) n
 
-abbrev pub numberAfter : ℕ → Yield → ℕ
-numberAfter n Y.Nothing = n
-numberAfter n (Y.Outcome o) = counted n
+abbrev pub number_after : ℕ → Yield → ℕ
+number_after n Y.Nothing = n
+number_after n (Y.Outcome o) = counted n
 
 -- ---- the bytes of a part
 
-abbrev pub byteTaken : Program → ℕ → Taken
-byteTaken p c = takes p.session p.session.place c p.order p.store
+abbrev pub byte_taken : Program → ℕ → Taken
+byte_taken p c = takes p.session p.session.place c p.order p.store
 
-abbrev pub afterByte : Program → ℕ → Program
-afterByte p c =
-    keeping (byteTaken p c).session (numberAfter p.number (byteTaken p c).yielded)
-    (takesOrder p.session p.session.place c p.order)
-    (takesStore p.session p.session.place c p.order p.store)
+abbrev pub after_byte : Program → ℕ → Program
+after_byte p c =
+    keeping (byte_taken p c).session (number_after p.number (byte_taken p c).yielded)
+    (takes_order p.session p.session.place c p.order)
+    (takes_store p.session p.session.place c p.order p.store)
 
-unfoldable pub afterBytes : Program → List ℕ → Program
-afterBytes p [] = p
-afterBytes p (c ∷ cs) = afterBytes (afterByte p c) cs
+unfoldable pub after_bytes : Program → List ℕ → Program
+after_bytes p [] = p
+after_bytes p (c ∷ cs) = after_bytes (after_byte p c) cs
 
-unfoldable pub bytesText : Program → List ℕ → List ℕ
-bytesText p [] = []
-bytesText p (c ∷ cs) = yieldText p.number (byteTaken p c).yielded ++ bytesText (afterByte p c) cs
+unfoldable pub bytes_text : Program → List ℕ → List ℕ
+bytes_text p [] = []
+bytes_text p (c ∷ cs) = yield_text p.number (byte_taken p c).yielded ++ bytes_text (after_byte p c) cs
 
 -- a text put into an output at a place, where room bytes are free
 pub record Puts (text output : List ℕ) (at end : ℕ) (output' : List ℕ) : Type 0 where
@@ -74,40 +74,40 @@ laid s bytes = s ++ drop (length s) bytes
 
 -- what reading the bytes into an output of any length does
 pub record ReadBytes (p : Program) (part output : List ℕ) (p' : Program) (len : ℕ) (output' : List ℕ) : Type 0 where
-  pub reaches : p' ≡ afterBytes p part
-  pub counts : len ≡ length (bytesText p part)
-  pub writes : output' ≡ laid (bytesText p part) output
+  pub reaches : p' ≡ after_bytes p part
+  pub counts : len ≡ length (bytes_text p part)
+  pub writes : output' ≡ laid (bytes_text p part) output
 
 -- ---- the end of the input, after which nothing more is read
 
-abbrev pub endTaken : Program → Taken
-endTaken p = ends p.session p.session.place p.order p.store
+abbrev pub end_taken : Program → Taken
+end_taken p = ends p.session p.session.place p.order p.store
 
-abbrev pub endText : Program → List ℕ
-endText p = yieldText p.number (endTaken p).yielded
+abbrev pub end_text : Program → List ℕ
+end_text p = yield_text p.number (end_taken p).yielded
 
 abbrev pub after_end : Program → Program
 after_end p =
-    keeping (placed (endTaken p).session P.Over) p.number p.order
-    (endsStore p.session p.session.place p.order p.store)
+    keeping (placed (end_taken p).session P.Over) p.number p.order
+    (ends_store p.session p.session.place p.order p.store)
 
 -- ---- a turn
 
 -- the output that holds these bytes alone
-abbrev pub outputOf : List ℕ → Output
-outputOf s = record { bytes = laid s (replicate outputRoom 0); len = length s }
+abbrev pub output_of : List ℕ → Output
+output_of s = record { bytes = laid s (replicate output_room 0); len = length s }
 
-abbrev pub turnTo : Program → List ℕ → Turn
-turnTo p text = record { program = p; output = outputOf text; over = over p.session.place }
+abbrev pub turn_to : Program → List ℕ → Turn
+turn_to p text = record { program = p; output = output_of text; over = over p.session.place }
 
 -- the first turn
-abbrev pub firstTurn : Turn
-firstTurn = turnTo at_start heading
+abbrev pub first_turn : Turn
+first_turn = turn_to at_start heading
 
 -- after a part; one with no byte is the end of the input
 abbrev pub turn : Program → List ℕ → Turn
-turn p [] = turnTo (after_end p) (endText p)
-turn p (c ∷ cs) = turnTo (afterBytes p (c ∷ cs)) (bytesText p (c ∷ cs))
+turn p [] = turn_to (after_end p) (end_text p)
+turn p (c ∷ cs) = turn_to (after_bytes p (c ∷ cs)) (bytes_text p (c ∷ cs))
 
 -- ---- the whole
 
@@ -127,4 +127,4 @@ input_of ((c ∷ cs) ∷ parts) = (c ∷ cs) ++ input_of parts
 
 -- however the input is divided, what is written over its parts and its end is its text
 abbrev pub Whole : Type 0
-Whole = (parts : List (List ℕ)) → outputs firstTurn (parts ++ ([] ∷ [])) ≡ runText (input_of parts)
+Whole = (parts : List (List ℕ)) → outputs first_turn (parts ++ ([] ∷ [])) ≡ run_text (input_of parts)

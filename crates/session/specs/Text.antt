@@ -18,11 +18,11 @@ abbrev pub room : ℕ
 room = 64
 
 -- the bytes that a text holds
-abbrev pub textBytes : Text → List ℕ
-textBytes t = take t.len t.bytes
+abbrev pub text_bytes : Text → List ℕ
+text_bytes t = take t.len t.bytes
 
-abbrev pub emptyText : Text
-emptyText = record { bytes = replicate room 0; len = 0 }
+abbrev pub empty_text : Text
+empty_text = record { bytes = replicate room 0; len = 0 }
 
 -- the text t with these bytes behind it: they stand over the array's bytes from t's count on, and no other byte changes
 pub record Appends (t : Text) (added : List ℕ) (r : Text) : Type 0 where
@@ -35,48 +35,48 @@ ascii S.[] = []
 ascii (S.◌∷◌ c s) = code c ∷ ascii s
 
 -- the decimal digits of a number below 10 to the power of places, without leading zeros
-abbrev pub decimalTo : ℕ → ℕ → List ℕ
-decimalTo zero n = []
-decimalTo (suc places) n =
-    cond (ltb n 10) ((48 + n) ∷ []) (decimalTo places (n / 10) ++ ((48 + n % 10) ∷ []))
+abbrev pub decimal_to : ℕ → ℕ → List ℕ
+decimal_to zero n = []
+decimal_to (suc places) n =
+    cond (ltb n 10) ((48 + n) ∷ []) (decimal_to places (n / 10) ++ ((48 + n % 10) ∷ []))
 
 unfoldable pub decimal : ℕ → List ℕ
-decimal n = decimalTo (suc n) n
+decimal n = decimal_to (suc n) n
 
 -- ---- the fields of a line
 
-abbrev pub bitText : Bool → List ℕ
-bitText false = ascii "0"
-bitText true = ascii "1"
+abbrev pub bit_text : Bool → List ℕ
+bit_text false = ascii "0"
+bit_text true = ascii "1"
 
 -- a block's number, or E for an end block
-abbrev pub itemText : ℕ → Bool → List ℕ
-itemText i false = decimal i
-itemText i true = ascii "E"
+abbrev pub item_text : ℕ → Bool → List ℕ
+item_text i false = decimal i
+item_text i true = ascii "E"
 
 -- before a cancelled block
-abbrev pub markText : Bool → List ℕ
-markText false = []
-markText true = ascii "!"
+abbrev pub mark_text : Bool → List ℕ
+mark_text false = []
+mark_text true = ascii "!"
 
-abbrev pub blockText : Block → List ℕ
-blockText B.Synchronising = ascii "S"
-blockText (B.Item i end cancelled) = markText cancelled ++ itemText i end
+abbrev pub block_text : Block → List ℕ
+block_text B.Synchronising = ascii "S"
+block_text (B.Item i end cancelled) = mark_text cancelled ++ item_text i end
 
-abbrev pub readingText : Reading → List ℕ
-readingText R.Ignored = ascii "-"
-readingText (R.Used b) = bitText b
+abbrev pub reading_text : Reading → List ℕ
+reading_text R.Ignored = ascii "-"
+reading_text (R.Used b) = bit_text b
 
-abbrev pub eventText : Event → List ℕ
-eventText E.None = ascii "none"
-eventText E.Sync = ascii "sync"
-eventText (E.Bad r) = ascii "bad"
-eventText E.Accepted = ascii "accepted"
-eventText E.Previous = ascii "previous"
-eventText E.SequenceAlarm = ascii "sequence alarm"
-eventText E.LengthAlarm = ascii "length alarm"
-eventText (E.Ended L) = ascii "ended"
-eventText E.Wait = ascii "wait"
+abbrev pub event_text : Event → List ℕ
+event_text E.None = ascii "none"
+event_text E.Sync = ascii "sync"
+event_text (E.Bad r) = ascii "bad"
+event_text E.Accepted = ascii "accepted"
+event_text E.Previous = ascii "previous"
+event_text E.SequenceAlarm = ascii "sequence alarm"
+event_text E.LengthAlarm = ascii "length alarm"
+event_text (E.Ended L) = ascii "ended"
+event_text E.Wait = ascii "wait"
 
 -- ---- what is written
 
@@ -87,15 +87,15 @@ holding s = record { bytes = s ++ drop (length s) (replicate room 0); len = leng
 unfoldable pub heading : List ℕ
 heading = ascii "period sent read event back\n"
 
-unfoldable pub refusedText : ℕ → List ℕ
-refusedText n = ascii "refused " ++ decimal n ++ ascii "\n"
+unfoldable pub refused_text : ℕ → List ℕ
+refused_text n = ascii "refused " ++ decimal n ++ ascii "\n"
 
 -- period, sent, read, event and back, a blank between two
-unfoldable pub lineText : ℕ → Line → List ℕ
-lineText period l =
-    decimal period ++ ascii " " ++ blockText l.block ++ ascii " " ++ readingText l.reading ++ ascii " "
-    ++ eventText l.event ++ ascii " " ++ bitText l.back ++ ascii "\n"
+unfoldable pub line_text : ℕ → Line → List ℕ
+line_text period l =
+    decimal period ++ ascii " " ++ block_text l.block ++ ascii " " ++ reading_text l.reading ++ ascii " "
+    ++ event_text l.event ++ ascii " " ++ bit_text l.back ++ ascii "\n"
 
-abbrev pub outcomeText : ℕ → Outcome → List ℕ
-outcomeText period (O.Refused n) = refusedText n
-outcomeText period (O.Line l) = lineText period l
+abbrev pub outcome_text : ℕ → Outcome → List ℕ
+outcome_text period (O.Refused n) = refused_text n
+outcome_text period (O.Line l) = line_text period l

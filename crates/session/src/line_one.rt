@@ -1,6 +1,6 @@
 // Line one of a session, read one byte at a time in fixed memory.
 ghost use Rattle.std.specs.Prelude.{◌≡◌, ◌<◌, length};
-ghost use Rattle.session.specs.LineOne.{decimalValue, hexValue, grown, start, moved, withDigit, blankNext, decimalNext, hexNext, next, next_at, nextOrder, readable};
+ghost use Rattle.session.specs.LineOne.{decimal_value, hex_value, grown, start, moved, with_digit, blank_next, decimal_next, hex_next, next, next_at, next_order, readable};
 
 // Above every k and every L that is not refused: a larger number stands as this.
 pub const LIMIT: usize = 1_000_000;
@@ -43,7 +43,7 @@ pub struct LineOne {
 
 // The value of a decimal digit, 10 for any other character.
 pub fn decimal_value(c: u8) -> u8
-    ensures { result ≡ decimalValue c }
+    ensures { result ≡ decimal_value c }
 {
     match c {
         b'0'..=b'9' => c - 48,
@@ -53,7 +53,7 @@ pub fn decimal_value(c: u8) -> u8
 
 // The value of a hexadecimal digit, 16 for any other character.
 pub fn hex_value(c: u8) -> u8
-    ensures { result ≡ hexValue c }
+    ensures { result ≡ hex_value c }
 {
     match c {
         b'0'..=b'9' => c - 48,
@@ -96,7 +96,7 @@ impl LineOne {
     }
 
     fn with_digit(self, number: Number, digit: u8) -> LineOne
-        ensures { result ≡ withDigit self number digit }
+        ensures { result ≡ with_digit self number digit }
     {
         match number {
             Number::K => {
@@ -120,7 +120,7 @@ impl LineOne {
 
     // A blank leads to a place; any other character cannot be read.
     fn read_blank(self, c: u8, place: Place) -> LineOne
-        ensures { result ≡ blankNext self c place }
+        ensures { result ≡ blank_next self c place }
     {
         if c == b' ' {
             self.at(place)
@@ -131,7 +131,7 @@ impl LineOne {
 
     // A digit of a number, or the blank that leads to the place behind it.
     fn read_decimal(self, number: Number, c: u8, behind: Place) -> LineOne
-        ensures { result ≡ decimalNext self number c behind }
+        ensures { result ≡ decimal_next self number c behind }
     {
         let digit = decimal_value(c);
         if digit < 10 {
@@ -143,7 +143,7 @@ impl LineOne {
 
     // The first digit of a byte, or the blank that leads to the place behind the order.
     fn read_high(self, c: u8, behind: Place) -> LineOne
-        ensures { result ≡ hexNext self c behind }
+        ensures { result ≡ hex_next self c behind }
     {
         let digit = hex_value(c);
         if digit < 16 {
@@ -156,7 +156,7 @@ impl LineOne {
     // The second digit of a byte: the byte is kept where there is room for it.
     fn read_low(self, high: u8, c: u8, order: &mut [u8]) -> LineOne
         ensures value { result ≡ next_at self (Place.Half high) c (length order.old) }
-        ensures order_after { order.new ≡ nextOrder self (Place.Half high) c order.old }
+        ensures order_after { order.new ≡ next_order self (Place.Half high) c order.old }
     {
         let digit = hex_value(c);
         if 16 <= digit {
@@ -177,7 +177,7 @@ impl LineOne {
     // The state after one byte of the line; a byte of the order that is complete goes to the lent slice.
     pub fn read(self, c: u8, order: &mut [u8]) -> LineOne
         ensures value { result ≡ next self c (length order.old) }
-        ensures order_after { order.new ≡ nextOrder self self.place c order.old }
+        ensures order_after { order.new ≡ next_order self self.place c order.old }
     {
         let place = self.place;
         match place {

@@ -1,9 +1,9 @@
 // One period of a session over both ends, and what a line of the output says of it.
 ghost use Rattle.std.specs.Prelude.{◌≡◌, ◌<◌, length, take};
 ghost use Rattle.crc.specs.Bits.{bits_of};
-ghost use Rattle.line.specs.Sending.{sentAnswer};
+ghost use Rattle.line.specs.Sending.{sent_answer};
 ghost use Rattle.session.specs.Period as P;
-ghost use Rattle.session.specs.Period.{Lent, reading_of, arriving, disturbed, lastEvent, ifUsed, shownSending, line_of, heardResult, RunPeriod};
+ghost use Rattle.session.specs.Period.{Lent, reading_of, arriving, disturbed, last_event, if_used, shown_sending, line_of, heard_result, RunPeriod};
 
 use crate::shift::drop_bits;
 use block::OVERHEAD;
@@ -95,7 +95,7 @@ fn reading_of(kind: Kind, back: bool) -> bool
 }
 
 fn last_event(last: Event, event: Event) -> Event
-    ensures { result ≡ lastEvent last event }
+    ensures { result ≡ last_event last event }
 {
     match event {
         Event::None => last,
@@ -111,7 +111,7 @@ fn last_event(last: Event, event: Event) -> Event
 }
 
 fn shown_reading(used: bool, reading: bool) -> Reading
-    ensures { result ≡ ifUsed used reading }
+    ensures { result ≡ if_used used reading }
 {
     if used {
         Reading::Used(reading)
@@ -121,7 +121,7 @@ fn shown_reading(used: bool, reading: bool) -> Reading
 }
 
 fn shown_sending(answer: Sent, reading: bool) -> Sending
-    ensures { result ≡ shownSending (sentAnswer answer) reading }
+    ensures { result ≡ shown_sending (sent_answer answer) reading }
 {
     match answer {
         Sent::Refused(number) => Sending::Refused(number),
@@ -218,7 +218,7 @@ fn heard_period(
     store: &mut [u8],
 ) -> Period
     requires { Lent line.old count × (0 < count) }
-    ensures value { result ≡ (heardResult sender block reading (P.hear count receiver (arriving kind (take count (bits_of line.old))) store.old Event.None)).period }
+    ensures value { result ≡ (heard_result sender block reading (P.hear count receiver (arriving kind (take count (bits_of line.old))) store.old Event.None)).period }
     ensures store_after { store.new ≡ (P.hear count receiver (arriving kind (take count (bits_of line.old))) store.old Event.None).store }
 {
     disturb(kind, line);

@@ -1,8 +1,8 @@
 // The run program, a part of its input at a time: what the session yields, as text. What it keeps is made and changed here
 // alone: a caller reads the parts, writes the outputs and decides nothing.
 ghost use Rattle.std.specs.Prelude.{◌≡◌, [], ◌+◌, ◌*◌, ◌≤◌, ◌<◌, length, take};
-ghost use Rattle.session.specs.Text.{room, textBytes};
-ghost use Rattle.session.specs.Program.{partRoom, keeping, yieldText, counted, numberAfter, firstTurn, turn, Puts, ReadBytes};
+ghost use Rattle.session.specs.Text.{room, text_bytes};
+ghost use Rattle.session.specs.Program.{part_room, keeping, yield_text, counted, number_after, first_turn, turn, Puts, ReadBytes};
 
 use crate::script::{ORDER_BYTES, Place, STORE_BYTES, Session, Yield, least};
 use crate::text::{Text, heading_text, outcome_text};
@@ -48,7 +48,7 @@ struct Reached {
 // Puts the text into the output from `at` on, and answers where it ends.
 fn put(text: Text, output: &mut [u8], at: usize) -> usize
     requires { at + room ≤ length output.old }
-    ensures { Puts (textBytes text) output.old at result output.new }
+    ensures { Puts (text_bytes text) output.old at result output.new }
 {
     let bytes = text.bytes;
     let n = least(text.len, 64);
@@ -63,7 +63,7 @@ fn put(text: Text, output: &mut [u8], at: usize) -> usize
 // Puts what was yielded into the output from `at` on, and answers where it ends.
 fn put_yield(number: u64, yielded: Yield, output: &mut [u8], at: usize) -> usize
     requires { at + room ≤ length output.old }
-    ensures { Puts (yieldText number yielded) output.old at result output.new }
+    ensures { Puts (yield_text number yielded) output.old at result output.new }
 {
     match yielded {
         Yield::Nothing => at,
@@ -78,7 +78,7 @@ fn next_number(n: u64) -> u64
 }
 
 fn number_after(number: u64, yielded: Yield) -> u64
-    ensures { result ≡ numberAfter number yielded }
+    ensures { result ≡ number_after number yielded }
 {
     match yielded {
         Yield::Nothing => number,
@@ -120,7 +120,7 @@ fn read_bytes(
 impl Program {
     // Before the first byte: the heading is to be written.
     pub fn start() -> Turn
-        ensures { result ≡ firstTurn }
+        ensures { result ≡ first_turn }
     {
         let mut bytes = [0u8; OUTPUT_BYTES];
         let len = put(heading_text(), &mut bytes, 0);
@@ -165,7 +165,7 @@ impl Program {
 
     fn read_part(self, part: &[u8]) -> Turn
         requires part_nonzero { 0 < length part.now }
-        requires part_len_bound { length part.now ≤ partRoom }
+        requires part_len_bound { length part.now ≤ part_room }
         ensures { result ≡ turn self part.now }
     {
         let session = self.session;

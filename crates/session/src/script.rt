@@ -1,9 +1,9 @@
 // A session read from its input one byte at a time: line one, then a line for each period. A byte yields nothing, a refusal or
 // a period's line, as data; how it is written is for the caller.
 ghost use Rattle.std.specs.Prelude.{◌≡◌, min, length};
-ghost use Rattle.session.specs.Session.{fresh, quiet, refusedAt, receiverOpened, opens, afterPeriod, periodTaken, periodOf, kind_at, lineOneRead, over, Take, End};
-ghost use Rattle.session.specs.LineOne.{nextOrder};
-ghost use Rattle.line.specs.Receiving.{openReceiver};
+ghost use Rattle.session.specs.Session.{fresh, quiet, refused_at, receiver_opened, opens, after_period, period_taken, period_of, kind_at, line_one_read, over, Take, End};
+ghost use Rattle.session.specs.LineOne.{next_order};
+ghost use Rattle.line.specs.Receiving.{open_receiver};
 
 use crate::line_one::LineOne;
 use crate::period::{Kind, Outcome, run_period};
@@ -74,7 +74,7 @@ fn kind_at(c: u8) -> Place
 }
 
 fn after_period(outcome: Outcome) -> Place
-    ensures { result ≡ afterPeriod outcome }
+    ensures { result ≡ after_period outcome }
 {
     match outcome {
         Outcome::Refused(_) => Place::Over,
@@ -121,7 +121,7 @@ impl Session {
 
     // A refusal ends the run.
     fn refused(self, number: u8) -> Taken
-        ensures { result ≡ refusedAt self number }
+        ensures { result ≡ refused_at self number }
     {
         Taken {
             session: Session {
@@ -133,7 +133,7 @@ impl Session {
     }
 
     fn open_receiver(self, sender: Sender) -> Taken
-        ensures { result ≡ receiverOpened self sender (openReceiver self.opening.k CodeSize.NotGiven) }
+        ensures { result ≡ receiver_opened self sender (open_receiver self.opening.k CodeSize.NotGiven) }
     {
         let opening = self.opening;
         let opened = Receiver::open(opening.k, CodeSize::NotGiven);
@@ -178,8 +178,8 @@ impl Session {
 
     // A line of a kind ends: a period.
     fn line(self, kind: Kind, order: &[u8], store: &mut [u8]) -> Taken
-        ensures value { result ≡ periodTaken self (periodOf self kind order.now store.old) }
-        ensures store_after { store.new ≡ (periodOf self kind order.now store.old).store }
+        ensures value { result ≡ period_taken self (period_of self kind order.now store.old) }
+        ensures store_after { store.new ≡ (period_of self kind order.now store.old).store }
     {
         let opening = self.opening;
         let kept = least(opening.kept, order.len());
@@ -201,8 +201,8 @@ impl Session {
     }
 
     fn read_line_one(self, c: u8, order: &mut [u8]) -> Taken
-        ensures value { result ≡ lineOneRead self c (length order.old) }
-        ensures order_after { order.new ≡ nextOrder self.opening self.opening.place c order.old }
+        ensures value { result ≡ line_one_read self c (length order.old) }
+        ensures order_after { order.new ≡ next_order self.opening self.opening.place c order.old }
     {
         let opening = self.opening;
         let opening = opening.read(c, order);

@@ -1,6 +1,6 @@
 // A text in fixed memory, and what the run program writes, put into one.
 ghost use Rattle.std.specs.Prelude.{◌≡◌, [], ◌∷◌, ◌+◌, ◌<◌, ◌≤◌, length};
-ghost use Rattle.session.specs.Text.{Appends, emptyText, decimal, bitText, blockText, markText, itemText, readingText, eventText, holding, heading, refusedText, lineText, outcomeText};
+ghost use Rattle.session.specs.Text.{Appends, empty_text, decimal, bit_text, block_text, mark_text, item_text, reading_text, event_text, holding, heading, refused_text, line_text, outcome_text};
 
 use crate::period::{Block, Line, Outcome, Reading};
 use line::receiving::Event;
@@ -14,7 +14,7 @@ pub struct Text {
 
 impl Text {
     pub fn new() -> Text
-        ensures { result ≡ emptyText }
+        ensures { result ≡ empty_text }
     {
         Text {
             bytes: [0; 64],
@@ -59,7 +59,7 @@ impl Text {
 
     fn bit(self, bit: bool) -> Text
         requires { self.len < 64 }
-        ensures { Appends self (bitText bit) result }
+        ensures { Appends self (bit_text bit) result }
     {
         if bit {
             self.byte(b'1')
@@ -70,7 +70,7 @@ impl Text {
 
     fn block(self, block: Block) -> Text
         requires { self.len ≤ 43 }
-        ensures appends { Appends self (blockText block) result }
+        ensures appends { Appends self (block_text block) result }
         ensures len_bound { result.len ≤ self.len + 21 }
     {
         match block {
@@ -86,7 +86,7 @@ impl Text {
     // The mark of a cancelled block.
     fn mark(self, cancelled: bool) -> Text
         requires { self.len < 64 }
-        ensures appends { Appends self (markText cancelled) result }
+        ensures appends { Appends self (mark_text cancelled) result }
         ensures len_bound { result.len ≤ self.len + 1 }
     {
         if cancelled { self.byte(b'!') } else { self }
@@ -94,7 +94,7 @@ impl Text {
 
     fn item(self, number: usize, end: bool) -> Text
         requires { self.len ≤ 44 }
-        ensures appends { Appends self (itemText number end) result }
+        ensures appends { Appends self (item_text number end) result }
         ensures len_bound { result.len ≤ self.len + 20 }
     {
         if end {
@@ -106,7 +106,7 @@ impl Text {
 
     fn reading(self, reading: Reading) -> Text
         requires { self.len < 64 }
-        ensures appends { Appends self (readingText reading) result }
+        ensures appends { Appends self (reading_text reading) result }
         ensures len_bound { result.len ≤ self.len + 1 }
     {
         match reading {
@@ -117,7 +117,7 @@ impl Text {
 
     fn event(self, event: Event) -> Text
         requires { self.len ≤ 50 }
-        ensures appends { Appends self (eventText event) result }
+        ensures appends { Appends self (event_text event) result }
         ensures len_bound { result.len ≤ self.len + 14 }
     {
         match event {
@@ -142,7 +142,7 @@ pub fn heading_text() -> Text
 }
 
 pub fn refused_text(number: u8) -> Text
-    ensures { result ≡ holding (refusedText number) }
+    ensures { result ≡ holding (refused_text number) }
 {
     Text::new()
         .word(b"refused ")
@@ -151,7 +151,7 @@ pub fn refused_text(number: u8) -> Text
 }
 
 pub fn line_text(period: u64, line: Line) -> Text
-    ensures { result ≡ holding (lineText period line) }
+    ensures { result ≡ holding (line_text period line) }
 {
     let block = line.block;
     let reading = line.reading;
@@ -164,7 +164,7 @@ pub fn line_text(period: u64, line: Line) -> Text
 
 // What is written of a period: its line, or the refusal that ends the run.
 pub fn outcome_text(period: u64, outcome: Outcome) -> Text
-    ensures { result ≡ holding (outcomeText period outcome) }
+    ensures { result ≡ holding (outcome_text period outcome) }
 {
     match outcome {
         Outcome::Refused(number) => refused_text(number),

@@ -7,21 +7,21 @@ use Prim.Native.Nat.{ℕ, suc, ◌+◌, ◌-◌, ◌≤◌, ◌<◌}
 use lib.ListN.{length, get_or, take, drop, set, replicate, length-set, length-append, length-drop, take-append-drop}
 use lib.Seq.{take-suc-set, drop-set-lt, drop-drop, take-append-add, drop-append-add, take_at, drop_at, length-take-le}
 use Rattle.tint.specs.Format.{canisters}
-use Rattle.tint.specs.Calls.{dosesAt, filledUp}
+use Rattle.tint.specs.Calls.{doses_at, filled_up}
 
 -- ---- doses in arrays
 
 -- the dose at a place, and those behind it
-pub doses-first : (n i : ℕ) (cs ss : List ℕ) → i < n
-    → dosesAt (n - i) cs ss i ≡ record { canister = get_or cs i 0; steps = get_or ss i 0 } ∷ dosesAt (n - (i + 1)) cs ss (i + 1)
-doses-first n i cs ss h =
+pub doses_first : (n i : ℕ) (cs ss : List ℕ) → i < n
+    → doses_at (n - i) cs ss i ≡ record { canister = get_or cs i 0; steps = get_or ss i 0 } ∷ doses_at (n - (i + 1)) cs ss (i + 1)
+doses_first n i cs ss h =
     let e : n - i ≡ suc (n - (i + 1)) = omega arith in
-    ap (λ (m : ℕ). dosesAt m cs ss i) e
-    ∙ ap (λ (j : ℕ). record { canister = get_or cs i 0; steps = get_or ss i 0 } ∷ dosesAt (n - (i + 1)) cs ss j) (sym (add-one i))
+    ap (λ (m : ℕ). doses_at m cs ss i) e
+    ∙ ap (λ (j : ℕ). record { canister = get_or cs i 0; steps = get_or ss i 0 } ∷ doses_at (n - (i + 1)) cs ss j) (sym (add-one i))
 
 -- none behind the last
-pub doses-none : (n i : ℕ) (cs ss : List ℕ) → n ≤ i → dosesAt (n - i) cs ss i ≡ []
-doses-none n i cs ss h = let e : n - i ≡ 0 = omega arith in ap (λ (m : ℕ). dosesAt m cs ss i) e
+pub doses_none : (n i : ℕ) (cs ss : List ℕ) → n ≤ i → doses_at (n - i) cs ss i ≡ []
+doses_none n i cs ss h = let e : n - i ≡ 0 = omega arith in ap (λ (m : ℕ). doses_at m cs ss i) e
 
 -- ---- an array filled: it has the first i numbers of all, and zeros behind them; the rest is to come
 
@@ -44,8 +44,8 @@ filled_more all rest rest' array i v m e has = (
     fewer : drop {A = ℕ} 1 (replicate (canisters - i) 0) ≡ replicate (canisters - (i + 1)) 0
     fewer = let n : canisters - i ≡ suc (canisters - (i + 1)) = omega arith in ap (λ (k : ℕ). drop {A = ℕ} 1 (replicate k 0)) n
 
-pub filled-all : (all rest array : List ℕ) (i : ℕ) → rest ≡ [] → length all ≡ i → Filled all rest array i → array ≡ filledUp all
-filled-all all rest array i e n has =
+pub filled_all : (all rest array : List ℕ) (i : ℕ) → rest ≡ [] → length all ≡ i → Filled all rest array i → array ≡ filled_up all
+filled_all all rest array i e n has =
     sym (take-append-drop i array)
     ∙ ap₂ (λ (p q : List ℕ). p ++ q) (sym (append-nil (take i array)) ∙ ap (λ (l : List ℕ). take i array ++ l) (sym e) ∙ has.1)
     (has.2 ∙ ap (λ (k : ℕ). replicate (canisters - k) 0) (sym n))
@@ -62,8 +62,8 @@ module _ (all rest rest' slice₀ slice slice' part : List ℕ) (at next : ℕ) 
   front = length-take-le at slice (omega arith)
 
   -- the numbers of one turn, from place at on
-  pub overwritten-more : Overwritten all rest slice₀ slice at → Overwritten all rest' slice₀ slice' next
-  overwritten-more has = (
+  pub overwritten_more : Overwritten all rest slice₀ slice at → Overwritten all rest' slice₀ slice' next
+  overwritten_more has = (
     ap length e ∙ length-append (take at slice) (part ++ drop next slice)
         ∙ omega (arith, front, length-append part (drop next slice), length-drop next slice) ∙ has.0,
     behind ∙ further,
@@ -89,8 +89,8 @@ module _ (all rest rest' slice₀ slice slice' part : List ℕ) (at next : ℕ) 
           ap (λ (k : ℕ). drop k slice) n ∙ sym (drop-drop (length part) at slice) ∙ ap (drop (length part)) has.1
           ∙ drop-drop (length part) at slice₀ ∙ ap (λ (k : ℕ). drop k slice₀) (sym n)
 
-pub overwritten-all : (all rest slice₀ slice : List ℕ) (at : ℕ) → rest ≡ [] → Overwritten all rest slice₀ slice at
+pub overwritten_all : (all rest slice₀ slice : List ℕ) (at : ℕ) → rest ≡ [] → Overwritten all rest slice₀ slice at
     → slice ≡ all ++ drop at slice₀
-overwritten-all all rest slice₀ slice at e has =
+overwritten_all all rest slice₀ slice at e has =
     sym (take-append-drop at slice)
     ∙ ap₂ (λ (p q : List ℕ). p ++ q) (sym (append-nil (take at slice)) ∙ ap (λ (l : List ℕ). take at slice ++ l) (sym e) ∙ has.2) has.1

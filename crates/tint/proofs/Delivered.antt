@@ -6,19 +6,19 @@ use native.Mathlib.Omega.{arith}
 use lib.ListN.{take}
 use Rattle.line.specs.Course.{opened, final}
 use Rattle.line.specs.WholeOrder.{WholeOrder}
-use Rattle.line.proofs.Delivery.WholeOrder.{whole-order}
+use Rattle.line.proofs.Delivery.WholeOrder.{whole_order}
 use Rattle.tint.specs.Calls.{Read}
 use Rattle.tint.specs.Delivered.{TintDelivery}
 use Rattle.tint.proofs.RoundTrip.{round_trip}
 
-pub tint-delivery-from : WholeOrder → TintDelivery
+pub tint_delivery_from : WholeOrder → TintDelivery
 unfolding WholeOrder TintDelivery
-tint-delivery-from whole doses slice slice' n w order b same k speed loop-ms L senderSize receiverSize s o initialStore e c h calls a end r g =
-    let store : List ℕ = (final (opened s o.state initialStore) calls).store in
-    let stored = whole k speed loop-ms L senderSize receiverSize order s o initialStore h calls a end in
+tint_delivery_from whole doses slice slice' n w order b same k speed loop_ms L sender_size receiver_size s o initial_store e c h calls a end r g =
+    let store : List ℕ = (final (opened s o.state initial_store) calls).store in
+    let stored = whole k speed loop_ms L sender_size receiver_size order s o initial_store h calls a end in
     let m : L / 8 ≡ n = omega arith in
     let t : take (L / 8) store ≡ take n slice' = ap (λ (i : ℕ). take i store) m ∙ stored.bytes n e b c ∙ same in
-    round_trip.reads-written doses slice slice' n r w (subst (λ (l : List ℕ). Read l r) t g)
+    round_trip.reads_written doses slice slice' n r w (subst (λ (l : List ℕ). Read l r) t g)
 
-pub tint-delivery : TintDelivery
-tint-delivery = tint-delivery-from whole-order
+pub tint_delivery : TintDelivery
+tint_delivery = tint_delivery_from whole_order

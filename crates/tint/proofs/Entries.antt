@@ -8,23 +8,23 @@ use native.Mathlib.Omega.{arith}
 use lib.Dec.{eqb, leb, ltb}
 use lib.ListN.{length, drop, get_or, replicate}
 use borrow.Author.Tests.{ltb-true, ltb-false, leb-true, eqb-true, eqb-false, not-true, not-false, lt-ltb, le-ltb, eq-eqb, ne_eqb}
-use Rattle.crc.proofs.Bytes.{drop-bytes}
-use Rattle.block.specs.Answer.{Answer, refused, done, refuseIf}
-use Rattle.block.proofs.Truth.{and-true, either}
-use Rattle.block.proofs.Refusals.{passed-test}
+use Rattle.crc.proofs.Bytes.{drop_bytes}
+use Rattle.block.specs.Answer.{Answer, refused, done, refuse_if}
+use Rattle.block.proofs.Truth.{and_true, either}
+use Rattle.block.proofs.Refusals.{passed_test}
 use Rattle.line.specs.WholeOrder.{Bytes}
 use Rattle.tint.specs.Refusals as Refusals
-use Rattle.tint.specs.Format.{Dose, formatVersion, bigEndian, fromBigEndian, entries, orderBytes, dosesIn, isLengthOf, isFormat, canisters, mostSteps, mostTotal, isInRange, inRangeAndOrder, total, judgeDoses}
-use Rattle.tint.specs.Calls.{dosesAt, dosesOf, canistersOf, steps_of, dosesFrom, judgeCounted}
-use Rattle.tint.specs.Code.{headBytes, lowEntries}
+use Rattle.tint.specs.Format.{Dose, format_version, big_endian, from_big_endian, entries, order_bytes, doses_in, is_length_of, is_format, canisters, most_steps, most_total, is_in_range, in_range_and_order, total, judge_doses}
+use Rattle.tint.specs.Calls.{doses_at, doses_of, canisters_of, steps_of, doses_from, judge_counted}
+use Rattle.tint.specs.Code.{head_bytes, low_entries}
 
 -- ---- entries and their doses
 
-pub from-big-endian : (n : ℕ) → fromBigEndian (n / 256) (n % 256) ≡ n
-from-big-endian n = omega arith
+pub from_big_endian_lem : (n : ℕ) → from_big_endian (n / 256) (n % 256) ≡ n
+from_big_endian_lem n = omega arith
 
-pub big-endian-from : (high low : ℕ) → low < 256 → bigEndian (fromBigEndian high low) ≡ high ∷ low ∷ []
-big-endian-from high low h =
+pub big_endian_from : (high low : ℕ) → low < 256 → big_endian (from_big_endian high low) ≡ high ∷ low ∷ []
+big_endian_from high low h =
     let e : (high * 256 + low) / 256 ≡ high = omega arith in
     let f : (high * 256 + low) % 256 ≡ low = omega arith in
     ap₂ (λ (x y : ℕ). x ∷ y ∷ []) e f
@@ -33,127 +33,127 @@ pub length-entries : (ds : List Dose) → length (entries ds) ≡ length ds * 3
 length-entries [] = refl
 length-entries (d ∷ ds) = omega (arith, length-entries ds)
 
-pub doses-of-entries : (ds : List Dose) → dosesIn (entries ds) ≡ ds
-doses-of-entries [] = refl
-doses-of-entries (d ∷ ds) =
-    ap₂ (λ (n : ℕ) (r : List Dose). record { canister = d.canister; steps = n } ∷ r) (from-big-endian d.steps) (doses-of-entries ds)
+pub doses_of-entries : (ds : List Dose) → doses_in (entries ds) ≡ ds
+doses_of-entries [] = refl
+doses_of-entries (d ∷ ds) =
+    ap₂ (λ (n : ℕ) (r : List Dose). record { canister = d.canister; steps = n } ∷ r) (from_big_endian_lem d.steps) (doses_of-entries ds)
 
-pub length-dosesIn : (s : List ℕ) → length (dosesIn s) ≡ length s / 3
-length-dosesIn [] = refl
-length-dosesIn (c ∷ []) = refl
-length-dosesIn (c ∷ h ∷ []) = refl
-length-dosesIn (c ∷ h ∷ l ∷ r) = omega (arith, length-dosesIn r)
+pub length-doses_in : (s : List ℕ) → length (doses_in s) ≡ length s / 3
+length-doses_in [] = refl
+length-doses_in (c ∷ []) = refl
+length-doses_in (c ∷ h ∷ []) = refl
+length-doses_in (c ∷ h ∷ l ∷ r) = omega (arith, length-doses_in r)
 
-pub entries-of-doses : (s : List ℕ) → length s % 3 ≡ 0 → Bytes s → entries (dosesIn s) ≡ s
-entries-of-doses [] m b = refl
-entries-of-doses (c ∷ []) m b = absurd (omega arith)
-entries-of-doses (c ∷ h ∷ []) m b = absurd (omega arith)
-entries-of-doses (c ∷ h ∷ l ∷ r) m b =
+pub entries_of_doses : (s : List ℕ) → length s % 3 ≡ 0 → Bytes s → entries (doses_in s) ≡ s
+entries_of_doses [] m b = refl
+entries_of_doses (c ∷ []) m b = absurd (omega arith)
+entries_of_doses (c ∷ h ∷ []) m b = absurd (omega arith)
+entries_of_doses (c ∷ h ∷ l ∷ r) m b =
     let n : length r % 3 ≡ 0 = omega arith in
-    ap₂ (λ (x y : List ℕ). c ∷ (x ++ y)) (big-endian-from h l (b 2)) (entries-of-doses r n (λ i. b (suc (suc (suc i)))))
+    ap₂ (λ (x y : List ℕ). c ∷ (x ++ y)) (big_endian_from h l (b 2)) (entries_of_doses r n (λ i. b (suc (suc (suc i)))))
 
 -- ---- the whole order
 
-pub length-orderBytes : (ds : List Dose) → length (orderBytes ds) ≡ 3 + length ds * 3
-unfolding orderBytes
-length-orderBytes ds = omega (arith, length-entries ds)
+pub length-order_bytes : (ds : List Dose) → length (order_bytes ds) ≡ 3 + length ds * 3
+unfolding order_bytes
+length-order_bytes ds = omega (arith, length-entries ds)
 
-pub drop-orderBytes : (ds : List Dose) → drop 3 (orderBytes ds) ≡ entries ds
-unfolding orderBytes
-drop-orderBytes ds = refl
+pub drop-order_bytes : (ds : List Dose) → drop 3 (order_bytes ds) ≡ entries ds
+unfolding order_bytes
+drop-order_bytes ds = refl
 
 pub positive : (n : ℕ) → (n ≡ 0 → ⊥) → 1 ≤ n
 positive zero z = absurd (z refl)
 positive (suc n) z = omega arith
 
 -- a length's three tests
-is-length : (n : ℕ) (rest : List ℕ) → 1 ≤ n → n % 3 ≡ 0 → n ≡ length rest → isLengthOf n rest ≡ true
-is-length n rest p m e = rw (ne_eqb n 0 (λ z. omega arith), eq-eqb (n % 3) 0 m, eq-eqb n (length rest) e) refl
+is_length_lem : (n : ℕ) (rest : List ℕ) → 1 ≤ n → n % 3 ≡ 0 → n ≡ length rest → is_length_of n rest ≡ true
+is_length_lem n rest p m e = rw (ne_eqb n 0 (λ z. omega arith), eq-eqb (n % 3) 0 m, eq-eqb n (length rest) e) refl
 
-length-is : (n : ℕ) (rest : List ℕ) → isLengthOf n rest ≡ true → (1 ≤ n) × (n % 3 ≡ 0) × (n ≡ length rest)
-length-is n rest h =
-    let a = and-true (not (eqb n 0) && eqb (n % 3) 0) (eqb n (length rest)) h in
-    let b = and-true (not (eqb n 0)) (eqb (n % 3) 0) a.0 in
+length_is : (n : ℕ) (rest : List ℕ) → is_length_of n rest ≡ true → (1 ≤ n) × (n % 3 ≡ 0) × (n ≡ length rest)
+length_is n rest h =
+    let a = and_true (not (eqb n 0) && eqb (n % 3) 0) (eqb n (length rest)) h in
+    let b = and_true (not (eqb n 0)) (eqb (n % 3) 0) a.0 in
     let z : n ≡ 0 → ⊥ = eqb-false n 0 (not-true (eqb n 0) b.0) in
     (positive n z, eqb-true (n % 3) 0 b.1, eqb-true n (length rest) a.1)
 
-pub is-format : (ds : List Dose) → 1 ≤ length ds → isFormat (orderBytes ds) ≡ true
-unfolding orderBytes
-is-format ds p =
+pub is_format_lem : (ds : List Dose) → 1 ≤ length ds → is_format (order_bytes ds) ≡ true
+unfolding order_bytes
+is_format_lem ds p =
     let l = length-entries ds in
-    rw (from-big-endian (length (entries ds)), is-length (length (entries ds)) (entries ds) (omega arith) (omega arith) refl) refl
+    rw (from_big_endian_lem (length (entries ds)), is_length_lem (length (entries ds)) (entries ds) (omega arith) (omega arith) refl) refl
 
 -- what an order of the format is made of
-pub format-is : (order : List ℕ) → isFormat order ≡ true → Bytes order
-    → order ≡ formatVersion ∷ (bigEndian (length (drop 3 order)) ++ drop 3 order)
-format-is [] h b = absurd (false≢true h)
-format-is (v ∷ []) h b = absurd (false≢true h)
-format-is (v ∷ high ∷ []) h b = absurd (false≢true h)
-format-is (v ∷ high ∷ low ∷ rest) h b =
-    let a = and-true (eqb v formatVersion) (isLengthOf (fromBigEndian high low) rest) h in
-    let l = length-is (fromBigEndian high low) rest a.1 in
-    ap₂ (λ (x : ℕ) (y : List ℕ). x ∷ (y ++ rest)) (eqb-true v formatVersion a.0)
-    (sym (big-endian-from high low (b 2)) ∙ ap bigEndian l.2)
+pub format_is : (order : List ℕ) → is_format order ≡ true → Bytes order
+    → order ≡ format_version ∷ (big_endian (length (drop 3 order)) ++ drop 3 order)
+format_is [] h b = absurd (false≢true h)
+format_is (v ∷ []) h b = absurd (false≢true h)
+format_is (v ∷ high ∷ []) h b = absurd (false≢true h)
+format_is (v ∷ high ∷ low ∷ rest) h b =
+    let a = and_true (eqb v format_version) (is_length_of (from_big_endian high low) rest) h in
+    let l = length_is (from_big_endian high low) rest a.1 in
+    ap₂ (λ (x : ℕ) (y : List ℕ). x ∷ (y ++ rest)) (eqb-true v format_version a.0)
+    (sym (big_endian_from high low (b 2)) ∙ ap big_endian l.2)
 
-pub format-lengths : (order : List ℕ) → isFormat order ≡ true
+pub format-lengths : (order : List ℕ) → is_format order ≡ true
     → (4 ≤ length order) × (1 ≤ length (drop 3 order)) × (length (drop 3 order) % 3 ≡ 0)
 format-lengths [] h = absurd (false≢true h)
 format-lengths (v ∷ []) h = absurd (false≢true h)
 format-lengths (v ∷ high ∷ []) h = absurd (false≢true h)
 format-lengths (v ∷ high ∷ low ∷ rest) h =
-    let a = and-true (eqb v formatVersion) (isLengthOf (fromBigEndian high low) rest) h in
-    let l = length-is (fromBigEndian high low) rest a.1 in
+    let a = and_true (eqb v format_version) (is_length_of (from_big_endian high low) rest) h in
+    let l = length_is (from_big_endian high low) rest a.1 in
     (omega arith, omega arith, omega arith)
 
 -- the order of doses read is the bytes they were read from
-pub orderBytes-read : (order : List ℕ) → isFormat order ≡ true → Bytes order → orderBytes (dosesIn (drop 3 order)) ≡ order
-unfolding orderBytes
-orderBytes-read order h b =
+pub order_bytes-read : (order : List ℕ) → is_format order ≡ true → Bytes order → order_bytes (doses_in (drop 3 order)) ≡ order
+unfolding order_bytes
+order_bytes-read order h b =
     let l = format-lengths order h in
-    ap (λ (s : List ℕ). formatVersion ∷ (bigEndian (length s) ++ s)) (entries-of-doses (drop 3 order) l.2 (drop-bytes 3 order b))
-    ∙ sym (format-is order h b)
+    ap (λ (s : List ℕ). format_version ∷ (big_endian (length s) ++ s)) (entries_of_doses (drop 3 order) l.2 (drop_bytes 3 order b))
+    ∙ sym (format_is order h b)
 
 -- ---- canisters that rise
 
-rising-first : (last : ℕ) (d : Dose) (ds : List Dose) → inRangeAndOrder last (d ∷ ds) ≡ true
-    → (last < d.canister) × (d.canister ≤ canisters) × (inRangeAndOrder d.canister ds ≡ true)
-rising-first last d ds h =
-    let a = and-true (isInRange d && ltb last d.canister) (inRangeAndOrder d.canister ds) h in
-    let b = and-true (isInRange d) (ltb last d.canister) a.0 in
-    let c = and-true (leb 1 d.canister && leb d.canister canisters && leb 1 d.steps) (leb d.steps mostSteps) b.0 in
-    let e = and-true (leb 1 d.canister && leb d.canister canisters) (leb 1 d.steps) c.0 in
-    let f = and-true (leb 1 d.canister) (leb d.canister canisters) e.0 in
+rising_first : (last : ℕ) (d : Dose) (ds : List Dose) → in_range_and_order last (d ∷ ds) ≡ true
+    → (last < d.canister) × (d.canister ≤ canisters) × (in_range_and_order d.canister ds ≡ true)
+rising_first last d ds h =
+    let a = and_true (is_in_range d && ltb last d.canister) (in_range_and_order d.canister ds) h in
+    let b = and_true (is_in_range d) (ltb last d.canister) a.0 in
+    let c = and_true (leb 1 d.canister && leb d.canister canisters && leb 1 d.steps) (leb d.steps most_steps) b.0 in
+    let e = and_true (leb 1 d.canister && leb d.canister canisters) (leb 1 d.steps) c.0 in
+    let f = and_true (leb 1 d.canister) (leb d.canister canisters) e.0 in
     (ltb-true last d.canister b.1, leb-true d.canister canisters f.1, a.1)
 
 -- no thirteen of them
-pub at-most-twelve : (last : ℕ) (ds : List Dose) → last ≤ canisters → inRangeAndOrder last ds ≡ true → last + length ds ≤ canisters
-at-most-twelve last [] m h = omega arith
-at-most-twelve last (d ∷ ds) m h =
-    let a = rising-first last d ds h in
-    let b = at-most-twelve d.canister ds a.1 a.2 in
+pub at_most_twelve : (last : ℕ) (ds : List Dose) → last ≤ canisters → in_range_and_order last ds ≡ true → last + length ds ≤ canisters
+at_most_twelve last [] m h = omega arith
+at_most_twelve last (d ∷ ds) m h =
+    let a = rising_first last d ds h in
+    let b = at_most_twelve d.canister ds a.1 a.2 in
     omega arith
 
-pub thirteen-fail : (ds : List Dose) → canisters < length ds → inRangeAndOrder 0 ds ≡ false
-thirteen-fail ds m =
-    ⊎_elim (λ (t : inRangeAndOrder 0 ds ≡ true). let n = at-most-twelve 0 ds (omega arith) t in absurd (omega arith)) (λ f. f) (either (inRangeAndOrder 0 ds))
+pub thirteen_fail : (ds : List Dose) → canisters < length ds → in_range_and_order 0 ds ≡ false
+thirteen_fail ds m =
+    ⊎_elim (λ (t : in_range_and_order 0 ds ≡ true). let n = at_most_twelve 0 ds (omega arith) t in absurd (omega arith)) (λ f. f) (either (in_range_and_order 0 ds))
 
 -- they are bytes
-pub rising-entries : (last : ℕ) (ds : List Dose) → inRangeAndOrder last ds ≡ true → lowEntries ds ≡ entries ds
-rising-entries last [] h = refl
-rising-entries last (d ∷ ds) h =
-    let a = rising-first last d ds h in
+pub rising_entries : (last : ℕ) (ds : List Dose) → in_range_and_order last ds ≡ true → low_entries ds ≡ entries ds
+rising_entries last [] h = refl
+rising_entries last (d ∷ ds) h =
+    let a = rising_first last d ds h in
     let e : d.canister % 256 ≡ d.canister = omega arith in
-    ap₂ (λ (c : ℕ) (r : List ℕ). c ∷ (bigEndian d.steps ++ r)) e (rising-entries d.canister ds a.2)
+    ap₂ (λ (c : ℕ) (r : List ℕ). c ∷ (big_endian d.steps ++ r)) e (rising_entries d.canister ds a.2)
 
 -- the bytes of an order, as the code writes them
-pub rising-orderBytes : (ds : List Dose) → inRangeAndOrder 0 ds ≡ true → headBytes (length ds * 3) ++ lowEntries ds ≡ orderBytes ds
-unfolding orderBytes
-rising-orderBytes ds h =
-    let n = at-most-twelve 0 ds (omega arith) h in
+pub rising_order_bytes : (ds : List Dose) → in_range_and_order 0 ds ≡ true → head_bytes (length ds * 3) ++ low_entries ds ≡ order_bytes ds
+unfolding order_bytes
+rising_order_bytes ds h =
+    let n = at_most_twelve 0 ds (omega arith) h in
     let e : length ds * 3 / 256 % 256 ≡ length (entries ds) / 256 = omega (arith, length-entries ds) in
     let f : length ds * 3 % 256 ≡ length (entries ds) % 256 = omega (arith, length-entries ds) in
-    ap₂ (λ (x y : ℕ). formatVersion ∷ x ∷ y ∷ lowEntries ds) e f
-    ∙ ap (λ (s : List ℕ). formatVersion ∷ (bigEndian (length (entries ds)) ++ s)) (rising-entries 0 ds h)
+    ap₂ (λ (x y : ℕ). format_version ∷ x ∷ y ∷ low_entries ds) e f
+    ∙ ap (λ (s : List ℕ). format_version ∷ (big_endian (length (entries ds)) ++ s)) (rising_entries 0 ds h)
 
 -- ---- doses in arrays
 
@@ -163,95 +163,95 @@ length-map f [] = refl
 length-map f (d ∷ ds) = ap suc (length-map f ds)
 
 -- behind the first place
-pub dosesAt-suc : (n x y : ℕ) (cs ss : List ℕ) (i : ℕ) → dosesAt n (x ∷ cs) (y ∷ ss) (suc i) ≡ dosesAt n cs ss i
-dosesAt-suc zero x y cs ss i = refl
-dosesAt-suc (suc n) x y cs ss i =
-    ap (λ (r : List Dose). record { canister = get_or cs i 0; steps = get_or ss i 0 } ∷ r) (dosesAt-suc n x y cs ss (suc i))
+pub doses_at-suc : (n x y : ℕ) (cs ss : List ℕ) (i : ℕ) → doses_at n (x ∷ cs) (y ∷ ss) (suc i) ≡ doses_at n cs ss i
+doses_at-suc zero x y cs ss i = refl
+doses_at-suc (suc n) x y cs ss i =
+    ap (λ (r : List Dose). record { canister = get_or cs i 0; steps = get_or ss i 0 } ∷ r) (doses_at-suc n x y cs ss (suc i))
 
-pub length-dosesAt : (n : ℕ) (cs ss : List ℕ) (i : ℕ) → length (dosesAt n cs ss i) ≡ n
-length-dosesAt zero cs ss i = refl
-length-dosesAt (suc n) cs ss i = ap suc (length-dosesAt n cs ss (suc i))
+pub length-doses_at : (n : ℕ) (cs ss : List ℕ) (i : ℕ) → length (doses_at n cs ss i) ≡ n
+length-doses_at zero cs ss i = refl
+length-doses_at (suc n) cs ss i = ap suc (length-doses_at n cs ss (suc i))
 
 -- whatever stands behind the doses
-pub dosesAt-append : (ds : List Dose) (behind behind' : List ℕ)
-    → dosesAt (length ds) (canistersOf ds ++ behind) (steps_of ds ++ behind') 0 ≡ ds
-dosesAt-append [] behind behind' = refl
-dosesAt-append (d ∷ ds) behind behind' =
+pub doses_at-append : (ds : List Dose) (behind behind' : List ℕ)
+    → doses_at (length ds) (canisters_of ds ++ behind) (steps_of ds ++ behind') 0 ≡ ds
+doses_at-append [] behind behind' = refl
+doses_at-append (d ∷ ds) behind behind' =
     ap (λ (r : List Dose). d ∷ r)
-    (dosesAt-suc (length ds) d.canister d.steps (canistersOf ds ++ behind) (steps_of ds ++ behind') 0 ∙ dosesAt-append ds behind behind')
+    (doses_at-suc (length ds) d.canister d.steps (canisters_of ds ++ behind) (steps_of ds ++ behind') 0 ∙ doses_at-append ds behind behind')
 
-pub dosesOf-dosesFrom : (ds : List Dose) → dosesOf (dosesFrom ds) ≡ ds
-dosesOf-dosesFrom ds =
-    dosesAt-append ds (replicate (canisters - length (canistersOf ds)) 0) (replicate (canisters - length (steps_of ds)) 0)
+pub doses_of-doses_from : (ds : List Dose) → doses_of (doses_from ds) ≡ ds
+doses_of-doses_from ds =
+    doses_at-append ds (replicate (canisters - length (canisters_of ds)) 0) (replicate (canisters - length (steps_of ds)) 0)
 
 -- ---- what judging answers
 
-pub not-refused : {X Y : Type 0} (n : ℕ) (x : X) → ◌≡◌ {A = Answer X} (refused n) (done x) → Y
-not-refused n x h = absurd (let z : ◌≡◌ {A = ℕ} 0 1 = cc in omega arith)
+pub not_refused : {X Y : Type 0} (n : ℕ) (x : X) → ◌≡◌ {A = Answer X} (refused n) (done x) → Y
+not_refused n x h = absurd (let z : ◌≡◌ {A = ℕ} 0 1 = cc in omega arith)
 
-pub same-done : {X : Type 0} {x y : X} → ◌≡◌ {A = Answer X} (done x) (done y) → x ≡ y
-same-done h = cc
+pub same_done : {X : Type 0} {x y : X} → ◌≡◌ {A = Answer X} (done x) (done y) → x ≡ y
+same_done h = cc
 
 -- two calls that make the same test, and refuse alike behind it
-refused-alike : {A B : Type 0} (t : Bool) (n m : ℕ) {next : Answer A} {other : Answer B} → (next ≡ refused m → other ≡ refused m)
-    → refuseIf t n next ≡ refused m → refuseIf t n other ≡ refused m
-refused-alike true n m f h = cc
-refused-alike false n m f h = f h
+refused_alike : {A B : Type 0} (t : Bool) (n m : ℕ) {next : Answer A} {other : Answer B} → (next ≡ refused m → other ≡ refused m)
+    → refuse_if t n next ≡ refused m → refuse_if t n other ≡ refused m
+refused_alike true n m f h = cc
+refused_alike false n m f h = f h
 
 module _ {A : Type 0} (ds : List Dose) (next : Answer A) where
-  pub judge-entry : inRangeAndOrder 0 ds ≡ false → judgeDoses ds next ≡ refused Refusals.entry
-  unfolding judgeDoses
+  pub judge-entry : in_range_and_order 0 ds ≡ false → judge_doses ds next ≡ refused Refusals.entry
+  unfolding judge_doses
   judge-entry h = rw h refl
 
-  pub judge-steps : inRangeAndOrder 0 ds ≡ true → mostTotal < total ds → judgeDoses ds next ≡ refused Refusals.steps
-  unfolding judgeDoses
-  judge-steps h t = rw (h, lt-ltb mostTotal (total ds) t) refl
+  pub judge-steps : in_range_and_order 0 ds ≡ true → most_total < total ds → judge_doses ds next ≡ refused Refusals.steps
+  unfolding judge_doses
+  judge-steps h t = rw (h, lt-ltb most_total (total ds) t) refl
 
-  pub judge-good : inRangeAndOrder 0 ds ≡ true → total ds ≤ mostTotal → judgeDoses ds next ≡ next
-  unfolding judgeDoses
-  judge-good h t = rw (h, le-ltb mostTotal (total ds) t) refl
+  pub judge_good : in_range_and_order 0 ds ≡ true → total ds ≤ most_total → judge_doses ds next ≡ next
+  unfolding judge_doses
+  judge_good h t = rw (h, le-ltb most_total (total ds) t) refl
 
-  pub judged-good : (x : A) → judgeDoses ds next ≡ done x → (inRangeAndOrder 0 ds ≡ true) × (total ds ≤ mostTotal) × (next ≡ done x)
-  unfolding judgeDoses
-  judged-good x h =
-      let a = passed-test (not (inRangeAndOrder 0 ds)) Refusals.entry (refuseIf (ltb mostTotal (total ds)) Refusals.steps next) x h in
-      let b = passed-test (ltb mostTotal (total ds)) Refusals.steps next x a.1 in
-      (not-false (inRangeAndOrder 0 ds) a.0, ltb-false mostTotal (total ds) b.0, b.1)
+  pub judged_good : (x : A) → judge_doses ds next ≡ done x → (in_range_and_order 0 ds ≡ true) × (total ds ≤ most_total) × (next ≡ done x)
+  unfolding judge_doses
+  judged_good x h =
+      let a = passed_test (not (in_range_and_order 0 ds)) Refusals.entry (refuse_if (ltb most_total (total ds)) Refusals.steps next) x h in
+      let b = passed_test (ltb most_total (total ds)) Refusals.steps next x a.1 in
+      (not-false (in_range_and_order 0 ds) a.0, ltb-false most_total (total ds) b.0, b.1)
 
   module _ (count : ℕ) where
-    pub counted_none : count ≡ 0 → judgeCounted count ds next ≡ refused Refusals.format
-    unfolding judgeCounted
+    pub counted_none : count ≡ 0 → judge_counted count ds next ≡ refused Refusals.format
+    unfolding judge_counted
     counted_none h = rw (eq-eqb count 0 h) refl
 
-    pub counted-many : canisters < count → judgeCounted count ds next ≡ refused Refusals.entry
-    unfolding judgeCounted
-    counted-many h = rw (ne_eqb count 0 (λ z. omega arith), lt-ltb canisters count h) refl
+    pub counted_many : canisters < count → judge_counted count ds next ≡ refused Refusals.entry
+    unfolding judge_counted
+    counted_many h = rw (ne_eqb count 0 (λ z. omega arith), lt-ltb canisters count h) refl
 
-    pub counted-some : 1 ≤ count → count ≤ canisters → judgeCounted count ds next ≡ judgeDoses ds next
-    unfolding judgeCounted
+    pub counted-some : 1 ≤ count → count ≤ canisters → judge_counted count ds next ≡ judge_doses ds next
+    unfolding judge_counted
     counted-some p m = rw (ne_eqb count 0 (λ z. omega arith), le-ltb canisters count m) refl
 
-    pub counted-good : (x : A) → judgeCounted count ds next ≡ done x
-        → (1 ≤ count) × (count ≤ canisters) × (judgeDoses ds next ≡ done x)
-    unfolding judgeCounted
-    counted-good x h =
-        let a = passed-test (eqb count 0) Refusals.format (refuseIf (ltb canisters count) Refusals.entry (judgeDoses ds next)) x h in
-        let b = passed-test (ltb canisters count) Refusals.entry (judgeDoses ds next) x a.1 in
+    pub counted_good : (x : A) → judge_counted count ds next ≡ done x
+        → (1 ≤ count) × (count ≤ canisters) × (judge_doses ds next ≡ done x)
+    unfolding judge_counted
+    counted_good x h =
+        let a = passed_test (eqb count 0) Refusals.format (refuse_if (ltb canisters count) Refusals.entry (judge_doses ds next)) x h in
+        let b = passed_test (ltb canisters count) Refusals.entry (judge_doses ds next) x a.1 in
         (positive count (eqb-false count 0 a.0), ltb-false canisters count b.0, b.1)
 
 -- ---- a judgement refuses whatever follows it
 
 module _ {B : Type 0} (ds : List Dose) (other : Answer B) (n : ℕ) where
   accepted-not : ◌≡◌ {A = Answer (Unit {0})} (done tt) (refused n) → other ≡ refused n
-  accepted-not z = not-refused n tt (sym z)
+  accepted-not z = not_refused n tt (sym z)
 
-  pub judged-refused : refused n ≡ judgeDoses {A = Unit {0}} ds (done tt) → judgeDoses ds other ≡ refused n
-  unfolding judgeDoses
-  judged-refused h =
-      refused-alike (not (inRangeAndOrder 0 ds)) Refusals.entry n (refused-alike (ltb mostTotal (total ds)) Refusals.steps n accepted-not) (sym h)
+  pub judged_refused : refused n ≡ judge_doses {A = Unit {0}} ds (done tt) → judge_doses ds other ≡ refused n
+  unfolding judge_doses
+  judged_refused h =
+      refused_alike (not (in_range_and_order 0 ds)) Refusals.entry n (refused_alike (ltb most_total (total ds)) Refusals.steps n accepted-not) (sym h)
 
-  pub counted-refused : (count : ℕ) → refused n ≡ judgeCounted {A = Unit {0}} count ds (done tt) → judgeCounted count ds other ≡ refused n
-  unfolding judgeCounted
-  counted-refused count h =
-      refused-alike (eqb count 0) Refusals.format n
-      (refused-alike (ltb canisters count) Refusals.entry n (λ e. judged-refused (sym e))) (sym h)
+  pub counted_refused : (count : ℕ) → refused n ≡ judge_counted {A = Unit {0}} count ds (done tt) → judge_counted count ds other ≡ refused n
+  unfolding judge_counted
+  counted_refused count h =
+      refused_alike (eqb count 0) Refusals.format n
+      (refused_alike (ltb canisters count) Refusals.entry n (λ e. judged_refused (sym e))) (sym h)

@@ -10,11 +10,11 @@ use lib.Seq.{take-append_seam}
 use borrow.Author.Tests.{le-ltb, not-false}
 use Rattle.block.specs.Answer as A
 use Rattle.block.specs.Answer.{Answer, refused, done}
-use Rattle.block.proofs.Refusals.{passed-test}
+use Rattle.block.proofs.Refusals.{passed_test}
 use Rattle.line.specs.WholeOrder.{Bytes}
 use Rattle.tint.specs.Refusals as Refusals
-use Rattle.tint.specs.Format.{Dose, orderBytes, dosesIn, isFormat, canisters, mostTotal, inRangeAndOrder, total, judgeDoses}
-use Rattle.tint.specs.Calls.{dosesOf, write, writtenCount, writtenAnswer, writtenSlice, Write, read, orderReadAnswer, Read}
+use Rattle.tint.specs.Format.{Dose, order_bytes, doses_in, is_format, canisters, most_total, in_range_and_order, total, judge_doses}
+use Rattle.tint.specs.Calls.{doses_of, write, written_count, written_answer, written_slice, Write, read, order_read_answer, Read}
 use Rattle.tint.specs.RoundTrip.{ReadAs, RoundTrip}
 use Rattle.tint.specs.declared.Doses.{Doses}
 use Rattle.tint.specs.declared.Judged.{Judged}
@@ -22,109 +22,109 @@ use Rattle.tint.specs.declared.Judged.TheVariants as J
 use Rattle.tint.specs.declared.Written.{Written}
 use Rattle.tint.specs.declared.Written.TheVariants as W
 use Rattle.tint.specs.declared.OrderRead.{OrderRead}
-use Rattle.tint.proofs.Entries.{doses-of-entries, length-dosesIn, length-dosesAt, drop-orderBytes, is-format, format-lengths, orderBytes-read, at-most-twelve, not-refused, same-done, judge-good, judged-good, counted-some, counted-good}
+use Rattle.tint.proofs.Entries.{doses_of-entries, length-doses_in, length-doses_at, drop-order_bytes, is_format_lem, format-lengths, order_bytes-read, at_most_twelve, not_refused, same_done, judge_good, judged_good, counted-some, counted_good}
 
 -- doses that an order can have
 pub record Writable (ds : List Dose) : Type 0 where
   pub some : 1 ≤ length ds
-  pub in_order : inRangeAndOrder 0 ds ≡ true
-  pub small : total ds ≤ mostTotal
+  pub in_order : in_range_and_order 0 ds ≡ true
+  pub small : total ds ≤ most_total
 
 -- ---- answers
 
 -- so many bytes were written, and these
-bytes-written : (a : Answer (List ℕ)) (n : ℕ) → writtenCount a ≡ done n → (bytes : List ℕ) × (a ≡ done bytes) × (length bytes ≡ n)
-bytes-written (refused m) n h = not-refused m n h
-bytes-written (done bytes) n h = (bytes, refl, same-done h)
+bytes_written : (a : Answer (List ℕ)) (n : ℕ) → written_count a ≡ done n → (bytes : List ℕ) × (a ≡ done bytes) × (length bytes ≡ n)
+bytes_written (refused m) n h = not_refused m n h
+bytes_written (done bytes) n h = (bytes, refl, same_done h)
 
-written-done : (answer : Written) (n : ℕ) → writtenAnswer answer ≡ done n → answer ≡ W.Done n
-written-done (W.Done m) n h = ap W.Done (same-done h)
-written-done (W.Refused m) n h = not-refused m n h
+written_done : (answer : Written) (n : ℕ) → written_answer answer ≡ done n → answer ≡ W.Done n
+written_done (W.Done m) n h = ap W.Done (same_done h)
+written_done (W.Refused m) n h = not_refused m n h
 
 -- an order read that is not refused
-read-good : (d : Doses) (answer : Judged) (ds : List Dose) → orderReadAnswer d answer ≡ done ds → (answer ≡ J.Good) × (dosesOf d ≡ ds)
-read-good d J.Good ds h = (refl, same-done h)
-read-good d (J.Refused n) ds h = not-refused n ds h
+read_good_lem : (d : Doses) (answer : Judged) (ds : List Dose) → order_read_answer d answer ≡ done ds → (answer ≡ J.Good) × (doses_of d ≡ ds)
+read_good_lem d J.Good ds h = (refl, same_done h)
+read_good_lem d (J.Refused n) ds h = not_refused n ds h
 
 -- ---- what is written
 
 module _ (d : Doses) (slice : List ℕ) where
-  writes-order : Writable (dosesOf d) → length (orderBytes (dosesOf d)) ≤ length slice → write d slice ≡ done (orderBytes (dosesOf d))
+  writes_order : Writable (doses_of d) → length (order_bytes (doses_of d)) ≤ length slice → write d slice ≡ done (order_bytes (doses_of d))
   unfolding write
-  writes-order w room =
-      let n = length-dosesAt d.count d.canisters d.steps 0 in
+  writes_order w room =
+      let n = length-doses_at d.count d.canisters d.steps 0 in
       let p = w.some in
-      let m = at-most-twelve 0 (dosesOf d) (omega arith) w.in_order in
-      counted-some (dosesOf d) _ d.count (omega arith) (omega arith) ∙ judge-good (dosesOf d) _ w.in_order w.small
-      ∙ rw (le-ltb (length slice) (length (orderBytes (dosesOf d))) room) refl
+      let m = at_most_twelve 0 (doses_of d) (omega arith) w.in_order in
+      counted-some (doses_of d) _ d.count (omega arith) (omega arith) ∙ judge_good (doses_of d) _ w.in_order w.small
+      ∙ rw (le-ltb (length slice) (length (order_bytes (doses_of d))) room) refl
 
-  written-order : (bytes : List ℕ) → write d slice ≡ done bytes → Writable (dosesOf d) × (orderBytes (dosesOf d) ≡ bytes)
+  written_order : (bytes : List ℕ) → write d slice ≡ done bytes → Writable (doses_of d) × (order_bytes (doses_of d) ≡ bytes)
   unfolding write
-  written-order bytes h =
-      let n = length-dosesAt d.count d.canisters d.steps 0 in
-      let c = counted-good (dosesOf d) _ d.count bytes h in
-      let j = judged-good (dosesOf d) _ bytes c.2 in
-      let t = passed-test (ltb (length slice) (length (orderBytes (dosesOf d)))) A.short (done (orderBytes (dosesOf d))) bytes j.2 in
-      (record { some = omega (arith, c.0); in_order = j.0; small = j.1 }, same-done t.1)
+  written_order bytes h =
+      let n = length-doses_at d.count d.canisters d.steps 0 in
+      let c = counted_good (doses_of d) _ d.count bytes h in
+      let j = judged_good (doses_of d) _ bytes c.2 in
+      let t = passed_test (ltb (length slice) (length (order_bytes (doses_of d)))) A.short (done (order_bytes (doses_of d))) bytes j.2 in
+      (record { some = omega (arith, c.0); in_order = j.0; small = j.1 }, same_done t.1)
 
 -- ---- what is read
 
-pub reads-order : (ds : List Dose) → Writable ds → read (orderBytes ds) ≡ done ds
+pub reads_order : (ds : List Dose) → Writable ds → read (order_bytes ds) ≡ done ds
 unfolding read
-reads-order ds w = rw (is-format ds w.some, drop-orderBytes ds, doses-of-entries ds) (judge-good ds (done ds) w.in_order w.small)
+reads_order ds w = rw (is_format_lem ds w.some, drop-order_bytes ds, doses_of-entries ds) (judge_good ds (done ds) w.in_order w.small)
 
-pub order-read : (order : List ℕ) (ds : List Dose) → read order ≡ done ds
-    → Writable ds × (isFormat order ≡ true) × (dosesIn (drop 3 order) ≡ ds)
+pub order_read : (order : List ℕ) (ds : List Dose) → read order ≡ done ds
+    → Writable ds × (is_format order ≡ true) × (doses_in (drop 3 order) ≡ ds)
 unfolding read
-order-read order ds h =
-    let in_order : List Dose = dosesIn (drop 3 order) in
-    let f = passed-test (not (isFormat order)) Refusals.format (judgeDoses in_order (done in_order)) ds h in
-    let g : isFormat order ≡ true = not-false (isFormat order) f.0 in
+order_read order ds h =
+    let in_order : List Dose = doses_in (drop 3 order) in
+    let f = passed_test (not (is_format order)) Refusals.format (judge_doses in_order (done in_order)) ds h in
+    let g : is_format order ≡ true = not-false (is_format order) f.0 in
     let l = format-lengths order g in
-    let j = judged-good in_order (done in_order) ds f.1 in
-    let p : 1 ≤ length in_order = omega (arith, l.1, l.2, length-dosesIn (drop 3 order)) in
-    let e : in_order ≡ ds = same-done j.2 in
+    let j = judged_good in_order (done in_order) ds f.1 in
+    let p : 1 ≤ length in_order = omega (arith, l.1, l.2, length-doses_in (drop 3 order)) in
+    let e : in_order ≡ ds = same_done j.2 in
     (subst Writable e (record { some = p; in_order = j.0; small = j.1 }), g, e)
 
 -- no more than an array holds
-pub read-few : (order : List ℕ) (ds : List Dose) → read order ≡ done ds → length ds ≤ canisters
-read-few order ds h =
-    let w = (order-read order ds h).0 in
-    let m = at-most-twelve 0 ds (omega arith) w.in_order in
+pub read_few : (order : List ℕ) (ds : List Dose) → read order ≡ done ds → length ds ≤ canisters
+read_few order ds h =
+    let w = (order_read order ds h).0 in
+    let m = at_most_twelve 0 ds (omega arith) w.in_order in
     omega arith
 
 -- the order is the one encoding of the doses read from it
-pub encoded : (order : List ℕ) (ds : List Dose) → Bytes order → read order ≡ done ds → orderBytes ds ≡ order
+pub encoded : (order : List ℕ) (ds : List Dose) → Bytes order → read order ≡ done ds → order_bytes ds ≡ order
 encoded order ds b h =
-    let r = order-read order ds h in
-    ap orderBytes (sym r.2) ∙ orderBytes-read order r.1 b
+    let r = order_read order ds h in
+    ap order_bytes (sym r.2) ∙ order_bytes-read order r.1 b
 
 -- ---- there and back
 
-reads-written : (d : Doses) (slice slice' : List ℕ) (n : ℕ) (r : OrderRead) → Write d slice (W.Done n) slice' → Read (take n slice') r
+reads_written : (d : Doses) (slice slice' : List ℕ) (n : ℕ) (r : OrderRead) → Write d slice (W.Done n) slice' → Read (take n slice') r
     → ReadAs d r
-reads-written d slice slice' n r w g =
-    let c = bytes-written (write d slice) n (sym w.answers) in
+reads_written d slice slice' n r w g =
+    let c = bytes_written (write d slice) n (sym w.answers) in
     let bytes : List ℕ = c.0 in
-    let o = written-order d slice bytes c.1 in
-    let s : slice' ≡ bytes ++ drop (length bytes) slice = w.writes ∙ ap (writtenSlice slice) c.1 in
-    let t : take n slice' ≡ orderBytes (dosesOf d) =
+    let o = written_order d slice bytes c.1 in
+    let s : slice' ≡ bytes ++ drop (length bytes) slice = w.writes ∙ ap (written_slice slice) c.1 in
+    let t : take n slice' ≡ order_bytes (doses_of d) =
     ap₂ take (sym c.2) s ∙ take-append_seam bytes (drop (length bytes) slice) ∙ sym o.1 in
-    read-good r.doses r.answer (dosesOf d) (g.answers ∙ ap read t ∙ reads-order (dosesOf d) o.0)
+    read_good_lem r.doses r.answer (doses_of d) (g.answers ∙ ap read t ∙ reads_order (doses_of d) o.0)
 
-writes-read : (order slice slice' : List ℕ) (r : OrderRead) (answer : Written) → Bytes order → Read order r → r.answer ≡ J.Good
+writes_read : (order slice slice' : List ℕ) (r : OrderRead) (answer : Written) → Bytes order → Read order r → r.answer ≡ J.Good
     → length order ≤ length slice → Write r.doses slice answer slice'
     → (answer ≡ W.Done (length order)) × (slice' ≡ order ++ drop (length order) slice)
-writes-read order slice slice' r answer b g good room w =
-    let ds : List Dose = dosesOf r.doses in
-    let a : read order ≡ done ds = sym g.answers ∙ ap (orderReadAnswer r.doses) good in
-    let e : orderBytes ds ≡ order = encoded order ds b a in
+writes_read order slice slice' r answer b g good room w =
+    let ds : List Dose = doses_of r.doses in
+    let a : read order ≡ done ds = sym g.answers ∙ ap (order_read_answer r.doses) good in
+    let e : order_bytes ds ≡ order = encoded order ds b a in
     let f : write r.doses slice ≡ done order =
-    writes-order r.doses slice (order-read order ds a).0 (subst (λ (s : List ℕ). length s ≤ length slice) (sym e) room) ∙ ap done e in
-    (written-done answer (length order) (w.answers ∙ ap writtenCount f), w.writes ∙ ap (writtenSlice slice) f)
+    writes_order r.doses slice (order_read order ds a).0 (subst (λ (s : List ℕ). length s ≤ length slice) (sym e) room) ∙ ap done e in
+    (written_done answer (length order) (w.answers ∙ ap written_count f), w.writes ∙ ap (written_slice slice) f)
 
-one-encoding : (a b : List ℕ) (ds : List Dose) → Bytes a → Bytes b → read a ≡ done ds → read b ≡ done ds → a ≡ b
-one-encoding a b ds h k p q = sym (encoded a ds h p) ∙ encoded b ds k q
+one_encoding : (a b : List ℕ) (ds : List Dose) → Bytes a → Bytes b → read a ≡ done ds → read b ≡ done ds → a ≡ b
+one_encoding a b ds h k p q = sym (encoded a ds h p) ∙ encoded b ds k q
 
 pub round_trip : RoundTrip
-round_trip = record { reads-written = reads-written; writes-read = writes-read; one-encoding = one-encoding }
+round_trip = record { reads_written = reads_written; writes_read = writes_read; one_encoding = one_encoding }

@@ -1,8 +1,8 @@
 -- A tint order that is sent, and whose end the machine reports, is read as the same doses. Assumes nothing.
 use Rattle.std.specs.Prelude.{◌≡◌, true, List, ℕ, ◌*◌, ◌/◌, take}
-use Rattle.line.specs.Order.{orderBits}
+use Rattle.line.specs.Order.{order_bits}
 use Rattle.line.specs.Course.{Call, opened, course, final}
-use Rattle.line.specs.Delivery.{some, isEnd, Assumptions, Openings}
+use Rattle.line.specs.Delivery.{some, is_end, Assumptions, Openings}
 use Rattle.line.specs.WholeOrder.{Bytes}
 use Rattle.line.specs.declared.marks.CodeSize.{CodeSize}
 use Rattle.line.specs.declared.sender.Sender.{Sender}
@@ -20,8 +20,8 @@ unfoldable pub TintDelivery : Type 0
 TintDelivery =
     (doses : Doses) (slice slice' : List ℕ) (n : ℕ) → Write doses slice (W.Done n) slice'
     → (order : List ℕ) → Bytes order → take n order ≡ take n slice'
-    → (k speed loop-ms L : ℕ) (senderSize receiverSize : CodeSize) (s : Sender) (o : ReceiverOpened.Opened) (initialStore : List ℕ)
-    → L ≡ 8 * n → Bytes initialStore → Openings k speed loop-ms L senderSize receiverSize order s o initialStore
-    → (calls : List Call) → Assumptions k (orderBits L order) (course (opened s o.state initialStore) calls)
-    → some isEnd (course (opened s o.state initialStore) calls) ≡ true
-    → (r : OrderRead) → Read (take (L / 8) (final (opened s o.state initialStore) calls).store) r → ReadAs doses r
+    → (k speed loop_ms L : ℕ) (sender_size receiver_size : CodeSize) (s : Sender) (o : ReceiverOpened.Opened) (initial_store : List ℕ)
+    → L ≡ 8 * n → Bytes initial_store → Openings k speed loop_ms L sender_size receiver_size order s o initial_store
+    → (calls : List Call) → Assumptions k (order_bits L order) (course (opened s o.state initial_store) calls)
+    → some is_end (course (opened s o.state initial_store) calls) ≡ true
+    → (r : OrderRead) → Read (take (L / 8) (final (opened s o.state initial_store) calls).store) r → ReadAs doses r

@@ -1,9 +1,9 @@
 // The tint order: doses written as bytes, and read back.
 ghost use Rattle.std.specs.Prelude.{◌≡◌, ◌&&◌, List, [], ◌++◌, ℕ, ◌+◌, ◌*◌, ◌≤◌, ◌<◌, ltb, length, take, drop};
 ghost use Rattle.block.specs.Answer.{done};
-ghost use Rattle.tint.specs.Format.{fromBigEndian, dosesIn, isFormat, isInRange, inRangeAndOrder, total, judgeDoses};
-ghost use Rattle.tint.specs.Calls.{dosesAt, dosesOf, dosesFrom, judgedAnswer, Judge, Write, Read};
-ghost use Rattle.tint.specs.Code.{headBytes, lowEntry, lowEntries};
+ghost use Rattle.tint.specs.Format.{from_big_endian, doses_in, is_format, is_in_range, in_range_and_order, total, judge_doses};
+ghost use Rattle.tint.specs.Calls.{doses_at, doses_of, doses_from, judged_answer, Judge, Write, Read};
+ghost use Rattle.tint.specs.Code.{head_bytes, low_entry, low_entries};
 
 // docs/PROTOCOL.md, "Tint orders"; a slice that is too short is the crate block's refusal.
 pub const FORMAT: u8 = 10;
@@ -59,7 +59,7 @@ pub struct OrderRead {
 
 // Whether a dose is in range, and its canister above the last.
 fn follows(last: u16, canister: u16, steps: u16) -> bool
-    ensures { result ≡ isInRange (record { canister = canister; steps = steps }) && ltb last canister }
+    ensures { result ≡ is_in_range (record { canister = canister; steps = steps }) && ltb last canister }
 {
     if canister < 1 {
         return false;
@@ -79,7 +79,7 @@ fn follows(last: u16, canister: u16, steps: u16) -> bool
 // Every dose in range, the canisters rising strictly.
 fn in_range_and_order(count: usize, canisters: [u16; 12], steps: [u16; 12]) -> bool
     requires { count ≤ 12 }
-    ensures { result ≡ inRangeAndOrder 0 (dosesAt count canisters steps 0) }
+    ensures { result ≡ in_range_and_order 0 (doses_at count canisters steps 0) }
 {
     let mut last = 0;
     let mut i = 0;
@@ -101,7 +101,7 @@ fn wide(x: u16) -> u32
 
 fn total_steps(count: usize, steps: [u16; 12]) -> u32
     requires { count ≤ 12 }
-    ensures { (canisters : List ℕ) → result ≡ total (dosesAt count canisters steps 0) }
+    ensures { (canisters : List ℕ) → result ≡ total (doses_at count canisters steps 0) }
 {
     let mut sum = 0;
     let mut i = 0;
@@ -115,7 +115,7 @@ fn total_steps(count: usize, steps: [u16; 12]) -> u32
 // Every entry, then the total.
 fn judge_doses(doses: Doses) -> Judged
     requires { doses.count ≤ 12 }
-    ensures { judgedAnswer result ≡ judgeDoses (dosesOf doses) (done tt) }
+    ensures { judged_answer result ≡ judge_doses (doses_of doses) (done tt) }
 {
     let count = doses.count;
     let canisters = doses.canisters;
@@ -147,7 +147,7 @@ pub fn judge(doses: Doses) -> Judged
 // The version, and the number of bytes that follow.
 fn write_head(follow: usize, order: &mut [u8])
     requires { 3 ≤ length order.old }
-    ensures { order.new ≡ headBytes follow ++ drop 3 order.old }
+    ensures { order.new ≡ head_bytes follow ++ drop 3 order.old }
 {
     order[0] = FORMAT_VERSION;
     order[1] = (follow / 256 % 256) as u8;
@@ -157,7 +157,7 @@ fn write_head(follow: usize, order: &mut [u8])
 // A dose in three bytes, from place at on.
 fn write_entry(at: usize, canister: u16, steps: u16, entries: &mut [u8])
     requires { at + 3 ≤ length entries.old }
-    ensures { entries.new ≡ take at entries.old ++ (lowEntry canister steps ++ drop (at + 3) entries.old) }
+    ensures { entries.new ≡ take at entries.old ++ (low_entry canister steps ++ drop (at + 3) entries.old) }
 {
     entries[at] = (canister % 256) as u8;
     entries[at + 1] = (steps / 256) as u8;
@@ -167,7 +167,7 @@ fn write_entry(at: usize, canister: u16, steps: u16, entries: &mut [u8])
 // An entry for each dose, over the first bytes of entries.
 fn write_entries(count: usize, canisters: [u16; 12], steps: [u16; 12], entries: &mut [u8])
     requires { (count ≤ 12) × (count * 3 ≤ length entries.old) }
-    ensures { entries.new ≡ lowEntries (dosesAt count canisters steps 0) ++ drop (count * 3) entries.old }
+    ensures { entries.new ≡ low_entries (doses_at count canisters steps 0) ++ drop (count * 3) entries.old }
 {
     let mut i = 0;
     while i < count {
@@ -178,7 +178,7 @@ fn write_entries(count: usize, canisters: [u16; 12], steps: [u16; 12], entries: 
 
 fn write_order(count: usize, canisters: [u16; 12], steps: [u16; 12], order: &mut [u8])
     requires { (count ≤ 12) × (3 + count * 3 ≤ length order.old) }
-    ensures { order.new ≡ (headBytes (count * 3) ++ lowEntries (dosesAt count canisters steps 0)) ++ drop (3 + count * 3) order.old }
+    ensures { order.new ≡ (head_bytes (count * 3) ++ low_entries (doses_at count canisters steps 0)) ++ drop (3 + count * 3) order.old }
 {
     write_head(count * ENTRY_BYTES, order);
     write_entries(count, canisters, steps, &mut order[HEAD_BYTES..]);
@@ -206,14 +206,14 @@ pub fn write(doses: Doses, order: &mut [u8]) -> Written
 // ---- reading
 
 fn big_endian(high: u8, low: u8) -> u16
-    ensures { (result ≡ fromBigEndian high low) × (result < 65536) }
+    ensures { (result ≡ from_big_endian high low) × (result < 65536) }
 {
     high as u16 * 256 + low as u16
 }
 
 // Version and length; the length is that of what follows.
 fn is_format(order: &[u8]) -> bool
-    ensures { result ≡ isFormat order.now }
+    ensures { result ≡ is_format order.now }
 {
     if order.len() < HEAD_BYTES {
         return false;
@@ -232,7 +232,7 @@ fn is_format(order: &[u8]) -> bool
 }
 
 fn no_doses() -> Doses
-    ensures { result ≡ dosesFrom [] }
+    ensures { result ≡ doses_from [] }
 {
     Doses {
         count: 0,
@@ -244,7 +244,7 @@ fn no_doses() -> Doses
 // The doses of all entries.
 fn load_entries(count: usize, entries: &[u8]) -> Doses
     requires { (count ≤ 12) × (count * 3 ≡ length entries.now) }
-    ensures { result ≡ dosesFrom (dosesIn entries.now) }
+    ensures { result ≡ doses_from (doses_in entries.now) }
 {
     let mut canisters = [0u16; 12];
     let mut steps = [0u16; 12];
@@ -263,7 +263,7 @@ fn load_entries(count: usize, entries: &[u8]) -> Doses
 }
 
 fn refused(number: u8) -> OrderRead
-    ensures { result ≡ record { answer = Judged.Refused number; doses = dosesFrom [] } }
+    ensures { result ≡ record { answer = Judged.Refused number; doses = doses_from [] } }
 {
     OrderRead {
         answer: Judged::Refused(number),

@@ -8,18 +8,18 @@ use lib.Dec.{eqb}
 use lib.ListN.{take, drop, replicate}
 use Rattle.crc.specs.Bits.{Bits, number, bytes_of}
 use Rattle.block.specs.Answer.{done}
-use Rattle.block.specs.Block.{payloadOf}
-use Rattle.line.specs.Order.{validLength, version}
+use Rattle.block.specs.Block.{payload_of}
+use Rattle.line.specs.Order.{valid_length, version}
 use Rattle.line.specs.Sending.{item}
-use Rattle.line.specs.Receiving.{Rule, ends, wrong-length, ends-again, endRule, Reception, stops, receive}
-use Rattle.line.specs.Course.{Call, sending, World, Entry, course, final, receiveEntry, receiveAfter}
-use Rattle.line.specs.Delivery.{some, reportsEnd, Assumptions, Guarantees}
+use Rattle.line.specs.Receiving.{Rule, ends, wrong_length, ends_again, end_rule, Reception, stops, receive}
+use Rattle.line.specs.Course.{Call, sending, World, Entry, course, final, receive_entry, receive_after}
+use Rattle.line.specs.Delivery.{some, reports_end, Assumptions, Guarantees}
 use Rattle.line.specs.declared.sender.Next.TheVariants.{Newer}
 use Rattle.line.specs.declared.receiving.Event.TheVariants as E
 use Rattle.line.specs.declared.receiving.Phase.TheVariants as P
 use Rattle.witness.proofs.Meets.{meets}
-use Rattle.witness.proofs.PeriodRows.{Row, allCalls, trace, sender, receiver, bad, period}
-use Rattle.witness.proofs.TwoItems.{order, content, block, initialStore, one, w₀, sixty, synchronised, accepted, asks}
+use Rattle.witness.proofs.PeriodRows.{Row, all_calls, trace, sender, receiver, bad, period}
+use Rattle.witness.proofs.TwoItems.{order, content, block, initial_store, one, w₀, sixty, synchronised, accepted, asks}
 
 -- ---- rule 6
 
@@ -33,57 +33,57 @@ alarms =
     (sender 480 3 0 false Newer false) (receiver 0 true 1 false P.LengthAlarm)
     ∷ []
 
-pub alarms-computed : trace w₀ alarms ≡ alarms
+pub alarms_computed : trace w₀ alarms ≡ alarms
 unfolding trace
-alarms-computed = refl
+alarms_computed = refl
 
-pub alarms-meets : Assumptions 240 content (course w₀ (allCalls alarms))
+pub alarms_meets : Assumptions 240 content (course w₀ (all_calls alarms))
 unfolding trace
-alarms-meets = meets 240 content (course w₀ (allCalls alarms)) refl
+alarms_meets = meets 240 content (course w₀ (all_calls alarms)) refl
 
 -- ---- rule 6 without the test that L makes r items
 
-abbrev pub anyLengthRule : Bool → Bits → Rule
-anyLengthRule ended payload =
+abbrev pub any_length_rule : Bool → Bits → Rule
+any_length_rule ended payload =
     let L = number (take 32 (drop 8 payload)) in
-    cond ended ends-again (cond (eqb (number (take 8 payload)) version && validLength L) (ends L) wrong-length)
+    cond ended ends_again (cond (eqb (number (take 8 payload)) version && valid_length L) (ends L) wrong_length)
 
 -- the same calls but the last; none of them reads an end block
 abbrev calls : List Call
-calls = allCalls (synchronised sixty ∷ accepted sixty ∷ asks sixty ∷ []) ++ (sending order false (replicate 33 0) (block 2) ∷ [])
+calls = all_calls (synchronised sixty ∷ accepted sixty ∷ asks sixty ∷ []) ++ (sending order false (replicate 33 0) (block 2) ∷ [])
 
 abbrev w : World
 w = final w₀ calls
 
 -- the last call, which lends the end block whole, with the rule that its data come to
 abbrev reads : (Bits → Rule) → Reception
-reads rule = stops (bad 1 1) (rule (payloadOf 240 (block 2))) (block 2) 260
+reads rule = stops (bad 1 1) (rule (payload_of 240 (block 2))) (block 2) 260
 
-pub last-call : receive w.receiver (bytes_of 33 (block 2)) 260 true one ≡ done (reads (endRule 240 1 false))
+pub last_call : receive w.receiver (bytes_of 33 (block 2)) 260 true one ≡ done (reads (end_rule 240 1 false))
 unfolding trace
-last-call = refl
+last_call = refl
 
 -- the course with the last call by the rule above
-abbrev pub anyLength : List Entry
-anyLength = course w₀ calls ++ (receiveEntry w (block 2) one (done (reads (anyLengthRule false))) ∷ [])
+abbrev pub any_length : List Entry
+any_length = course w₀ calls ++ (receive_entry w (block 2) one (done (reads (any_length_rule false))) ∷ [])
 
-abbrev pub anyLengthFinal : World
-anyLengthFinal = receiveAfter w one (done (reads (anyLengthRule false)))
+abbrev pub any_length_final : World
+any_length_final = receive_after w one (done (reads (any_length_rule false)))
 
-pub any-length-meets : Assumptions 240 content anyLength
+pub any_length_meets : Assumptions 240 content any_length
 unfolding trace
-any-length-meets = meets 240 content anyLength refl
+any_length_meets = meets 240 content any_length refl
 
 -- the end is reported with the order's length, and the store holds item 0 alone
-pub any-length-ended : some (reportsEnd 480) anyLength ≡ true
+pub any_length_ended : some (reports_end 480) any_length ≡ true
 unfolding trace
-any-length-ended = refl
+any_length_ended = refl
 
-pub any-length-stored : anyLengthFinal.store ≡ one
+pub any_length_stored : any_length_final.store ≡ one
 unfolding trace
-any-length-stored = refl
+any_length_stored = refl
 
 -- so a guarantee fails: with the end reported, one item is accepted, and the order makes two
-pub any-length-fails : Guarantees 240 480 content initialStore anyLength anyLengthFinal → ⊥
+pub any_length_fails : Guarantees 240 480 content initial_store any_length any_length_final → ⊥
 unfolding trace
-any-length-fails g = let items = (g.ended 480 refl).0 in omega arith
+any_length_fails g = let items = (g.ended 480 refl).0 in omega arith

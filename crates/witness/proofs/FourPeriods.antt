@@ -3,7 +3,7 @@
 use mathlib.Core.Path.{◌≡◌, refl}
 use mathlib.Core.Bool.{true, false}
 use mathlib.Core.List.{List, [], ◌∷◌, ◌++◌, map, flat_map}
-use Rattle.block.specs.Block.{syncBlock}
+use Rattle.block.specs.Block.{sync_block}
 use Rattle.line.specs.Sending.{synchronising, item}
 use Rattle.line.specs.Course.{course}
 use Rattle.line.specs.Delivery.{Assumptions}
@@ -11,7 +11,7 @@ use Rattle.line.specs.declared.sender.Next.TheVariants.{Sync, Older, Newer}
 use Rattle.line.specs.declared.receiving.Event.TheVariants as E
 use Rattle.line.specs.declared.receiving.Phase.TheVariants as P
 use Rattle.witness.proofs.Meets.{meets}
-use Rattle.witness.proofs.PeriodRows.{outcome, Row, allCalls, trace, sender, receiver, good, bad, period, damaged, damagedSyncRemainder}
+use Rattle.witness.proofs.PeriodRows.{outcome, Row, all_calls, trace, sender, receiver, good, bad, period, damaged, damaged_sync_remainder}
 use Rattle.witness.proofs.TwoItems.{order, content, block, one, two, w₀, sixty, synchronised, accepted, cancels, fails, resynchronises, ends}
 
 -- A reading of 1 where 0 was meant, and damage up to a synchronising block, the eighth bad in a row. The five periods
@@ -30,7 +30,7 @@ late =
     ∷ cancels sixty two true 3 Older (bad 5 2)
     ∷ fails two 3 (bad 6 2)
     ∷ cancels sixty two true 4 Sync (bad 7 2)
-    ∷ period order two two true (damaged (syncBlock 240)) synchronising true false (E.Bad damagedSyncRemainder)
+    ∷ period order two two true (damaged (sync_block 240)) synchronising true false (E.Bad damaged_sync_remainder)
     (sender 480 2 4 false Older false) (receiver 0 true 2 false P.Search)
     ∷ (resynchronises two 2
     ++ (period order two two false (block 1) (item 1 false false false) false true E.Previous
@@ -38,15 +38,15 @@ late =
     ∷ ends sixty false
     ∷ []))
 
-pub late-computed : trace w₀ late ≡ late
+pub late_computed : trace w₀ late ≡ late
 unfolding trace
-late-computed = refl
+late_computed = refl
 
-pub late_meets : Assumptions 240 content (course w₀ (allCalls late))
+pub late_meets : Assumptions 240 content (course w₀ (all_calls late))
 unfolding trace
-late_meets = meets 240 content (course w₀ (allCalls late)) refl
+late_meets = meets 240 content (course w₀ (all_calls late)) refl
 
 -- what each call did
-pub late-told : map outcome (course w₀ (allCalls late)) ≡ flat_map (λ r. r.outcomes) late
+pub late_told : map outcome (course w₀ (all_calls late)) ≡ flat_map (λ r. r.outcomes) late
 unfolding trace
-late-told = refl
+late_told = refl

@@ -6,13 +6,13 @@ use mathlib.Core.List.{List, [], ◌∷◌, ◌++◌}
 use native.Mathlib.Omega.{arith}
 use Prim.Native.Nat.{ℕ}
 use Rattle.crc.specs.Bits.{Bits}
-use Rattle.block.specs.Lengths.{isLength}
-use Rattle.block.specs.Block.{syncBlock, cancelled}
-use Rattle.line.specs.Marks.{marksOf, isCodeSize, marksInRange}
-use Rattle.line.specs.Order.{itemCount, itemBits}
-use Rattle.line.specs.LoopTime.{isSpeed, blockTime, hasEntry, longestLoop, loopTime}
-use Rattle.line.specs.Sending.{synchronising, item, freshSender, openSender}
-use Rattle.line.specs.Receiving.{freshReceiver, openReceiver}
+use Rattle.block.specs.Lengths.{is_length}
+use Rattle.block.specs.Block.{sync_block, cancelled}
+use Rattle.line.specs.Marks.{marks_of, is_code_size, marks_in_range}
+use Rattle.line.specs.Order.{item_count, item_bits}
+use Rattle.line.specs.LoopTime.{is_speed, block_time, has_entry, longest_loop, loop_time}
+use Rattle.line.specs.Sending.{synchronising, item, fresh_sender, open_sender}
+use Rattle.line.specs.Receiving.{fresh_receiver, open_receiver}
 use Rattle.line.specs.Course.{World, opened, course, final}
 use Rattle.line.specs.Delivery.{Assumptions, Openings, Delivered, Delivery}
 use Rattle.line.specs.declared.marks.CodeSize.TheVariants as C
@@ -28,32 +28,32 @@ use Rattle.line.specs.declared.receiving.Phase.TheVariants as P
 use Rattle.line.proofs.Delivery.Answers.{runs}
 use Rattle.line.proofs.Delivery.Theorem.{delivery}
 use Rattle.witness.proofs.Meets.{meets}
-use Rattle.witness.proofs.PeriodRows.{Row, allCalls, trace, senderWith, receiverWith, period, cancelledRemainder}
-use Rattle.witness.proofs.TwoItems.{order, content, initialStore, one, two}
+use Rattle.witness.proofs.PeriodRows.{Row, all_calls, trace, sender_with, receiver_with, period, cancelled_remainder}
+use Rattle.witness.proofs.TwoItems.{order, content, initial_store, one, two}
 
 abbrev five : Marks
-five = marksOf (C.Given 5)
+five = marks_of (C.Given 5)
 
 abbrev eight : Marks
-eight = marksOf (C.Given 8)
+eight = marks_of (C.Given 8)
 
 abbrev block : ℕ → Bits
-block i = itemBits five 240 480 content i
+block i = item_bits five 240 480 content i
 
 abbrev sender : (newer run : ℕ) → Bool → Next → Bool → Sender
-sender = senderWith five 480
+sender = sender_with five 480
 
 abbrev good : (taken : ℕ) → Bool → Receiver
-good taken ended = receiverWith eight 0 false taken ended P.InStep
+good taken ended = receiver_with eight 0 false taken ended P.InStep
 
 abbrev pub w₀ : World
-w₀ = opened (freshSender 240 480 five) (freshReceiver 240 eight) initialStore
+w₀ = opened (fresh_sender 240 480 five) (fresh_receiver 240 eight) initial_store
 
 -- a synchronising block and item 0; item 1; both end blocks
 abbrev begins : List Row
 begins =
-    period order initialStore initialStore true (syncBlock 240) synchronising true true E.Sync (sender 1 0 true Older false) (good 0 false)
-    ∷ period order initialStore one false (block 0) (item 0 false false false) false true E.Accepted
+    period order initial_store initial_store true (sync_block 240) synchronising true true E.Sync (sender 1 0 true Older false) (good 0 false)
+    ∷ period order initial_store one false (block 0) (item 0 false false false) false true E.Accepted
     (sender 1 0 true Newer false) (good 1 false)
     ∷ []
 
@@ -69,55 +69,55 @@ goes_on =
 abbrev pub whole : List Row
 whole = begins ++ goes_on
 
-pub whole-computed : trace w₀ whole ≡ whole
+pub whole_computed : trace w₀ whole ≡ whole
 unfolding trace
-whole-computed = refl
+whole_computed = refl
 
-pub whole_meets : Assumptions 240 content (course w₀ (allCalls whole))
+pub whole_meets : Assumptions 240 content (course w₀ (all_calls whole))
 unfolding trace
-whole_meets = meets 240 content (course w₀ (allCalls whole)) refl
+whole_meets = meets 240 content (course w₀ (all_calls whole)) refl
 
-pub whole-stored : (final w₀ (allCalls whole)).store ≡ two
+pub whole_stored : (final w₀ (all_calls whole)).store ≡ two
 unfolding trace
-whole-stored = refl
+whole_stored = refl
 
 -- both ends opened with marks, at 200 bit/s with loop 0, and what demand 3 says of the calls as they run
 abbrev machine : Opened
-machine = record { state = freshReceiver 240 eight; answer = Opening.Opened }
+machine = record { state = fresh_receiver 240 eight; answer = Opening.Opened }
 
-pub whole-opened : Openings 240 200 0 480 (C.Given 5) (C.Given 8) order (freshSender 240 480 five) machine initialStore
-unfolding openSender loopTime isSpeed hasEntry longestLoop blockTime openReceiver isLength marksInRange isCodeSize itemCount
+pub whole-opened : Openings 240 200 0 480 (C.Given 5) (C.Given 8) order (fresh_sender 240 480 five) machine initial_store
+unfolding open_sender loop_time is_speed has_entry longest_loop block_time open_receiver is_length marks_in_range is_code_size item_count
 whole-opened =
     record {
       sender = record { answers = refl };
       receiver = record { answers = refl; state = refl };
       alike = refl;
-      not-refused = refl;
+      not_refused = refl;
       room = omega arith;
     }
 
-pub whole-delivered :
-    Delivered 240 480 content initialStore (runs (freshSender 240 480 five) (freshReceiver 240 eight) (allCalls whole))
+pub whole_delivered :
+    Delivered 240 480 content initial_store (runs (fresh_sender 240 480 five) (fresh_receiver 240 eight) (all_calls whole))
 unfolding Delivery
-whole-delivered =
-    delivery 240 200 0 480 (C.Given 5) (C.Given 8) order (freshSender 240 480 five) machine initialStore whole-opened
-    (allCalls whole) (runs (freshSender 240 480 five) (freshReceiver 240 eight) (allCalls whole))
+whole_delivered =
+    delivery 240 200 0 480 (C.Given 5) (C.Given 8) order (fresh_sender 240 480 five) machine initial_store whole-opened
+    (all_calls whole) (runs (fresh_sender 240 480 five) (fresh_receiver 240 eight) (all_calls whole))
 
 -- ---- the reading of item 1 is turned over: item 1 is cancelled, and item 0, with its mark, is the previous item
 
 abbrev pub again : List Row
 again =
     begins
-    ++ (period order one one true (cancelled (block 1)) (item 1 false true true) false true (E.Bad cancelledRemainder)
-    (sender 1 1 true Sync false) (receiverWith eight 1 true 1 false P.InStep)
-    ∷ period order one one true (syncBlock 240) synchronising true true E.Sync (sender 1 1 true Older false) (good 1 false)
+    ++ (period order one one true (cancelled (block 1)) (item 1 false true true) false true (E.Bad cancelled_remainder)
+    (sender 1 1 true Sync false) (receiver_with eight 1 true 1 false P.InStep)
+    ∷ period order one one true (sync_block 240) synchronising true true E.Sync (sender 1 1 true Older false) (good 1 false)
     ∷ period order one one false (block 0) (item 0 false false false) false true E.Previous (sender 1 1 true Newer false) (good 1 false)
     ∷ goes_on)
 
-pub again-computed : trace w₀ again ≡ again
+pub again_computed : trace w₀ again ≡ again
 unfolding trace
-again-computed = refl
+again_computed = refl
 
-pub again-meets : Assumptions 240 content (course w₀ (allCalls again))
+pub again_meets : Assumptions 240 content (course w₀ (all_calls again))
 unfolding trace
-again-meets = meets 240 content (course w₀ (allCalls again)) refl
+again_meets = meets 240 content (course w₀ (all_calls again)) refl

@@ -4,12 +4,12 @@ use mathlib.Core.Bool.{Bool, true, not}
 use Prim.Native.Nat.{ℕ, zero, suc, ◌+◌, ◌*◌}
 use lib.Dec.{eqb}
 use Rattle.block.specs.Answer.{Answer, refused, done}
-use Rattle.block.specs.Lengths.{isLength}
-use Rattle.line.specs.Marks.{marksInRange}
-use Rattle.line.specs.Order.{validLength, itemCount}
-use Rattle.line.specs.Sending.{freshSender, OpenSender, Block, synchronising, item, transmit, senderInRange, send, sendState, sendBytes, sentAnswer}
+use Rattle.block.specs.Lengths.{is_length}
+use Rattle.line.specs.Marks.{marks_in_range}
+use Rattle.line.specs.Order.{valid_length, item_count}
+use Rattle.line.specs.Sending.{fresh_sender, OpenSender, Block, synchronising, item, transmit, sender_in_range, send, send_state, send_bytes, sent_answer}
 use Rattle.line.specs.SendCalls.{SendCalls, none, call}
-use Rattle.line.specs.MostBlocks.{sentBlocks, firstPair, laterPair}
+use Rattle.line.specs.MostBlocks.{sent_blocks, first_pair, later_pair}
 use Rattle.line.specs.declared.marks.CodeSize.TheVariants as C
 use Rattle.line.specs.declared.sender.Opened.TheVariants as O
 use Rattle.line.specs.declared.sender.Sender.{Sender}
@@ -32,27 +32,27 @@ told (refused n) = W.Refused n
 told (done synchronising) = W.Synchronising
 told (done (item i end used cancelled)) = W.Item i end used cancelled
 
-told-answers : (a : Answer Block) → sentAnswer (told a) ≡ a
-told-answers (refused n) = refl
-told-answers (done synchronising) = refl
-told-answers (done (item i end used cancelled)) = refl
+told_answers : (a : Answer Block) → sent_answer (told a) ≡ a
+told_answers (refused n) = refl
+told_answers (done synchronising) = refl
+told_answers (done (item i end used cancelled)) = refl
 
 pub after : ℕ → Sender → Sender
 after zero s = s
-after (suc n) s = after n (sendState s (reading s) (answer s))
+after (suc n) s = after n (send_state s (reading s) (answer s))
 
 pub calls : (n : ℕ) (s : Sender) → SendCalls s (after n s)
 unfolding after
 calls zero s = none
 calls (suc n) s =
-    call order (reading s) slice (record { state = sendState s (reading s) (answer s); answer = told (answer s) })
-    (sendBytes s order slice (answer s)) (record { answers = told-answers (answer s); state = refl; writes = refl })
-    (calls n (sendState s (reading s) (answer s)))
+    call order (reading s) slice (record { state = send_state s (reading s) (answer s); answer = told (answer s) })
+    (send_bytes s order slice (answer s)) (record { answers = told_answers (answer s); state = refl; writes = refl })
+    (calls n (send_state s (reading s) (answer s)))
 
-pub reached : sentBlocks (calls 379 fresh) ≡ firstPair + laterPair * itemCount 240 8
-unfolding sentBlocks calls send senderInRange marksInRange isLength validLength itemCount freshSender transmit
+pub reached : sent_blocks (calls 379 fresh) ≡ first_pair + later_pair * item_count 240 8
+unfolding sent_blocks calls send sender_in_range marks_in_range is_length valid_length item_count fresh_sender transmit
 reached = refl
 
 pub finishes : (after 379 fresh).finished ≡ true
-unfolding after send senderInRange marksInRange isLength validLength itemCount freshSender transmit
+unfolding after send sender_in_range marks_in_range is_length valid_length item_count fresh_sender transmit
 finishes = refl

@@ -5,15 +5,15 @@ use mathlib.Core.List.{List, [], ◌∷◌, ◌++◌}
 use lib.ListN.{take, drop, replicate}
 use Rattle.crc.specs.Bits.{Bits, bytes_of}
 use Rattle.block.specs.Answer.{done}
-use Rattle.block.specs.Block.{syncBlock}
-use Rattle.line.specs.Order.{letterA, letterB}
-use Rattle.line.specs.Receiving.{sequence-found, accepts, waits, blank}
+use Rattle.block.specs.Block.{sync_block}
+use Rattle.line.specs.Order.{letter_a, letter_b}
+use Rattle.line.specs.Receiving.{sequence_found, accepts, waits, blank}
 use Rattle.line.specs.Pieces.{Piece, call, Pieces}
 use Rattle.line.specs.declared.receiver.Receiver.{Receiver}
 use Rattle.line.specs.declared.receiving.Phase.TheVariants as P
-use Rattle.line.proofs.Delivery.WrittenBits.{length-zeroArray}
+use Rattle.line.proofs.Delivery.WrittenBits.{length-zero_array}
 use Rattle.line.proofs.Pieces.{pieces}
-use Rattle.witness.proofs.PeriodRows.{received, receiver, good, zeroBlock}
+use Rattle.witness.proofs.PeriodRows.{received, receiver, good, zero_block}
 
 -- ---- in search: the end of a data block and 20 bits of the synchronising block behind it, then the rest of that
 
@@ -21,19 +21,19 @@ abbrev searches : Receiver
 searches = receiver 0 true 2 false P.Search
 
 abbrev earlier : Bits
-earlier = drop 200 (zeroBlock letterB) ++ take 20 (syncBlock 240)
+earlier = drop 200 (zero_block letter_b) ++ take 20 (sync_block 240)
 
 abbrev all : Piece
-all = record { line = bytes_of 40 (earlier ++ drop 20 (syncBlock 240)); count = 320 }
+all = record { line = bytes_of 40 (earlier ++ drop 20 (sync_block 240)); count = 320 }
 
 -- found at the last bit
-pub search-split : call searches true [] all
-    ≡ record { answer = done (record { rule = sequence-found; row = []; used = 320; state = blank searches 0 false 2 false P.InStep }); store = [] }
+pub search_split : call searches true [] all
+    ≡ record { answer = done (record { rule = sequence_found; row = []; used = 320; state = blank searches 0 false 2 false P.InStep }); store = [] }
 unfolding Pieces received
-search-split =
+search_split =
     pieces searches true [] all (record { line = bytes_of 10 earlier; count = 80 })
-    (record { line = bytes_of 30 (drop 20 (syncBlock 240)); count = 240 } ∷ [])
-    length-zeroArray refl refl refl
+    (record { line = bytes_of 30 (drop 20 (sync_block 240)); count = 240 } ∷ [])
+    length-zero_array refl refl refl
 
 -- ---- in step: 100 bits of a data block, its other 160, and 40 bits of the block behind it, which are not looked at
 
@@ -41,31 +41,31 @@ abbrev stepping : Receiver
 stepping = good 0 false
 
 abbrev first : Piece
-first = record { line = bytes_of 13 (take 100 (zeroBlock letterA)); count = 100 }
+first = record { line = bytes_of 13 (take 100 (zero_block letter_a)); count = 100 }
 
 abbrev further : List Piece
 further =
-    record { line = bytes_of 20 (drop 100 (zeroBlock letterA)); count = 160 }
-    ∷ record { line = bytes_of 5 (take 40 (zeroBlock letterB)); count = 40 }
+    record { line = bytes_of 20 (drop 100 (zero_block letter_a)); count = 160 }
+    ∷ record { line = bytes_of 5 (take 40 (zero_block letter_b)); count = 40 }
     ∷ []
 
 abbrev joint : Piece
-joint = record { line = bytes_of 38 (zeroBlock letterA ++ take 40 (zeroBlock letterB)); count = 300 }
+joint = record { line = bytes_of 38 (zero_block letter_a ++ take 40 (zero_block letter_b)); count = 300 }
 
 -- accepted and stored at the block's last bit
-pub step-split : call stepping true (replicate 30 255) joint
+pub step_split : call stepping true (replicate 30 255) joint
     ≡ record {
-      answer = done (record { rule = accepts; row = zeroBlock letterA; used = 260; state = blank stepping 0 false 1 false P.InStep });
+      answer = done (record { rule = accepts; row = zero_block letter_a; used = 260; state = blank stepping 0 false 1 false P.InStep });
       store = replicate 30 0;
     }
 unfolding Pieces received
-step-split = pieces stepping true (replicate 30 255) joint first further length-zeroArray refl refl refl
+step_split = pieces stepping true (replicate 30 255) joint first further length-zero_array refl refl refl
 
 -- the machine not ready, it waits at that bit, and nothing is stored
-pub wait-split : call stepping false (replicate 30 255) joint
+pub wait_split : call stepping false (replicate 30 255) joint
     ≡ record {
-      answer = done (record { rule = waits; row = zeroBlock letterA; used = 260; state = blank stepping 0 true 0 false P.InStep });
+      answer = done (record { rule = waits; row = zero_block letter_a; used = 260; state = blank stepping 0 true 0 false P.InStep });
       store = replicate 30 255;
     }
 unfolding Pieces received
-wait-split = pieces stepping false (replicate 30 255) joint first further length-zeroArray refl refl refl
+wait_split = pieces stepping false (replicate 30 255) joint first further length-zero_array refl refl refl

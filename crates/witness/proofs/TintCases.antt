@@ -7,16 +7,16 @@ use lib.ListN.{take, drop, replicate}
 use Rattle.block.specs.Answer as A
 use Rattle.block.specs.Answer.{Answer, refused, done}
 use Rattle.tint.specs.Refusals as Refusals
-use Rattle.tint.specs.Format.{Dose, orderBytes, judgeDoses}
-use Rattle.tint.specs.Calls.{judgeCounted, dosesFrom, write, read}
+use Rattle.tint.specs.Format.{Dose, order_bytes, judge_doses}
+use Rattle.tint.specs.Calls.{judge_counted, doses_from, write, read}
 use Rattle.tint.specs.declared.Doses.{Doses}
 
 abbrev dose : ℕ → ℕ → Dose
 dose canister steps = record { canister = canister; steps = steps }
 
 -- docs/PROTOCOL.md, "Tint orders"
-pub written : orderBytes (dose 1 1 ∷ dose 12 300 ∷ []) ≡ 0x01 ∷ 0x00 ∷ 0x06 ∷ 0x01 ∷ 0x00 ∷ 0x01 ∷ 0x0c ∷ 0x01 ∷ 0x2c ∷ []
-unfolding orderBytes
+pub written : order_bytes (dose 1 1 ∷ dose 12 300 ∷ []) ≡ 0x01 ∷ 0x00 ∷ 0x06 ∷ 0x01 ∷ 0x00 ∷ 0x01 ∷ 0x0c ∷ 0x01 ∷ 0x2c ∷ []
+unfolding order_bytes
 written = refl
 
 -- ---- reading
@@ -28,8 +28,8 @@ pub record ReadCase : Type 0 where
 abbrev reads : List ℕ → Answer (List Dose) → ReadCase
 reads order answer = record { order = order; answer = answer }
 
-abbrev readCases : List ReadCase
-readCases =
+abbrev read_cases : List ReadCase
+read_cases =
     -- under three bytes, another version, a length of 0, no multiple of three, not what follows
     reads [] (refused Refusals.format)
     ∷ reads (1 ∷ 0 ∷ []) (refused Refusals.format)
@@ -60,14 +60,14 @@ readCases =
     fives =
         1 ∷ 0x0f ∷ 0xa0 ∷ 2 ∷ 0x0f ∷ 0xa0 ∷ 3 ∷ 0x0f ∷ 0xa0 ∷ 4 ∷ 0x0f ∷ 0xa0 ∷ 5 ∷ 0x0f ∷ 0xa0 ∷ []
 
-pub read-cases : map (λ (c : ReadCase). read c.order) readCases ≡ map (λ (c : ReadCase). c.answer) readCases
-unfolding read judgeDoses
-read-cases = refl
+pub read_cases_lem : map (λ (c : ReadCase). read c.order) read_cases ≡ map (λ (c : ReadCase). c.answer) read_cases
+unfolding read judge_doses
+read_cases_lem = refl
 
 -- the order of one dose in a store of 30 bytes, as item 0 leaves it
-pub whole-store : read ((1 ∷ 0 ∷ 3 ∷ 1 ∷ 0 ∷ 1 ∷ []) ++ replicate 24 0) ≡ refused Refusals.format
-unfolding read judgeDoses
-whole-store = refl
+pub whole_store : read ((1 ∷ 0 ∷ 3 ∷ 1 ∷ 0 ∷ 1 ∷ []) ++ replicate 24 0) ≡ refused Refusals.format
+unfolding read judge_doses
+whole_store = refl
 
 -- ten doses are 33 bytes: at k 240 nine of them are in item 0, and the tenth in item 1
 abbrev ten : ℕ → List Dose
@@ -76,8 +76,8 @@ ten steps =
     ∷ dose 9 steps ∷ dose 10 steps ∷ []
 
 -- two orders that a machine joined which was not opened anew are read as one
-pub joined : read (take 30 (orderBytes (ten 100)) ++ drop 30 (orderBytes (ten 200))) ≡ done (take 9 (ten 100) ++ drop 9 (ten 200))
-unfolding read judgeDoses orderBytes
+pub joined : read (take 30 (order_bytes (ten 100)) ++ drop 30 (order_bytes (ten 200))) ≡ done (take 9 (ten 100) ++ drop 9 (ten 200))
+unfolding read judge_doses order_bytes
 joined = refl
 
 -- ---- writing
@@ -99,16 +99,16 @@ twelve count =
       steps = 1 ∷ 1 ∷ 1 ∷ 1 ∷ 1 ∷ 1 ∷ 1 ∷ 4800 ∷ 4800 ∷ 4800 ∷ 4800 ∷ 4800 ∷ [];
     }
 
-abbrev writeCases : List WriteCase
-writeCases =
+abbrev write_cases : List WriteCase
+write_cases =
     -- none, one, too many; a canister that a byte would cut to 5
     writes (twelve 0) 39 (refused Refusals.format)
     ∷ writes (twelve 1) 6 (done (1 ∷ 0 ∷ 3 ∷ 1 ∷ 0 ∷ 1 ∷ []))
     ∷ writes (twelve 13) 42 (refused Refusals.entry)
-    ∷ writes (dosesFrom (dose 261 1 ∷ [])) 6 (refused Refusals.entry)
+    ∷ writes (doses_from (dose 261 1 ∷ [])) 6 (refused Refusals.entry)
     -- a total of 24,007; and an entry out of order after as many steps
     ∷ writes (twelve 12) 39 (refused Refusals.steps)
-    ∷ writes (dosesFrom (dose 1 4800 ∷ dose 2 4800 ∷ dose 3 4800 ∷ dose 4 4800 ∷ dose 5 4800 ∷ dose 5 1 ∷ [])) 39 (refused Refusals.entry)
+    ∷ writes (doses_from (dose 1 4800 ∷ dose 2 4800 ∷ dose 3 4800 ∷ dose 4 4800 ∷ dose 5 4800 ∷ dose 5 1 ∷ [])) 39 (refused Refusals.entry)
     -- a slice too short by one; one too short for doses that are refused
     ∷ writes (twelve 2) 9 (done (1 ∷ 0 ∷ 6 ∷ 1 ∷ 0 ∷ 1 ∷ 2 ∷ 0 ∷ 1 ∷ []))
     ∷ writes (twelve 2) 8 (refused A.short)
@@ -116,6 +116,6 @@ writeCases =
     ∷ writes (twelve 0) 0 (refused Refusals.format)
     ∷ []
 
-pub write-cases : map (λ (c : WriteCase). write c.doses (replicate c.room 0)) writeCases ≡ map (λ (c : WriteCase). c.answer) writeCases
-unfolding write judgeCounted judgeDoses orderBytes
-write-cases = refl
+pub write_cases_lem : map (λ (c : WriteCase). write c.doses (replicate c.room 0)) write_cases ≡ map (λ (c : WriteCase). c.answer) write_cases
+unfolding write judge_counted judge_doses order_bytes
+write_cases_lem = refl

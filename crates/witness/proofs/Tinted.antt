@@ -8,21 +8,21 @@ use Prim.Native.Nat.{ℕ, zero, suc, ◌/◌}
 use lib.Dec.{ltb, lit<, lit≤}
 use lib.ListN.{length, take, drop, replicate}
 use borrow.Author.Tests.{ltb-true}
-use Rattle.block.specs.Lengths.{isLength}
-use Rattle.block.proofs.Truth.{and-true}
-use Rattle.line.specs.Marks.{marksInRange}
-use Rattle.line.specs.Order.{itemCount}
-use Rattle.line.specs.LoopTime.{isSpeed, blockTime, hasEntry, longestLoop, loopTime}
-use Rattle.line.specs.Sending.{freshSender, openSender}
-use Rattle.line.specs.Receiving.{freshReceiver, openReceiver}
+use Rattle.block.specs.Lengths.{is_length}
+use Rattle.block.proofs.Truth.{and_true}
+use Rattle.line.specs.Marks.{marks_in_range}
+use Rattle.line.specs.Order.{item_count}
+use Rattle.line.specs.LoopTime.{is_speed, block_time, has_entry, longest_loop, loop_time}
+use Rattle.line.specs.Sending.{fresh_sender, open_sender}
+use Rattle.line.specs.Receiving.{fresh_receiver, open_receiver}
 use Rattle.line.specs.Course.{course, final}
-use Rattle.line.specs.Delivery.{some, isEnd, Assumptions, Openings}
+use Rattle.line.specs.Delivery.{some, is_end, Assumptions, Openings}
 use Rattle.line.specs.WholeOrder.{Bytes}
 use Rattle.line.specs.declared.marks.CodeSize.TheVariants as C
 use Rattle.line.specs.declared.receiver.Opened.{Opened}
 use Rattle.line.specs.declared.receiver.Opening.TheVariants as Opening
-use Rattle.tint.specs.Format.{orderBytes, judgeDoses}
-use Rattle.tint.specs.Calls.{dosesOf, judgeCounted, write, Write, read, Read}
+use Rattle.tint.specs.Format.{order_bytes, judge_doses}
+use Rattle.tint.specs.Calls.{doses_of, judge_counted, write, Write, read, Read}
 use Rattle.tint.specs.RoundTrip.{ReadAs}
 use Rattle.tint.specs.Delivered.{TintDelivery}
 use Rattle.tint.specs.declared.Doses.{Doses}
@@ -30,10 +30,10 @@ use Rattle.tint.specs.declared.Judged.TheVariants as J
 use Rattle.tint.specs.declared.Written.TheVariants as W
 use Rattle.tint.specs.declared.OrderRead.{OrderRead}
 use Rattle.tint.proofs.RoundTrip.{round_trip}
-use Rattle.tint.proofs.Delivered.{tint-delivery}
+use Rattle.tint.proofs.Delivered.{tint_delivery}
 use Rattle.witness.proofs.Meets.{meets}
-use Rattle.witness.proofs.PeriodRows.{Row, allCalls, trace, noMarks}
-use Rattle.witness.proofs.TwoItems.{Items, contentOf, opened_of}
+use Rattle.witness.proofs.PeriodRows.{Row, all_calls, trace, no_marks}
+use Rattle.witness.proofs.TwoItems.{Items, content_of, opened_of}
 use Rattle.witness.proofs.Repeats.{repeats}
 
 -- ---- the doses, and their order written
@@ -73,7 +73,7 @@ abbrev order : List ℕ
 order = front ++ (back ++ replicate 6 6)
 
 pub written : Write doses slice (W.Done 39) order
-unfolding write judgeCounted judgeDoses orderBytes
+unfolding write judge_counted judge_doses order_bytes
 written = record { answers = refl; writes = refl }
 
 -- ---- the calls
@@ -84,7 +84,7 @@ items =
     record {
       order = order;
       L = 312;
-      initialStore = replicate 61 9;
+      initial_store = replicate 61 9;
       one = front ++ replicate 31 9;
       two = front ++ (back ++ (replicate 21 0 ++ replicate 1 9));
     }
@@ -92,36 +92,36 @@ items =
 abbrev rows : List Row
 rows = repeats items
 
-pub tinted-computed : trace (opened_of items) rows ≡ rows
+pub tinted_computed : trace (opened_of items) rows ≡ rows
 unfolding trace
-tinted-computed = refl
+tinted_computed = refl
 
-pub tinted-meets : Assumptions 240 (contentOf items) (course (opened_of items) (allCalls rows))
+pub tinted_meets : Assumptions 240 (content_of items) (course (opened_of items) (all_calls rows))
 unfolding trace
-tinted-meets = meets 240 (contentOf items) (course (opened_of items) (allCalls rows)) refl
+tinted_meets = meets 240 (content_of items) (course (opened_of items) (all_calls rows)) refl
 
-pub tinted-ended : some isEnd (course (opened_of items) (allCalls rows)) ≡ true
+pub tinted_ended : some is_end (course (opened_of items) (all_calls rows)) ≡ true
 unfolding trace
-tinted-ended = refl
+tinted_ended = refl
 
 -- the store begins with the order
-pub tinted-stored : take 39 (final (opened_of items) (allCalls rows)).store ≡ orderBytes (dosesOf doses)
-unfolding trace orderBytes
-tinted-stored = refl
+pub tinted_stored : take 39 (final (opened_of items) (all_calls rows)).store ≡ order_bytes (doses_of doses)
+unfolding trace order_bytes
+tinted_stored = refl
 
 -- both ends opened without marks, at 200 bit/s with loop 0
 abbrev machine : Opened
-machine = record { state = freshReceiver 240 noMarks; answer = Opening.Opened }
+machine = record { state = fresh_receiver 240 no_marks; answer = Opening.Opened }
 
-pub tinted-opened :
-    Openings 240 200 0 312 C.NotGiven C.NotGiven order (freshSender 240 312 noMarks) machine items.initialStore
-unfolding openSender loopTime isSpeed hasEntry longestLoop blockTime openReceiver isLength marksInRange itemCount
-tinted-opened =
+pub tinted_opened :
+    Openings 240 200 0 312 C.NotGiven C.NotGiven order (fresh_sender 240 312 no_marks) machine items.initial_store
+unfolding open_sender loop_time is_speed has_entry longest_loop block_time open_receiver is_length marks_in_range item_count
+tinted_opened =
     record {
       sender = record { answers = refl };
       receiver = record { answers = refl; state = refl };
       alike = refl;
-      not-refused = refl;
+      not_refused = refl;
       room = omega arith;
     }
 
@@ -130,9 +130,9 @@ tinted-opened =
 abbrev pub result : OrderRead
 result = record { answer = J.Good; doses = doses }
 
-pub tinted-read : Read (take (312 / 8) (final (opened_of items) (allCalls rows)).store) result
-unfolding trace read judgeDoses
-tinted-read = record { answers = refl; doses = refl }
+pub tinted_read : Read (take (312 / 8) (final (opened_of items) (all_calls rows)).store) result
+unfolding trace read judge_doses
+tinted_read = record { answers = refl; doses = refl }
 
 -- whether every number is a byte; and that it then is
 abbrev are_bytes : List ℕ → Bool
@@ -141,21 +141,21 @@ are_bytes (x ∷ s) = ltb x 256 && are_bytes s
 
 bytes : (s : List ℕ) → are_bytes s ≡ true → Bytes s
 bytes [] h i = lit< tt
-bytes (x ∷ s) h zero = ltb-true x 256 (and-true (ltb x 256) (are_bytes s) h).0
-bytes (x ∷ s) h (suc i) = bytes s (and-true (ltb x 256) (are_bytes s) h).1 i
+bytes (x ∷ s) h zero = ltb-true x 256 (and_true (ltb x 256) (are_bytes s) h).0
+bytes (x ∷ s) h (suc i) = bytes s (and_true (ltb x 256) (are_bytes s) h).1 i
 
 -- and written again it is the same bytes
 pub read_back : Read (front ++ back) result
-unfolding read judgeDoses
+unfolding read judge_doses
 read_back = record { answers = refl; doses = refl }
 
-pub written-again : (W.Done 39 ≡ W.Done (length (front ++ back))) × (order ≡ (front ++ back) ++ drop (length (front ++ back)) slice)
-written-again =
-    round_trip.writes-read (front ++ back) slice order result (W.Done 39) (bytes (front ++ back) refl) read_back refl (lit≤ tt) written
+pub written_again : (W.Done 39 ≡ W.Done (length (front ++ back))) × (order ≡ (front ++ back) ++ drop (length (front ++ back)) slice)
+written_again =
+    round_trip.writes_read (front ++ back) slice order result (W.Done 39) (bytes (front ++ back) refl) read_back refl (lit≤ tt) written
 
 pub tinted : ReadAs doses result
 unfolding TintDelivery
 tinted =
-    tint-delivery doses slice order 39 written order (bytes order refl) refl 240 200 0 312 C.NotGiven C.NotGiven
-    (freshSender 240 312 noMarks) machine items.initialStore refl (bytes items.initialStore refl) tinted-opened
-    (allCalls rows) tinted-meets tinted-ended result tinted-read
+    tint_delivery doses slice order 39 written order (bytes order refl) refl 240 200 0 312 C.NotGiven C.NotGiven
+    (fresh_sender 240 312 no_marks) machine items.initial_store refl (bytes items.initial_store refl) tinted_opened
+    (all_calls rows) tinted_meets tinted_ended result tinted_read

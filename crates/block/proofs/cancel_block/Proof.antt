@@ -1,8 +1,8 @@
 -- `cancel_block` is the look_up, then `packed::cancel`. Assumes nothing.
 use mathlib.Core.Path.{sym, ap, ◌∙◌}
 use borrow.Author.Rules.{rules}
-use Rattle.block.specs.Packed.{lengthAnswer}
-use Rattle.block.proofs.LookUp.{found, not_found, cancel-known, cancel-unknown}
+use Rattle.block.specs.Packed.{length_answer}
+use Rattle.block.proofs.LookUp.{found, not_found, cancel_known, cancel_unknown}
 use Rattle.block.proofs.cancel_block.Statement.{statement}
 use Rattle.block.proofs.cancel_block.Tie as tie
 
@@ -27,14 +27,14 @@ returns c =
     let m = b.before.before.before in
     let l = m.before.before in
     let a = l.before.before.args in
-    let f = found a.k _ (sym l.look_up.ensures.answers ∙ ap lengthAnswer m.m.given.1) in
-    cancel-known a.k f.0 _ f.1 a.block.now _ _ b.cancel.ensures
+    let f = found a.k _ (sym l.look_up.ensures.answers ∙ ap length_answer m.m.given.1) in
+    cancel_known a.k f.0 _ f.1 a.block.now _ _ b.cancel.ensures
 
 returns-2 : tie.Need-returns-2
 returns-2 c =
     let l = c.before.before in
     let a = l.before.before.args in
-    cancel-unknown a.k (not_found a.k _ (sym l.look_up.ensures.answers ∙ ap lengthAnswer c.enum_told.given.1)) a.block.now
+    cancel_unknown a.k (not_found a.k _ (sym l.look_up.ensures.answers ∙ ap length_answer c.enum_told.given.1)) a.block.now
 
 pub cancel-block-spec : {M : Type 1} → statement M
 cancel-block-spec =

@@ -1,29 +1,29 @@
 -- `look_up`: the keys of its `match` are the table's numbers, and each answer is its number of bytes. Assumes nothing.
 use mathlib.Core.Path.{refl}
 use borrow.Author.Tests.{ne_eqb}
-use Rattle.block.specs.Lengths.{isLength}
-use Rattle.block.specs.Packed.{lookUp}
+use Rattle.block.specs.Lengths.{is_length}
+use Rattle.block.specs.Packed.{look_up}
 use Rattle.block.proofs.look_up.Statement.{statement}
 use Rattle.block.proofs.look_up.Tie as tie
 
 returns : tie.Need-returns
-unfolding lookUp isLength
+unfolding look_up is_length
 returns c = record { answers = rw c.match.keys1 refl }
 
 returns-2 : tie.Need-returns-2
-unfolding lookUp isLength
+unfolding look_up is_length
 returns-2 c = record { answers = rw c.match.keys2 refl }
 
 returns-3 : tie.Need-returns-3
-unfolding lookUp isLength
+unfolding look_up is_length
 returns-3 c = record { answers = rw c.match.keys3 refl }
 
 returns-4 : tie.Need-returns-4
-unfolding lookUp isLength
+unfolding look_up is_length
 returns-4 c = record { answers = rw c.match.keys4 refl }
 
 returns-5 : tie.Need-returns-5
-unfolding lookUp isLength
+unfolding look_up is_length
 returns-5 c =
     let k = c.before.args.k in
     let none = c.match.rest in

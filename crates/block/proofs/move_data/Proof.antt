@@ -1,6 +1,6 @@
 -- `move_data` keeps its promise: both slices judged, then the data moved. Assumes nothing.
 use native.Mathlib.Omega.{arith}
-use Rattle.block.proofs.Refusals.{move-slice, move-payload, moved}
+use Rattle.block.proofs.Refusals.{move_slice, move_payload, moved}
 use borrow.Author.Rules.{rules}
 use Rattle.block.proofs.move_data.Statement.{statement}
 use Rattle.block.proofs.move_data.Tie as tie
@@ -8,12 +8,12 @@ use Rattle.block.proofs.move_data.Tie as tie
 returns : tie.Need-returns
 returns c =
     let a = c.before.before.before.args in
-    move-slice a.m a.block.now a.payload.now c.if1.true
+    move_slice a.m a.block.now a.payload.now c.if1.true
 
 returns-2 : tie.Need-returns-2
 returns-2 c =
     let a = c.before.before.before.before.args in
-    move-payload a.m a.block.now a.payload.now (omega arith) c.if2.true
+    move_payload a.m a.block.now a.payload.now (omega arith) c.if2.true
 
 shift-half-requires : tie.Need-shift-half-requires
 shift-half-requires c κs = search rules

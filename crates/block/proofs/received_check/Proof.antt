@@ -7,7 +7,7 @@ use native.Mathlib.Omega.{arith}
 use Prim.Native.Nat.{ℕ, ◌+◌, ◌*◌, ◌/◌, ◌%◌, ◌^◌, ◌<◌}
 use lib.Bits.{bit_or, bit_and, or_shifted, and_mask}
 use Rattle.crc.specs.Bits.{Bits, binary}
-use Rattle.crc.proofs.Rows.{binary-mod, binary-join}
+use Rattle.crc.proofs.Rows.{binary-mod, binary_join}
 use Rattle.block.proofs.received_check.Statement.{statement}
 use Rattle.block.proofs.received_check.Tie as tie
 
@@ -23,8 +23,8 @@ joined a b h hb hh =
 
 side_by_side : (a b h : ℕ) → b < 256 → h < 16 → binary 16 ((a % 16 * 2 ^ 8 + b) * 2 ^ 4 + h) ≡ binary 4 a ++ (binary 8 b ++ binary 4 h)
 side_by_side a b h hb hh =
-    binary-join 12 4 (a % 16 * 2 ^ 8 + b) h hh
-    ∙ ap (λ (l : Bits). l ++ binary 4 h) (binary-join 4 8 (a % 16) b hb ∙ ap (λ (l : Bits). l ++ binary 8 b) (binary-mod 4 a))
+    binary_join 12 4 (a % 16 * 2 ^ 8 + b) h hh
+    ∙ ap (λ (l : Bits). l ++ binary 4 h) (binary_join 4 8 (a % 16) b hb ∙ ap (λ (l : Bits). l ++ binary 8 b) (binary-mod 4 a))
     ∙ append_assoc (binary 4 a) (binary 8 b) (binary 4 h)
 
 cast-result : tie.Need-overflow-cast-result

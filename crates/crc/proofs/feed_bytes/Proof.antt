@@ -9,7 +9,7 @@ use lib.ListN.{length, take, drop, length-drop}
 use lib.Seq.{take_all}
 use Rattle.crc.specs.Bits.{bits_of}
 use Rattle.crc.specs.Check.{register}
-use Rattle.crc.proofs.Register.{register-byte, register-rest}
+use Rattle.crc.proofs.Register.{register_byte, register-rest}
 use Rattle.crc.proofs.feed_bytes.Statement.{statement}
 use Rattle.crc.proofs.feed_bytes.Tie as tie
 
@@ -53,7 +53,7 @@ returns-2 c =
     let r : ℕ = c.before.before.before.if2.r in
     c.feed-words.ensures
     ∙ fed at s r i
-    (⊎_elim (λ w. w.3 ∙ w.2.ensures ∙ register-byte at s 0 (search rules) ∙ ap (λ (n : ℕ). register at (bits_of (take n s))) (sym w.4))
+    (⊎_elim (λ w. w.3 ∙ w.2.ensures ∙ register_byte at s 0 (search rules) ∙ ap (λ (n : ℕ). register at (bits_of (take n s))) (sym w.4))
     (λ w. w.1 ∙ ap (λ (n : ℕ). register at (bits_of (take n s))) (sym w.2)) c.before.before.before.if2.branch)
 
 pub feed-bytes-spec : {M : Type 1} → statement M

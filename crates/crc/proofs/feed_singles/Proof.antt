@@ -7,42 +7,42 @@ use lib.ListN.{length, take, get_or}
 use lib.Seq.{take_all}
 use Rattle.crc.specs.Bits.{binary, bits_of}
 use Rattle.crc.specs.Check.{register}
-use Rattle.crc.proofs.Register.{register-byte}
+use Rattle.crc.proofs.Register.{register_byte}
 use Rattle.crc.proofs.feed_singles.Statement.{statement}
 use Rattle.crc.proofs.feed_singles.Tie as tie
 
-abbrev invariant-loop : tie.invariant-loop
-invariant-loop c s r₀ i₀ r i = (i ≤ length s) × (r ≡ register c (bits_of (take i s)))
+abbrev invariant_loop : tie.invariant_loop
+invariant_loop c s r₀ i₀ r i = (i ≤ length s) × (r ≡ register c (bits_of (take i s)))
 
-abbrev decreases-loop : tie.decreases-loop
-decreases-loop c s r₀ i₀ r i = length s - i
+abbrev decreases_loop : tie.decreases_loop
+decreases_loop c s r₀ i₀ r i = length s - i
 
-loop-holds : tie.Need-loop-init invariant-loop decreases-loop
+loop-holds : tie.Need-loop-init invariant_loop decreases_loop
 unfolding register bits_of
 loop-holds c = (search rules, refl)
 
-shared-slice-read-feed-byte : tie.Need-shared-slice-read-feed-byte invariant-loop decreases-loop
+shared-slice-read-feed-byte : tie.Need-shared-slice-read-feed-byte invariant_loop decreases_loop
 shared-slice-read-feed-byte c = search rules
 
-feed-byte-requires : tie.Need-feed-byte-requires invariant-loop decreases-loop
+feed-byte-requires : tie.Need-feed-byte-requires invariant_loop decreases_loop
 feed-byte-requires c κs = search rules
 
-add-i : tie.Need-overflow-add-i invariant-loop decreases-loop
+add-i : tie.Need-overflow-add-i invariant_loop decreases_loop
 add-i c = search rules
 
-loop-less : tie.Need-loop-smaller invariant-loop decreases-loop
+loop-less : tie.Need-loop-smaller invariant_loop decreases_loop
 loop-less c = search rules
 
-loop-again : tie.Need-loop-preserved invariant-loop decreases-loop
+loop-again : tie.Need-loop-preserved invariant_loop decreases_loop
 loop-again c =
     let s : List ℕ = c.before.before.before.before.before.args.s.now in
     let i : ℕ = c.before.before.before.loop.i in (
       search rules,
       c.feed-byte.ensures ∙ ap (λ (x : ℕ). register x (binary 8 (get_or s i 0))) c.before.before.before.loop.invariant.1
-          ∙ register-byte c.before.before.before.before.before.args.c s i (search rules),
+          ∙ register_byte c.before.before.before.before.before.args.c s i (search rules),
     )
 
-returns : tie.Need-returns invariant-loop decreases-loop
+returns : tie.Need-returns invariant_loop decreases_loop
 returns c =
     let at : ℕ = c.before.before.before.args.c in
     let s : List ℕ = c.before.before.before.args.s.now in
@@ -50,4 +50,4 @@ returns c =
 
 pub feed-singles-spec : {M : Type 1} → statement M
 feed-singles-spec =
-    tie.close (tie.spec invariant-loop decreases-loop loop-holds shared-slice-read-feed-byte feed-byte-requires add-i loop-less loop-again returns)
+    tie.close (tie.spec invariant_loop decreases_loop loop-holds shared-slice-read-feed-byte feed-byte-requires add-i loop-less loop-again returns)

@@ -5,7 +5,7 @@ use borrow.Author.Rules.{rules}
 use Rattle.crc.specs.Check.{register}
 use Rattle.crc.specs.declared.Window.{Window}
 use Rattle.crc.specs.declared.Pair.{Pair}
-use Rattle.crc.proofs.Words.{bitsOfWords-one, register-word-behind}
+use Rattle.crc.proofs.Words.{bits_of_words_one, register_word_behind}
 use Rattle.crc.proofs.feed_window.Statement.{statement}
 use Rattle.crc.proofs.feed_window.Tie as tie
 
@@ -24,10 +24,10 @@ feed-word-requires c κs = search rules
 returns : tie.Need-returns
 returns c =
     let w : Window = c.before.before.before.before.args.w in
-    let p : Pair = c.before.before.before.fold-two.result in
-    c.feed-word.ensures ∙ ap (register 0) (sym (bitsOfWords-one c.before.fold-one.result)) ∙ c.before.fold-one.ensures
+    let p : Pair = c.before.before.before.fold_two.result in
+    c.feed-word.ensures ∙ ap (register 0) (sym (bits_of_words_one c.before.fold_one.result)) ∙ c.before.fold_one.ensures
     ∙ c.before.before.fold-two2.ensures
-    ∙ register-word-behind (p.a ∷ p.b ∷ []) (w.a ∷ w.b ∷ w.c ∷ []) w.d c.before.before.before.fold-two.ensures
+    ∙ register_word_behind (p.a ∷ p.b ∷ []) (w.a ∷ w.b ∷ w.c ∷ []) w.d c.before.before.before.fold_two.ensures
 
 pub feed-window-spec : {M : Type 1} → statement M
 feed-window-spec =

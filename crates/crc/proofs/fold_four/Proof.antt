@@ -9,7 +9,7 @@ use Rattle.crc.proofs.fold_four.Tie as tie
 returns : tie.Need-returns
 returns c =
     let w : Window = c.before.before.before.before.before.before.args.w in
-    sym (laws.fold-four w.a w.b w.c w.d c.before.before.before.before.before.before.args.next (search rules))
+    sym (laws.fold_four w.a w.b w.c w.d c.before.before.before.before.before.before.args.next (search rules))
 
 pub fold-four-spec : {M : Type 1} → statement M
 fold-four-spec = tie.close (tie.spec returns)

@@ -6,7 +6,7 @@ use Rattle.crc.proofs.fold_two.Statement.{statement}
 use Rattle.crc.proofs.fold_two.Tie as tie
 
 returns : tie.Need-returns
-returns c = sym (laws.fold-two c.args.a c.args.b c.args.c (search rules))
+returns c = sym (laws.fold_two c.args.a c.args.b c.args.c (search rules))
 
 pub fold-two-spec : {M : Type 1} → statement M
 fold-two-spec = tie.close (tie.spec returns)

@@ -8,8 +8,8 @@ use lib.ListN.{take}
 use lib.Seq.{take-take}
 use Rattle.crc.specs.Bits.{bits_of}
 use Rattle.crc.specs.Check.{register}
-use Rattle.crc.proofs.Bytes.{take-bitsOf}
-use Rattle.crc.proofs.Head.{register-head}
+use Rattle.crc.proofs.Bytes.{take-bits_of}
+use Rattle.crc.proofs.Head.{register_head}
 use Rattle.crc.proofs.load_head.Statement.{statement}
 use Rattle.crc.proofs.load_head.Tie as tie
 
@@ -32,9 +32,9 @@ returns c =
     let h : ℕ = c.before.before.args.h in
     let e : 16 + (8 * h - 16) + (64 - 8 * h) ≡ 64 = omega arith in
     let f : 16 + (8 * h - 16) ≡ 8 * h = omega arith in
-    register-head at c.load_word.result (8 * h - 16) (64 - 8 * h) (search rules) (search rules) e
+    register_head at c.load_word.result (8 * h - 16) (64 - 8 * h) (search rules) (search rules) e
     ∙ ap (register at)
-    (ap₂ take f c.load_word.ensures ∙ take-bitsOf h (take 8 s) ∙ ap bits_of (take-take h 8 s (search rules)))
+    (ap₂ take f c.load_word.ensures ∙ take-bits_of h (take 8 s) ∙ ap bits_of (take-take h 8 s (search rules)))
 
 pub load-head-spec : {M : Type 1} → statement M
 load-head-spec = tie.close (tie.spec load-word-requires mul-result sub-result shr-result returns)

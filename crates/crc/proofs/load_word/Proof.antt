@@ -9,19 +9,19 @@ use lib.ListN.{take, drop}
 use lib.Pow.{shl_exact}
 use lib.Seq.{take-add, drop-drop}
 use Rattle.crc.specs.Bits.{Bits, binary, bits_of}
-use Rattle.crc.proofs.Rows.{binary-join}
-use Rattle.crc.proofs.Bytes.{bitsOf-append}
+use Rattle.crc.proofs.Rows.{binary_join}
+use Rattle.crc.proofs.Bytes.{bits_of-append}
 use Rattle.crc.proofs.load_word.Statement.{statement}
 use Rattle.crc.proofs.load_word.Tie as tie
 
-binary-halves : (h l : ℕ) → h < 2 ^ 32 → l < 2 ^ 32 → binary 64 (bit_or (h * 2 ^ 32 % 2 ^ 64) l) ≡ binary 32 h ++ binary 32 l
-binary-halves h l m n =
-    ap (λ (x : ℕ). binary 64 (bit_or x l)) (shl_exact 32 32 64 m (le_refl 64)) ∙ ap (binary 64) (or_shifted h 32 l n) ∙ binary-join 32 32 h l n
+binary_halves : (h l : ℕ) → h < 2 ^ 32 → l < 2 ^ 32 → binary 64 (bit_or (h * 2 ^ 32 % 2 ^ 64) l) ≡ binary 32 h ++ binary 32 l
+binary_halves h l m n =
+    ap (λ (x : ℕ). binary 64 (bit_or x l)) (shl_exact 32 32 64 m (le_refl 64)) ∙ ap (binary 64) (or_shifted h 32 l n) ∙ binary_join 32 32 h l n
 
-bits-halves : (s : List ℕ) (i : ℕ) → bits_of (take 4 (drop i s)) ++ bits_of (take 4 (drop (i + 4) s)) ≡ bits_of (take 8 (drop i s))
-bits-halves s i =
+bits_halves : (s : List ℕ) (i : ℕ) → bits_of (take 4 (drop i s)) ++ bits_of (take 4 (drop (i + 4) s)) ≡ bits_of (take 8 (drop i s))
+bits_halves s i =
     ap (λ (l : List ℕ). bits_of (take 4 (drop i s)) ++ bits_of (take 4 l)) (sym (drop-drop 4 i s))
-    ∙ sym (bitsOf-append (take 4 (drop i s)) (take 4 (drop 4 (drop i s)))) ∙ ap bits_of (sym (take-add 4 4 (drop i s)))
+    ∙ sym (bits_of-append (take 4 (drop i s)) (take 4 (drop 4 (drop i s)))) ∙ ap bits_of (sym (take-add 4 4 (drop i s)))
 
 load-half-requires : tie.Need-load-half-requires
 load-half-requires c κs = search rules
@@ -36,8 +36,8 @@ returns : tie.Need-returns
 returns c =
     let s : List ℕ = c.before.before.before.args.s.now in
     let i : ℕ = c.before.before.before.args.i in
-    binary-halves c.before.load-half.result c.load-half2.result c.before.load-half.ensures.0 c.load-half2.ensures.0
-    ∙ ap₂ (λ (x y : Bits). x ++ y) c.before.load-half.ensures.1 c.load-half2.ensures.1 ∙ bits-halves s i
+    binary_halves c.before.load-half.result c.load-half2.result c.before.load-half.ensures.0 c.load-half2.ensures.0
+    ∙ ap₂ (λ (x y : Bits). x ++ y) c.before.load-half.ensures.1 c.load-half2.ensures.1 ∙ bits_halves s i
 
 pub load-word-spec : {M : Type 1} → statement M
 load-word-spec = tie.close (tie.spec load-half-requires add-load-half load-half-requires-2 returns)

@@ -7,45 +7,45 @@ use Prim.Native.Nat.{ℕ, suc, ◌+◌, ◌*◌, ◌≤◌, ◌<◌}
 use lib.ListN.{length, take}
 use borrow.Author.Tests.{lt-ltb, le-ltb}
 use Rattle.crc.specs.Bits.{Bits, binary, number, bits_of, bytes_of}
-use Rattle.crc.proofs.Bytes.{length-bytesOf}
+use Rattle.crc.proofs.Bytes.{length-bytes_of}
 use Rattle.block.specs.Answer.{Answer, done}
-use Rattle.block.specs.Lengths.{isLength, blockLength}
-use Rattle.block.proofs.Lengths.{length-facts}
-use Rattle.line.specs.Marks.{marksInRange}
-use Rattle.line.specs.Order.{mostItems}
-use Rattle.line.specs.Receiving.{arrayBytes, lastBad, Rule, unfinished, standing, sequence-found, sync-block, check-fails, accepts, previous, out-of-sequence, ends, wrong-length, ends-again, anything-else, waits, meaning, blockRule, after, heldBits, Reception, stops, holding, missing, inStep, reception, heldInRange, receiverInRange, judgeStore, receive, receiveState}
+use Rattle.block.specs.Lengths.{is_length, block_length}
+use Rattle.block.proofs.Lengths.{length_facts}
+use Rattle.line.specs.Marks.{marks_in_range}
+use Rattle.line.specs.Order.{most_items}
+use Rattle.line.specs.Receiving.{array_bytes, last_bad, Rule, unfinished, standing, sequence_found, sync_block_lem, check_fails, accepts, previous, out_of_sequence, ends, wrong_length, ends_again, anything_else, waits, meaning, block_rule, after, held_bits, Reception, stops, holding, missing, in_step, reception, held_in_range, receiver_in_range, judge_store, receive, receive_state}
 use Rattle.line.specs.declared.receiver.Receiver.{Receiver}
 use Rattle.line.specs.declared.receiving.Phase.{Phase}
 use Rattle.line.specs.declared.receiving.Phase.TheVariants as P
-use Rattle.line.proofs.ReceivingCall.{range-in}
-use Rattle.line.proofs.Delivery.BlockRules.{Judged, as-sync, fails, as-data, as-other, block-judged}
-use Rattle.line.proofs.Delivery.WrittenBits.{length-holding, heldBits-holding}
+use Rattle.line.proofs.ReceivingCall.{range_in}
+use Rattle.line.proofs.Delivery.BlockRules.{Judged, as_sync, fails, as_data, as_other, block-judged}
+use Rattle.line.proofs.Delivery.WrittenBits.{length-holding, held_bits-holding}
 
 -- one call for each bit, each given the state that the last handed back; the last call's answer
-abbrev pub bitByBit : Receiver → Bool → List ℕ → Bits → Answer Reception → Answer Reception
-bitByBit s ready store [] last = last
-bitByBit s ready store (b ∷ bs) last =
-    bitByBit (receiveState s (receive s (bytes_of 1 (b ∷ [])) 1 ready store)) ready store bs (receive s (bytes_of 1 (b ∷ [])) 1 ready store)
+abbrev pub bit_by_bit : Receiver → Bool → List ℕ → Bits → Answer Reception → Answer Reception
+bit_by_bit s ready store [] last = last
+bit_by_bit s ready store (b ∷ bs) last =
+    bit_by_bit (receive_state s (receive s (bytes_of 1 (b ∷ [])) 1 ready store)) ready store bs (receive s (bytes_of 1 (b ∷ [])) 1 ready store)
 
 -- in step, and so many bits of the block missing
 pub record Missing (s : Receiver) (m : ℕ) : Type 0 where
-  pub known : isLength s.setup.k ≡ true
-  pub marks : marksInRange s.setup.marks ≡ true
-  pub bad-row : s.bad_row < lastBad
-  pub taken : s.taken ≤ mostItems
+  pub known : is_length s.setup.k ≡ true
+  pub marks : marks_in_range s.setup.marks ≡ true
+  pub bad_row : s.bad_row < last_bad
+  pub taken : s.taken ≤ most_items
   pub phase : s.phase ≡ P.InStep
-  pub array : length s.bits ≡ arrayBytes
-  pub held : s.held + m ≡ blockLength s.setup.k
+  pub array : length s.bits ≡ array_bytes
+  pub held : s.held + m ≡ block_length s.setup.k
 
-in-range : (s : Receiver) (m : ℕ) → Missing s (suc m) → receiverInRange s ≡ true
-in-range s m w =
-    range-in s (record {
+in_range : (s : Receiver) (m : ℕ) → Missing s (suc m) → receiver_in_range s ≡ true
+in_range s m w =
+    range_in s (record {
       known = w.known;
       marks = w.marks;
-      bad-row = w.bad-row;
+      bad_row = w.bad_row;
       taken = w.taken;
-      held = ap (λ (p : Phase). heldInRange p (blockLength s.setup.k) s.held) w.phase
-          ∙ lt-ltb s.held (blockLength s.setup.k) (omega (arith, w.held));
+      held = ap (λ (p : Phase). held_in_range p (block_length s.setup.k) s.held) w.phase
+          ∙ lt-ltb s.held (block_length s.setup.k) (omega (arith, w.held));
     })
 
 bit-lent : (b : Bool) → take 1 (bits_of (bytes_of 1 (b ∷ []))) ≡ b ∷ []
@@ -53,28 +53,28 @@ unfolding bits_of bytes_of binary number
 bit-lent true = refl
 bit-lent false = refl
 
-one-call : (s : Receiver) (b ready : Bool) (store : List ℕ) → receiverInRange s ≡ true → s.phase ≡ P.InStep
-    → receive s (bytes_of 1 (b ∷ [])) 1 ready store ≡ judgeStore s store (inStep s (b ∷ []) ready)
+one_call : (s : Receiver) (b ready : Bool) (store : List ℕ) → receiver_in_range s ≡ true → s.phase ≡ P.InStep
+    → receive s (bytes_of 1 (b ∷ [])) 1 ready store ≡ judge_store s store (in_step s (b ∷ []) ready)
 unfolding receive reception
-one-call s b ready store range phase =
-    rw (range, le-ltb (8 * length (bytes_of 1 (b ∷ []))) 1 (omega (arith, length-bytesOf 1 (b ∷ []))), bit-lent b, phase)
+one_call s b ready store range phase =
+    rw (range, le-ltb (8 * length (bytes_of 1 (b ∷ []))) 1 (omega (arith, length-bytes_of 1 (b ∷ []))), bit-lent b, phase)
 
 module _ (s : Receiver) (b ready : Bool) where
-  abbrev oneMore : Reception
-  oneMore = record { rule = unfinished; row = []; used = 1; state = holding s (b ∷ []) }
+  abbrev one_more : Reception
+  one_more = record { rule = unfinished; row = []; used = 1; state = holding s (b ∷ []) }
 
   -- not the block's last
-  bit-held : (m : ℕ) → Missing s (suc (suc m))
-      → inStep s (b ∷ []) ready ≡ oneMore
-  unfolding inStep
-  bit-held m w = rw (lt-ltb 1 (missing s) (omega (arith, w.held)))
+  bit_held : (m : ℕ) → Missing s (suc (suc m))
+      → in_step s (b ∷ []) ready ≡ one_more
+  unfolding in_step
+  bit_held m w = rw (lt-ltb 1 (missing s) (omega (arith, w.held)))
 
   one_less : (m : ℕ) → Missing s (suc (suc m)) → Missing (holding s (b ∷ [])) (suc m)
   one_less m w =
       record {
         known = w.known;
         marks = w.marks;
-        bad-row = w.bad-row;
+        bad_row = w.bad_row;
         taken = w.taken;
         phase = w.phase;
         array = length-holding s (b ∷ []);
@@ -82,55 +82,55 @@ module _ (s : Receiver) (b ready : Bool) where
       }
 
   -- the block's last
-  bit-last : Missing s 1
-      → inStep s (b ∷ []) ready ≡ stops s (blockRule s (heldBits s ++ (b ∷ [])) ready) (heldBits s ++ (b ∷ [])) 1
-  unfolding inStep
-  bit-last w = let one : missing s ≡ 1 = omega (arith, w.held) in rw one refl
+  bit_last : Missing s 1
+      → in_step s (b ∷ []) ready ≡ stops s (block_rule s (held_bits s ++ (b ∷ [])) ready) (held_bits s ++ (b ∷ [])) 1
+  unfolding in_step
+  bit_last w = let one : missing s ≡ 1 = omega (arith, w.held) in rw one refl
 
 -- what a rule that ends a block leaves does not depend on the bits held
 pub after-holding : (s : Receiver) (new : Bits) {x : Rule} → Judged x → after (holding s new) x ≡ after s x
-after-holding s new as-sync = refl
+after-holding s new as_sync = refl
 after-holding s new (fails n) = refl
-after-holding s new {x} (as-data h) = data-or-end x h
+after-holding s new {x} (as_data h) = data_or_end x h
   where
-    data-or-end : (x : Rule) → (meaning x).data-or-end ≡ true → after (holding s new) x ≡ after s x
-    data-or-end unfinished e = absurd (false≢true e)
-    data-or-end (standing alarm) e = absurd (false≢true e)
-    data-or-end sequence-found e = refl
-    data-or-end sync-block e = refl
-    data-or-end (check-fails n) e = refl
-    data-or-end accepts e = refl
-    data-or-end previous e = refl
-    data-or-end out-of-sequence e = refl
-    data-or-end (ends L) e = refl
-    data-or-end wrong-length e = refl
-    data-or-end ends-again e = refl
-    data-or-end anything-else e = refl
-    data-or-end waits e = refl
-after-holding s new as-other = refl
+    data_or_end : (x : Rule) → (meaning x).data_or_end ≡ true → after (holding s new) x ≡ after s x
+    data_or_end unfinished e = absurd (false≢true e)
+    data_or_end (standing alarm) e = absurd (false≢true e)
+    data_or_end sequence_found e = refl
+    data_or_end sync_block_lem e = refl
+    data_or_end (check_fails n) e = refl
+    data_or_end accepts e = refl
+    data_or_end previous e = refl
+    data_or_end out_of_sequence e = refl
+    data_or_end (ends L) e = refl
+    data_or_end wrong_length e = refl
+    data_or_end ends_again e = refl
+    data_or_end anything_else e = refl
+    data_or_end waits e = refl
+after-holding s new as_other = refl
 
 -- what the whole block comes to, at its last bit
 abbrev pub finished : Receiver → Bool → List ℕ → Bits → Answer Reception
-finished s ready store row = judgeStore s store (stops s (blockRule s row ready) row 1)
+finished s ready store row = judge_store s store (stops s (block_rule s row ready) row 1)
 
-finished-holding : (s : Receiver) (ready : Bool) (store : List ℕ) (new row row' : Bits) → row ≡ row'
+finished_holding : (s : Receiver) (ready : Bool) (store : List ℕ) (new row row' : Bits) → row ≡ row'
     → finished (holding s new) ready store row ≡ finished s ready store row'
-finished-holding s ready store new row row' e =
+finished_holding s ready store new row row' e =
     ap (finished (holding s new) ready store) e
-    ∙ ap (λ (t : Receiver). judgeStore s store (record { rule = rule; row = row'; used = 1; state = t }))
+    ∙ ap (λ (t : Receiver). judge_store s store (record { rule = rule; row = row'; used = 1; state = t }))
     (after-holding s new (block-judged s row' ready))
   where
     rule : Rule
-    rule = blockRule s row' ready
+    rule = block_rule s row' ready
 
-pub bit-by-bit : (s : Receiver) (ready : Bool) (store : List ℕ) (b : Bool) (row : Bits) (last : Answer Reception) → Missing s (length (b ∷ row))
-    → bitByBit s ready store (b ∷ row) last ≡ finished s ready store (heldBits s ++ (b ∷ row))
-bit-by-bit s ready store b [] last w =
-    one-call s b ready store (in-range s 0 w) w.phase ∙ ap (judgeStore s store) (bit-last s b ready w)
-bit-by-bit s ready store b (c ∷ row) last w =
-    ap (λ (a : Answer Reception). bitByBit (receiveState s a) ready store (c ∷ row) a)
-    (one-call s b ready store (in-range s (length (c ∷ row)) w) w.phase ∙ ap (judgeStore s store) (bit-held s b ready (length row) w))
-    ∙ bit-by-bit (holding s (b ∷ [])) ready store c row (done (oneMore s b ready)) (one_less s b ready (length row) w)
-    ∙ finished-holding s ready store (b ∷ []) (heldBits (holding s (b ∷ [])) ++ (c ∷ row)) (heldBits s ++ (b ∷ (c ∷ row)))
-    (ap (λ (r : Bits). r ++ (c ∷ row)) (heldBits-holding s (b ∷ []) w.array (omega (arith, w.held, length-facts s.setup.k w.known)))
-    ∙ append_assoc (heldBits s) (b ∷ []) (c ∷ row))
+pub bit_by_bit_lem : (s : Receiver) (ready : Bool) (store : List ℕ) (b : Bool) (row : Bits) (last : Answer Reception) → Missing s (length (b ∷ row))
+    → bit_by_bit s ready store (b ∷ row) last ≡ finished s ready store (held_bits s ++ (b ∷ row))
+bit_by_bit_lem s ready store b [] last w =
+    one_call s b ready store (in_range s 0 w) w.phase ∙ ap (judge_store s store) (bit_last s b ready w)
+bit_by_bit_lem s ready store b (c ∷ row) last w =
+    ap (λ (a : Answer Reception). bit_by_bit (receive_state s a) ready store (c ∷ row) a)
+    (one_call s b ready store (in_range s (length (c ∷ row)) w) w.phase ∙ ap (judge_store s store) (bit_held s b ready (length row) w))
+    ∙ bit_by_bit_lem (holding s (b ∷ [])) ready store c row (done (one_more s b ready)) (one_less s b ready (length row) w)
+    ∙ finished_holding s ready store (b ∷ []) (held_bits (holding s (b ∷ [])) ++ (c ∷ row)) (held_bits s ++ (b ∷ (c ∷ row)))
+    (ap (λ (r : Bits). r ++ (c ∷ row)) (held_bits-holding s (b ∷ []) w.array (omega (arith, w.held, length_facts s.setup.k w.known)))
+    ∙ append_assoc (held_bits s) (b ∷ []) (c ∷ row))

@@ -9,8 +9,8 @@ use lib.ListN.{length}
 use lib.Dec.{eqb}
 use borrow.Author.Tests.{eqb-true}
 use Rattle.crc.specs.Bits.{Bits, bit}
-use Rattle.block.proofs.Truth.{cond-case}
-use Rattle.line.specs.Receiving.{standing, Reception, search, underAlarm, alarmReception, byPhase, idleRule, idle, reception}
+use Rattle.block.proofs.Truth.{cond_case}
+use Rattle.line.specs.Receiving.{standing, Reception, search, under_alarm, alarm_reception, by_phase, idle_rule, idle, reception}
 use Rattle.line.specs.Course.{World}
 use Rattle.line.specs.declared.receiver.Receiver.{Receiver}
 use Rattle.line.specs.declared.receiving.Phase.{Phase}
@@ -19,13 +19,13 @@ use Rattle.line.specs.declared.receiving.Event.{Event}
 use Rattle.line.specs.declared.receiving.Event.TheVariants as E
 use Rattle.line.proofs.Delivery.Ends.{LineBlock, Busy}
 use Rattle.line.proofs.Delivery.Ends as D
-use Rattle.line.proofs.Delivery.Invariant.{alarmed-busy}
-use Rattle.line.proofs.Delivery.BlockStep.{same-sender}
-use Rattle.line.proofs.Delivery.CallOnBlock.{ReceptionKept, none-of-length, Quiet, quiet-idle, still-same, pass}
-use Rattle.line.proofs.Delivery.State.{Session, N, Fit, alarmStands, Held, Base, BusyLine}
+use Rattle.line.proofs.Delivery.Invariant.{alarmed_busy}
+use Rattle.line.proofs.Delivery.BlockStep.{same_sender}
+use Rattle.line.proofs.Delivery.CallOnBlock.{ReceptionKept, none_of_length, Quiet, quiet-idle, still_same, pass}
+use Rattle.line.proofs.Delivery.State.{Session, N, Fit, alarm_stands, Held, Base, BusyLine}
 use Rattle.line.proofs.Delivery.State as S
 use Rattle.line.proofs.Delivery.CallInStep.{in_step}
-use Rattle.line.proofs.Delivery.CallInSearch.{in-search}
+use Rattle.line.proofs.Delivery.CallInSearch.{in_search_lem}
 
 module _ (o : Session) (fit : Fit o) (w : World) (l d : ℕ) (copy : Bits) (f : LineBlock)
     (line : BusyLine o w l d copy f) (base : Base o w) (lent : Bits) (store : List ℕ) where
@@ -40,27 +40,27 @@ module _ (o : Session) (fit : Fit o) (w : World) (l d : ℕ) (copy : Bits) (f : 
   none_lent : length lent ≡ 0 → Kept (idle r)
   none_lent h ok =
       pass o fit w l d copy f line base lent store ok.store ok.line.0 ok.line.1
-      (idleRule r.phase) 0 r (sym h)
-      (quiet-idle r.phase) (still-same o w base)
+      (idle_rule r.phase) 0 r (sym h)
+      (quiet-idle r.phase) (still_same o w base)
       (subst (Held r) (sym (ap (λ (y : Bits). line.used ++ y) empty ∙ append-nil line.used)) line.held)
       line.busy (λ a. refl)
       (λ z. absurd (line.more (ok.line.1 ∙ ap₂ ◌++◌ empty z)))
     where
       empty : lent ≡ []
-      empty = none-of-length lent h
+      empty = none_of_length lent h
 
   -- ---- an alarm stands
 
-  alarm-stands : (e : Event) → Quiet (alarmStands r.phase) (standing e)
-      → alarmStands r.phase ≡ true
-      → Kept (alarmReception r e (length lent))
-  alarm-stands e q a ok =
+  alarm_stands_lem : (e : Event) → Quiet (alarm_stands r.phase) (standing e)
+      → alarm_stands r.phase ≡ true
+      → Kept (alarm_reception r e (length lent))
+  alarm_stands_lem e q a ok =
       pass o fit w l d copy f line base lent store ok.store ok.line.0 ok.line.1 (standing e) (length lent)
-      (underAlarm r) refl q
+      (under_alarm r) refl q
       (record {
-        setup = base.receiver-setup;
+        setup = base.receiver_setup;
         array = base.array;
-        bad-row = omega arith;
+        bad_row = omega arith;
         held = base.held;
         taken = refl;
         ended = refl;
@@ -69,21 +69,21 @@ module _ (o : Session) (fit : Fit o) (w : World) (l d : ℕ) (copy : Bits) (f : 
       (no_block (line.used ++ lent)) busy (λ c. absurd (true≢false (sym a ∙ c)))
       (λ z. record {
         held = no_block [];
-        reads = D.under-alarm (same-sender w.sender r (underAlarm r) l d d)
+        reads = D.under_alarm_lem (same_sender w.sender r (under_alarm r) l d d)
             (record { taken = refl; ended = refl; alarm = ap bit a; danger = refl }) (ap bit a);
         clean = λ p c n. absurd (true≢false (sym a ∙ n));
       })
     where
-      no_block : (u : Bits) → Held (underAlarm r) u
+      no_block : (u : Bits) → Held (under_alarm r) u
       no_block u = record {
-        step = λ p. absurd (true≢false (sym a ∙ ap alarmStands p));
-        search = λ p. absurd (true≢false (sym a ∙ ap alarmStands p));
+        step = λ p. absurd (true≢false (sym a ∙ ap alarm_stands p));
+        search = λ p. absurd (true≢false (sym a ∙ ap alarm_stands p));
       }
 
-      busy : Busy (N o) (S.ends w.sender (underAlarm r) l d) w.sender.next f
+      busy : Busy (N o) (S.ends w.sender (under_alarm r) l d) w.sender.next f
       busy =
           let b = line.busy.basic in
-          let c = alarmed-busy line.busy (ap bit a) in
+          let c = alarmed_busy line.busy (ap bit a) in
           record {
             basic = record {
               low = b.low;
@@ -95,24 +95,24 @@ module _ (o : Session) (fit : Fit o) (w : World) (l d : ℕ) (copy : Bits) (f : 
               finished = b.finished;
             };
             all = line.busy.all;
-            state = inl (record { alarm = c.alarm; lost = c.lost; open-end = c.open-end });
+            state = inl (record { alarm = c.alarm; lost = c.lost; open_end = c.open_end });
           }
 
   -- ---- any call
 
-  some-lent : (ready : Bool) (p : Phase) → r.phase ≡ p → Kept (byPhase r p lent ready)
-  some-lent ready P.Search e = in-search o fit w l d copy f line base lent store e
+  some-lent : (ready : Bool) (p : Phase) → r.phase ≡ p → Kept (by_phase r p lent ready)
+  some-lent ready P.Search e = in_search_lem o fit w l d copy f line base lent store e
   some-lent ready P.InStep e = in_step o fit w l d copy f line base lent ready store e
   some-lent ready P.SequenceAlarm e =
-      alarm-stands E.SequenceAlarm
-      (subst (λ (p : Phase). Quiet (alarmStands p) (standing E.SequenceAlarm)) (sym e) (quiet-idle P.SequenceAlarm))
-      (ap alarmStands e)
+      alarm_stands_lem E.SequenceAlarm
+      (subst (λ (p : Phase). Quiet (alarm_stands p) (standing E.SequenceAlarm)) (sym e) (quiet-idle P.SequenceAlarm))
+      (ap alarm_stands e)
   some-lent ready P.LengthAlarm e =
-      alarm-stands E.LengthAlarm
-      (subst (λ (p : Phase). Quiet (alarmStands p) (standing E.LengthAlarm)) (sym e) (quiet-idle P.LengthAlarm))
-      (ap alarmStands e)
+      alarm_stands_lem E.LengthAlarm
+      (subst (λ (p : Phase). Quiet (alarm_stands p) (standing E.LengthAlarm)) (sym e) (quiet-idle P.LengthAlarm))
+      (ap alarm_stands e)
 
-  pub reception-guaranteed : (count : ℕ) (ready : Bool) → length lent ≡ count → Kept (reception r lent count ready)
+  pub reception_guaranteed : (count : ℕ) (ready : Bool) → length lent ≡ count → Kept (reception r lent count ready)
   unfolding reception
-  reception-guaranteed count ready size =
-      cond-case Kept (eqb count 0) (λ e. none_lent (size ∙ eqb-true count 0 e)) (λ e. some-lent ready r.phase refl)
+  reception_guaranteed count ready size =
+      cond_case Kept (eqb count 0) (λ e. none_lent (size ∙ eqb-true count 0 e)) (λ e. some-lent ready r.phase refl)

@@ -8,15 +8,15 @@ use Rattle.line.specs.declared.sender.Next.TheVariants.{Sync, Older, Newer}
 use Rattle.line.specs.declared.receiving.Event.{Event}
 use Rattle.line.specs.declared.receiving.Event.TheVariants as E
 
-abbrev pub isNewer : Next → ℕ
-isNewer Sync = 0
-isNewer Older = 0
-isNewer Newer = 1
+abbrev pub is_newer : Next → ℕ
+is_newer Sync = 0
+is_newer Older = 0
+is_newer Newer = 1
 
-abbrev pub isSync : Next → ℕ
-isSync Sync = 1
-isSync Older = 0
-isSync Newer = 0
+abbrev pub is_sync : Next → ℕ
+is_sync Sync = 1
+is_sync Older = 0
+is_sync Newer = 0
 
 pub record Ends : Type 0 where
   pub item : ℕ  -- the sender's newer item
@@ -24,7 +24,7 @@ pub record Ends : Type 0 where
   pub opening : ℕ
   pub finished : ℕ
   pub search : ℕ
-  pub bad-row : ℕ
+  pub bad_row : ℕ
   pub back : ℕ  -- the return bit
   pub taken : ℕ  -- r
   pub ended : ℕ
@@ -39,7 +39,7 @@ pub data LineBlock : Type 0 where
 
 pub record SameReceiver (s t : Ends) : Type 0 where
   pub search : t.search ≡ s.search
-  pub bad-row : t.bad-row ≡ s.bad-row
+  pub bad_row : t.bad_row ≡ s.bad_row
   pub back : t.back ≡ s.back
   pub taken : t.taken ≡ s.taken
   pub ended : t.ended ≡ s.ended
@@ -70,11 +70,11 @@ pub data Sends (N : ℕ) (s : Ends) (reading : ℕ) (t : Ends) : Next → Next �
   lasts : {i w : ℕ} → SameReceiver s t → reading ≡ 0 → i ≡ s.item → s.item ≡ N + 1 → w ≤ 1 → t.item ≡ s.item
       → t.run ≡ 0 → t.opening ≡ 0 → t.finished ≡ 1 → Loss s t → Sends N s reading t Newer Newer (item i w)
   -- the newer item, reading 1: cancelled, so that it does not arrive whole
-  cancels-older : {i : ℕ} → SameReceiver s t → reading ≡ 1 → i ≡ s.item → t.item ≡ s.item → t.run ≡ s.run + 1
+  cancels_older : {i : ℕ} → SameReceiver s t → reading ≡ 1 → i ≡ s.item → t.item ≡ s.item → t.run ≡ s.run + 1
       → t.run < 4
       → s.opening ≡ 0 → t.opening ≡ 0 → t.finished ≡ 0 → t.lost ≡ s.lost → t.danger ≡ s.danger
       → Sends N s reading t Newer Older (item i 0)
-  cancels-sync : {i : ℕ} → SameReceiver s t → reading ≡ 1 → i ≡ s.item → t.item ≡ s.item → t.run ≡ s.run + 1
+  cancels_sync : {i : ℕ} → SameReceiver s t → reading ≡ 1 → i ≡ s.item → t.item ≡ s.item → t.run ≡ s.run + 1
       → 4 ≤ t.run + 4 * t.opening → t.opening ≡ s.opening → t.finished ≡ 0 → t.lost ≡ s.lost
       → t.danger ≡ s.danger
       → Sends N s reading t Newer Sync (item i 0)
@@ -82,7 +82,7 @@ pub data Sends (N : ℕ) (s : Ends) (reading : ℕ) (t : Ends) : Next → Next �
 -- in step with return 0, the bad row cleared: r items taken, the end taken (1) or not (0), in danger or not
 pub record InStep (t : Ends) (r end d : ℕ) : Type 0 where
   pub search : t.search ≡ 0
-  pub bad-row : t.bad-row ≡ 0
+  pub bad_row : t.bad_row ≡ 0
   pub back : t.back ≡ 0
   pub taken : t.taken ≡ r
   pub ended : t.ended ≡ end
@@ -92,7 +92,7 @@ pub record InStep (t : Ends) (r end d : ℕ) : Type 0 where
 -- return 1, in search (1) or in step (0), with a row
 pub record Rejected (s t : Ends) (h ρ : ℕ) : Type 0 where
   pub search : t.search ≡ h
-  pub bad-row : t.bad-row ≡ ρ
+  pub bad_row : t.bad_row ≡ ρ
   pub back : t.back ≡ 1
   pub taken : t.taken ≡ s.taken
   pub ended : t.ended ≡ s.ended
@@ -117,28 +117,28 @@ NotWhole f = (f ≡ sync) ⊎ ((i : ℕ) × (f ≡ item i 0))
 
 -- the reading of one block to its last bit, with the event that it comes to
 pub data Reads (N : ℕ) (s t : Ends) : LineBlock → Event → Type 0 where
-  under-alarm : {f : LineBlock} {e : Event} → SameSender s t → Alarms s t s.danger → s.alarm ≡ 1 → Reads N s t f e
+  under_alarm_lem : {f : LineBlock} {e : Event} → SameSender s t → Alarms s t s.danger → s.alarm ≡ 1 → Reads N s t f e
   searches : {f : LineBlock} → SameSender s t → SameReceiver s t → t.danger ≡ s.danger → s.alarm ≡ 0 → s.search ≡ 1
       → Reads N s t f E.None
   syncs : SameSender s t → s.alarm ≡ 0 → InStep t s.taken s.ended s.danger → Reads N s t sync E.Sync
   -- rule 2, or rule 7 of a synchronising block
-  bad-step : {f : LineBlock} {n : ℕ} → SameSender s t → Synchronised s → s.bad-row < 7 → NotWhole f → Rejected s t 0 (s.bad-row + 1)
+  bad_step : {f : LineBlock} {n : ℕ} → SameSender s t → Synchronised s → s.bad_row < 7 → NotWhole f → Rejected s t 0 (s.bad_row + 1)
       → Reads N s t f (E.Bad n)
-  bad-eighth : {f : LineBlock} {n : ℕ} → SameSender s t → Synchronised s → s.bad-row ≡ 7 → NotWhole f → Rejected s t 1 0
+  bad_eighth : {f : LineBlock} {n : ℕ} → SameSender s t → Synchronised s → s.bad_row ≡ 7 → NotWhole f → Rejected s t 1 0
       → Reads N s t f (E.Bad n)
-  bad-first : {n : ℕ} → SameSender s t → Synchronised s → s.taken ≡ 0 → Rejected s t 1 0 → Reads N s t sync (E.Bad n)
+  bad_first : {n : ℕ} → SameSender s t → Synchronised s → s.taken ≡ 0 → Rejected s t 1 0 → Reads N s t sync (E.Bad n)
   -- rules 3 to 6 of a data or end block that arrives whole
   accepts : {i : ℕ} → SameSender s t → Synchronised s → i < N → s.ended ≡ 0 → i ≡ s.taken → InStep t (s.taken + 1) 0 0
       → Reads N s t (item i 1) E.Accepted
   repeats : {i : ℕ} → SameSender s t → Synchronised s → i < N → s.ended ≡ 0 → i + 1 ≡ s.taken → InStep t s.taken 0 0
       → Reads N s t (item i 1) E.Previous
-  out-of-sequence : {i : ℕ} → SameSender s t → Synchronised s → i < N → s.ended ≡ 0 → i ≡ s.taken + 1 → Alarms s t 0
+  out_of_sequence : {i : ℕ} → SameSender s t → Synchronised s → i < N → s.ended ≡ 0 → i ≡ s.taken + 1 → Alarms s t 0
       → Reads N s t (item i 1) E.SequenceAlarm
   ends : {i L : ℕ} → SameSender s t → Synchronised s → N ≤ i → s.ended ≡ 0 → s.taken ≡ N → InStep t s.taken 1 0
       → Reads N s t (item i 1) (E.Ended L)
-  ends-again : {i : ℕ} → SameSender s t → Synchronised s → N ≤ i → s.ended ≡ 1 → InStep t s.taken 1 0
+  ends_again : {i : ℕ} → SameSender s t → Synchronised s → N ≤ i → s.ended ≡ 1 → InStep t s.taken 1 0
       → Reads N s t (item i 1) E.Previous
-  wrong-length : {i : ℕ} → SameSender s t → Synchronised s → N ≤ i → s.ended ≡ 0 → (s.taken ≡ N → ⊥) → Alarms s t 0
+  wrong_length : {i : ℕ} → SameSender s t → Synchronised s → N ≤ i → s.ended ≡ 0 → (s.taken ≡ N → ⊥) → Alarms s t 0
       → Reads N s t (item i 1) E.LengthAlarm
   -- rule 3 or rule 6 of one, the machine not ready: like a bad block that does not count in the row
   waits : {i : ℕ} → SameSender s t → Synchronised s → Rejected s t 0 0 → Reads N s t (item i 1) E.Wait
@@ -158,16 +158,16 @@ pub record Basic (N : ℕ) (s : Ends) : Type 0 where
 -- what holds while no alarm stands, between blocks (what is next: n)
 pub record Between (s : Ends) (n : Next) : Type 0 where
   pub alarm : s.alarm ≡ 0
-  pub bad-row : s.bad-row ≤ 7
+  pub bad_row : s.bad_row ≤ 7
   pub search : s.search ≤ 1
   pub back : s.back ≤ 1
-  pub zero : s.bad-row + 8 * s.search ≤ 8 * s.back
+  pub zero : s.bad_row + 8 * s.search ≤ 8 * s.back
   pub behind : s.taken + s.ended ≤ s.item
   pub ahead : s.item ≤ s.taken + s.ended + 1 + s.danger
-  pub newer : s.item + 2 * isNewer n ≤ s.taken + s.ended + 2 * s.back + 2
-  pub rows : s.bad-row ≤ 2 * s.run + isNewer n + 8 * s.opening + 8 * s.lost
-  pub searches : 8 * s.search ≤ 2 * s.run + isNewer n + 8 * s.opening + 8 * s.lost
-  pub resync : 4 * isSync n ≤ s.run + 4 * s.opening + 4 * s.lost
+  pub newer : s.item + 2 * is_newer n ≤ s.taken + s.ended + 2 * s.back + 2
+  pub rows : s.bad_row ≤ 2 * s.run + is_newer n + 8 * s.opening + 8 * s.lost
+  pub searches : 8 * s.search ≤ 2 * s.run + is_newer n + 8 * s.opening + 8 * s.lost
+  pub resync : 4 * is_sync n ≤ s.run + 4 * s.opening + 4 * s.lost
 
 -- the block on the line, against the pair as it is after sending
 pub data FromPair (N : ℕ) (s : Ends) : Next → LineBlock → Type 0 where
@@ -178,20 +178,20 @@ pub data FromPair (N : ℕ) (s : Ends) : Next → LineBlock → Type 0 where
 
 pub record During (s : Ends) (n : Next) : Type 0 where
   pub alarm : s.alarm ≡ 0
-  pub bad-row : s.bad-row ≤ 7
+  pub bad_row : s.bad_row ≤ 7
   pub search : s.search ≤ 1
   pub back : s.back ≤ 1
-  pub zero : s.bad-row + 8 * s.search ≤ 8 * s.back
+  pub zero : s.bad_row + 8 * s.search ≤ 8 * s.back
   pub behind : s.taken + s.ended ≤ s.item
   pub ahead : s.item ≤ s.taken + s.ended + 1 + s.danger
-  pub rows : s.bad-row + 1 ≤ 2 * s.run + isNewer n + 8 * s.opening + 8 * s.lost
-  pub searches : 8 * s.search ≤ 2 * s.run + isNewer n + 8 * s.opening + 8 * s.lost
-  pub resync : 4 * isSync n ≤ s.run + 4 * s.opening + 4 * s.lost
+  pub rows : s.bad_row + 1 ≤ 2 * s.run + is_newer n + 8 * s.opening + 8 * s.lost
+  pub searches : 8 * s.search ≤ 2 * s.run + is_newer n + 8 * s.opening + 8 * s.lost
+  pub resync : 4 * is_sync n ≤ s.run + 4 * s.opening + 4 * s.lost
 
 pub record Alarmed (s : Ends) : Type 0 where
   pub alarm : s.alarm ≡ 1
   pub lost : s.lost ≡ 1
-  pub open-end : s.ended ≡ 0
+  pub open_end : s.ended ≡ 0
 
 -- no block is on the line
 pub record Idle (N : ℕ) (s : Ends) (n : Next) : Type 0 where
@@ -208,6 +208,6 @@ pub record Busy (N : ℕ) (s : Ends) (n : Next) (f : LineBlock) : Type 0 where
 -- a data item that arrives whole, with r items taken: it is item r, the one before it or the one after it, and the end is
 -- not taken
 pub record Neighbour (r ended i : ℕ) : Type 0 where
-  pub open-end : ended ≡ 0
+  pub open_end : ended ≡ 0
   pub low : r ≤ i + 1
   pub high : i ≤ r + 1

@@ -6,11 +6,11 @@ use native.Mathlib.Omega.{arith}
 use Rattle.line.specs.declared.sender.Next.{Next}
 use Rattle.line.specs.declared.sender.Next.TheVariants.{Sync, Older, Newer}
 use Rattle.line.specs.declared.receiving.Event.{Event}
-use Rattle.line.proofs.Delivery.Ends.{Ends, isNewer, isSync, LineBlock, sync, item, SameReceiver, SameSender, Sends, Reads, Basic, Between, During, FromPair, syncing, below, last, cancelled, Alarmed, Idle, Busy, Neighbour}
+use Rattle.line.proofs.Delivery.Ends.{Ends, is_newer, is_sync, LineBlock, sync, item, SameReceiver, SameSender, Sends, Reads, Basic, Between, During, FromPair, syncing, below, last, cancelled, Alarmed, Idle, Busy, Neighbour}
 use Rattle.line.proofs.Delivery.Ends as D
 
 pub opened-idle : (N : ℕ) (s : Ends) → s.item ≡ 1 → s.run ≡ 0 → s.opening ≡ 1 → s.finished ≡ 0 → s.search ≡ 1
-    → s.bad-row ≡ 0 → s.back ≡ 1 → s.taken ≡ 0 → s.ended ≡ 0 → s.alarm ≡ 0 → s.lost ≡ 0 → s.danger ≡ 0 → Idle N s Sync
+    → s.bad_row ≡ 0 → s.back ≡ 1 → s.taken ≡ 0 → s.ended ≡ 0 → s.alarm ≡ 0 → s.lost ≡ 0 → s.danger ≡ 0 → Idle N s Sync
 opened-idle N s a b c d f g h i j k l m =
     record { basic = omega arith; all = λ y. absurd (omega arith); state = inr (omega arith) }
 
@@ -19,77 +19,77 @@ opened-idle N s a b c d f g h i j k l m =
 pub alarmed-idle : {N : ℕ} {s : Ends} {n : Next} → Idle N s n → s.alarm ≡ 1 → Alarmed s
 alarmed-idle h a = ⊎_elim (λ b. b) (λ b. absurd (omega arith)) h.state
 
-pub alarmed-busy : {N : ℕ} {s : Ends} {n : Next} {f : LineBlock} → Busy N s n f → s.alarm ≡ 1 → Alarmed s
-alarmed-busy h a = ⊎_elim (λ b. b) (λ b. absurd (omega arith)) h.state
+pub alarmed_busy : {N : ℕ} {s : Ends} {n : Next} {f : LineBlock} → Busy N s n f → s.alarm ≡ 1 → Alarmed s
+alarmed_busy h a = ⊎_elim (λ b. b) (λ b. absurd (omega arith)) h.state
 
 -- ---- sending keeps it
 
-all-kept : {N r e r' e' : ℕ} → r' ≡ r → e' ≡ e → (e ≡ 1 → r ≡ N) → e' ≡ 1 → r' ≡ N
-all-kept {N} {r} {e} p q a h = let z : r ≡ N = a (omega arith) in omega arith
+all_kept : {N r e r' e' : ℕ} → r' ≡ r → e' ≡ e → (e ≡ 1 → r ≡ N) → e' ≡ 1 → r' ≡ N
+all_kept {N} {r} {e} p q a h = let z : r ≡ N = a (omega arith) in omega arith
 
 module _ {N : ℕ} {s t : Ends} {n n' : Next} {f : LineBlock} where
-  busy-of : Idle N s n → SameReceiver s t → (Alarmed s → Basic N t × Alarmed t)
+  busy_of : Idle N s n → SameReceiver s t → (Alarmed s → Basic N t × Alarmed t)
       → (Between s n → Basic N t × During t n' × FromPair N t n' f) → Busy N t n' f
-  busy-of h r alarmed between =
-      let all = all-kept r.taken r.ended h.all in
+  busy_of h r alarmed between =
+      let all = all_kept r.taken r.ended h.all in
       ⊎_elim
       (λ a. let x = alarmed a in record { basic = x.0; all = all; state = inl x.1 })
       (λ b. let x = between b in record { basic = x.0; all = all; state = inr (x.1, x.2) })
       h.state
 
 module _ {N : ℕ} {s t : Ends} {reading : ℕ} where
-  pub send-keeps : {n n' : Next} {f : LineBlock} → Idle N s n → Sends N s reading t n n' f → Busy N t n' f
-  send-keeps h (D.syncs r q d) =
-      busy-of h r (λ a. (omega arith, omega arith)) (λ b. (omega arith, omega arith, syncing (omega arith)))
-  send-keeps h (D.olders r q d e w) =
-      busy-of h r (λ a. (omega arith, omega arith)) (λ b. (omega arith, omega arith, below (omega arith) w))
-  send-keeps h (D.wholes r z e le w i u o f (inl l)) =
-      busy-of h r (λ a. (omega arith, omega arith)) (λ b. (omega arith, omega arith, below (omega arith) w))
-  send-keeps h (D.wholes r z e le w i u o f (inr l)) =
-      busy-of h r (λ a. (omega arith, omega arith)) (λ b. (omega arith, omega arith, below (omega arith) w))
-  send-keeps h (D.lasts r z e le w i u o f (inl l)) =
-      busy-of h r (λ a. (omega arith, omega arith)) (λ b. (omega arith, omega arith, last (omega arith) (omega arith) w))
-  send-keeps h (D.lasts r z e le w i u o f (inr l)) =
-      busy-of h r (λ a. (omega arith, omega arith)) (λ b. (omega arith, omega arith, last (omega arith) (omega arith) w))
-  send-keeps h (D.cancels-older r z e i u lt o o' f l d) =
-      busy-of h r (λ a. (omega arith, omega arith)) (λ b. (omega arith, omega arith, cancelled refl))
-  send-keeps h (D.cancels-sync r z e i u ge o f l d) =
-      busy-of h r (λ a. (omega arith, omega arith)) (λ b. (omega arith, omega arith, cancelled refl))
+  pub send_keeps : {n n' : Next} {f : LineBlock} → Idle N s n → Sends N s reading t n n' f → Busy N t n' f
+  send_keeps h (D.syncs r q d) =
+      busy_of h r (λ a. (omega arith, omega arith)) (λ b. (omega arith, omega arith, syncing (omega arith)))
+  send_keeps h (D.olders r q d e w) =
+      busy_of h r (λ a. (omega arith, omega arith)) (λ b. (omega arith, omega arith, below (omega arith) w))
+  send_keeps h (D.wholes r z e le w i u o f (inl l)) =
+      busy_of h r (λ a. (omega arith, omega arith)) (λ b. (omega arith, omega arith, below (omega arith) w))
+  send_keeps h (D.wholes r z e le w i u o f (inr l)) =
+      busy_of h r (λ a. (omega arith, omega arith)) (λ b. (omega arith, omega arith, below (omega arith) w))
+  send_keeps h (D.lasts r z e le w i u o f (inl l)) =
+      busy_of h r (λ a. (omega arith, omega arith)) (λ b. (omega arith, omega arith, last (omega arith) (omega arith) w))
+  send_keeps h (D.lasts r z e le w i u o f (inr l)) =
+      busy_of h r (λ a. (omega arith, omega arith)) (λ b. (omega arith, omega arith, last (omega arith) (omega arith) w))
+  send_keeps h (D.cancels_older r z e i u lt o o' f l d) =
+      busy_of h r (λ a. (omega arith, omega arith)) (λ b. (omega arith, omega arith, cancelled refl))
+  send_keeps h (D.cancels_sync r z e i u ge o f l d) =
+      busy_of h r (λ a. (omega arith, omega arith)) (λ b. (omega arith, omega arith, cancelled refl))
 
 -- ---- reading keeps it
 
-newer-le : (n : Next) → isNewer n ≤ 1
-newer-le Sync = omega arith
-newer-le Older = omega arith
-newer-le Newer = omega arith
+newer_le : (n : Next) → is_newer n ≤ 1
+newer_le Sync = omega arith
+newer_le Older = omega arith
+newer_le Newer = omega arith
 
 -- a whole item on the line: the newer is next, and it is the one before, or the last
 record Whole (N : ℕ) (s : Ends) (n : Next) (i : ℕ) : Type 0 where
-  next : isNewer n ≡ 1
-  not-sync : isSync n ≡ 0
-  as-data : i < N → s.item ≡ i + 1
-  as-end : N ≤ i → s.item ≡ N + 1
+  next : is_newer n ≡ 1
+  not_sync : is_sync n ≡ 0
+  as_data : i < N → s.item ≡ i + 1
+  as_end : N ≤ i → s.item ≡ N + 1
 
 whole_of : {N : ℕ} {s : Ends} {n : Next} {i w : ℕ} → Basic N s → FromPair N s n (item i w) → w ≡ 1 → Whole N s n i
-whole_of g (below e l) h = record { next = refl; not-sync = refl; as-data = λ l. omega arith; as-end = λ l. omega arith }
-whole_of g (last e q l) h = record { next = refl; not-sync = refl; as-data = λ l. absurd (omega arith); as-end = λ l. q }
+whole_of g (below e l) h = record { next = refl; not_sync = refl; as_data = λ l. omega arith; as_end = λ l. omega arith }
+whole_of g (last e q l) h = record { next = refl; not_sync = refl; as_data = λ l. absurd (omega arith); as_end = λ l. q }
 whole_of g (cancelled z) h = absurd (omega arith)
 
-sync-of : {N : ℕ} {s : Ends} {n : Next} → FromPair N s n sync
-    → (isNewer n ≡ 0) × (isSync n ≡ 0) × (4 ≤ s.run + 4 * s.opening + 4 * s.lost)
-sync-of (syncing h) = (refl, refl, h)
+sync_of : {N : ℕ} {s : Ends} {n : Next} → FromPair N s n sync
+    → (is_newer n ≡ 0) × (is_sync n ≡ 0) × (4 ≤ s.run + 4 * s.opening + 4 * s.lost)
+sync_of (syncing h) = (refl, refl, h)
 
-pub zero-or-one : (n : ℕ) → n ≤ 1 → (n ≡ 0) ⊎ (n ≡ 1)
-zero-or-one zero h = inl refl
-zero-or-one (suc n) h = inr (omega arith)
+pub zero-or_one : (n : ℕ) → n ≤ 1 → (n ≡ 0) ⊎ (n ≡ 1)
+zero-or_one zero h = inl refl
+zero-or_one (suc n) h = inr (omega arith)
 
 pub neighbour : {N : ℕ} {s : Ends} {n : Next} {i : ℕ} → Busy N s n (item i 1) → s.alarm ≡ 0 → i < N
     → Neighbour s.taken s.ended i
 neighbour {s = s} h a l =
     ⊎_elim
     (λ b. absurd (omega arith))
-    (λ b. let v = (whole_of h.basic b.1 refl).as-data l in
-    ⊎_elim (λ z. omega arith) (λ z. let q = h.all z in absurd (omega arith)) (zero-or-one s.ended h.basic.ended))
+    (λ b. let v = (whole_of h.basic b.1 refl).as_data l in
+    ⊎_elim (λ z. omega arith) (λ z. let q = h.all z in absurd (omega arith)) (zero-or_one s.ended h.basic.ended))
     h.state
 
 module _ {N : ℕ} {s t : Ends} {n : Next} where
@@ -99,7 +99,7 @@ module _ {N : ℕ} {s t : Ends} {n : Next} where
   kept h a p q x =
       ⊎_elim
       (λ b. absurd (omega arith))
-      (λ b. let y = x b.0 b.1 in record { basic = y.0; all = all-kept p q h.all; state = y.1 })
+      (λ b. let y = x b.0 b.1 in record { basic = y.0; all = all_kept p q h.all; state = y.1 })
       h.state
 
   -- a whole item: with the facts on which item it is
@@ -108,42 +108,42 @@ module _ {N : ℕ} {s t : Ends} {n : Next} where
 
   -- an alarm comes only where a request was lost and no good block was read since, and the end is not taken
   alarmed : {f : LineBlock} → Busy N s n f → SameSender s t → D.Alarms s t 0 → s.danger ≡ 1 → s.ended ≡ 0 → Idle N t n
-  alarmed h q r d e0 = record { basic = omega arith; all = all-kept r.taken r.ended h.all; state = inl (omega arith) }
+  alarmed h q r d e0 = record { basic = omega arith; all = all_kept r.taken r.ended h.all; state = inl (omega arith) }
 
   pub read_keeps : {f : LineBlock} {e : Event} → Busy N s n f → Reads N s t f e → Idle N t n
-  read_keeps h (D.under-alarm q r a) =
+  read_keeps h (D.under_alarm_lem q r a) =
       ⊎_elim
-      (λ b. record { basic = omega arith; all = all-kept r.taken r.ended h.all; state = inl (omega arith) })
+      (λ b. record { basic = omega arith; all = all_kept r.taken r.ended h.all; state = inl (omega arith) })
       (λ b. absurd (omega arith))
       h.state
   read_keeps h (D.searches q r d a z) =
-      kept h a r.taken r.ended (λ b c. (omega arith, inr (omega (arith, newer-le n))))
+      kept h a r.taken r.ended (λ b c. (omega arith, inr (omega (arith, newer_le n))))
   read_keeps h (D.syncs q a r) =
-      kept h a r.taken r.ended (λ b c. let c = sync-of c in (omega arith, inr (omega arith)))
-  read_keeps h (D.bad-step q a lt f r) =
-      kept h a.alarm r.taken r.ended (λ b c. (omega arith, inr (omega (arith, newer-le n))))
-  read_keeps h (D.bad-eighth q a w f r) =
-      kept h a.alarm r.taken r.ended (λ b c. (omega arith, inr (omega (arith, newer-le n))))
-  read_keeps h (D.bad-first q a k0 r) =
-      kept h a.alarm r.taken r.ended (λ b c. let c = sync-of c in (omega arith, inr (omega (arith, newer-le n))))
+      kept h a r.taken r.ended (λ b c. let c = sync_of c in (omega arith, inr (omega arith)))
+  read_keeps h (D.bad_step q a lt f r) =
+      kept h a.alarm r.taken r.ended (λ b c. (omega arith, inr (omega (arith, newer_le n))))
+  read_keeps h (D.bad_eighth q a w f r) =
+      kept h a.alarm r.taken r.ended (λ b c. (omega arith, inr (omega (arith, newer_le n))))
+  read_keeps h (D.bad_first q a k0 r) =
+      kept h a.alarm r.taken r.ended (λ b c. let c = sync_of c in (omega arith, inr (omega (arith, newer_le n))))
   read_keeps h (D.accepts q a i e0 m r) =
       kept_whole h a.alarm
-      (λ b c. let v = c.as-data i in
+      (λ b c. let v = c.as_data i in
       record { basic = omega arith; all = λ y. absurd (omega arith); state = inr (omega arith) })
   read_keeps h (D.repeats q a i e0 m r) =
       kept_whole h a.alarm
-      (λ b c. let v = c.as-data i in
+      (λ b c. let v = c.as_data i in
       record { basic = omega arith; all = λ y. absurd (omega arith); state = inr (omega arith) })
-  read_keeps h (D.out-of-sequence q a i e0 m r) =
-      kept_whole h a.alarm (λ b c. let v = c.as-data i in alarmed h q r (omega arith) e0)
+  read_keeps h (D.out_of_sequence q a i e0 m r) =
+      kept_whole h a.alarm (λ b c. let v = c.as_data i in alarmed h q r (omega arith) e0)
   read_keeps h (D.ends q a i e0 m r) =
       kept_whole h a.alarm
-      (λ b c. let v = c.as-end i in record { basic = omega arith; all = λ y. omega arith; state = inr (omega arith) })
-  read_keeps h (D.ends-again q a i e0 r) =
+      (λ b c. let v = c.as_end i in record { basic = omega arith; all = λ y. omega arith; state = inr (omega arith) })
+  read_keeps h (D.ends_again q a i e0 r) =
       let z = h.all e0 in
       kept_whole h a.alarm
-      (λ b c. let v = c.as-end i in record { basic = omega arith; all = λ y. omega arith; state = inr (omega arith) })
-  read_keeps h (D.wrong-length q a i e0 m r) =
-      kept_whole h a.alarm (λ b c. let v = c.as-end i in alarmed h q r (omega arith) e0)
+      (λ b c. let v = c.as_end i in record { basic = omega arith; all = λ y. omega arith; state = inr (omega arith) })
+  read_keeps h (D.wrong_length q a i e0 m r) =
+      kept_whole h a.alarm (λ b c. let v = c.as_end i in alarmed h q r (omega arith) e0)
   read_keeps h (D.waits q a r) =
-      kept h a.alarm r.taken r.ended (λ b c. (omega arith, inr (omega (arith, newer-le n))))
+      kept h a.alarm r.taken r.ended (λ b c. (omega arith, inr (omega (arith, newer_le n))))

@@ -15,27 +15,27 @@ pub final-append : (w : World) (a b : List Call) → final w (a ++ b) ≡ final 
 final-append w [] b = refl
 final-append w (c ∷ a) b = final-append (next w c) a b
 
-pub all-prefix : {A : Type 0} (P : A → Type 0) (a b : List A) → All P (a ++ b) → All P a
-all-prefix P [] b h = tt
-all-prefix P (x ∷ a) b h = (h.0, all-prefix P a b h.1)
+pub all_prefix : {A : Type 0} (P : A → Type 0) (a b : List A) → All P (a ++ b) → All P a
+all_prefix P [] b h = tt
+all_prefix P (x ∷ a) b h = (h.0, all_prefix P a b h.1)
 
 module _ (k : ℕ) (content : Bits) where
-  prefix-entries : (a b : List Entry) → Assumptions k content (a ++ b) → Assumptions k content a
-  prefix-entries a b h =
+  prefix_entries : (a b : List Entry) → Assumptions k content (a ++ b) → Assumptions k content a
+  prefix_entries a b h =
       record {
-        line = all-prefix _ a b h.line;
-        order = all-prefix _ a b h.order;
-        store = all-prefix _ a b h.store;
-        damage = all-prefix _ a b h.damage;
-        not-whole = all-prefix _ a b h.not-whole;
-        sync-at-last = all-prefix _ a b h.sync-at-last;
-        sync-not-data = all-prefix _ a b h.sync-not-data;
-        between-losses = λ before between behind p q e. h.between-losses before between (behind ++ b) p q (split before between behind p q e);
+        line = all_prefix _ a b h.line;
+        order = all_prefix _ a b h.order;
+        store = all_prefix _ a b h.store;
+        damage = all_prefix _ a b h.damage;
+        not-whole = all_prefix _ a b h.not-whole;
+        sync_at_last = all_prefix _ a b h.sync_at_last;
+        sync_not_data = all_prefix _ a b h.sync_not_data;
+        between_losses = λ before between behind p q e. h.between_losses before between (behind ++ b) p q (split before between behind p q e);
       }
     where
       split : (before between behind : List Entry) (p q : Entry) → a ≡ before ++ (p ∷ (between ++ (q ∷ behind)))
           → a ++ b ≡ before ++ (p ∷ (between ++ (q ∷ (behind ++ b))))
       split before between behind p q e = rw e (simp append_assoc)
 
-  pub prefix-assumptions : (w : World) (a b : List Call) → Assumptions k content (course w (a ++ b)) → Assumptions k content (course w a)
-  prefix-assumptions w a b h = prefix-entries (course w a) (course (final w a) b) (rw (sym (course-append w a b)) h)
+  pub prefix_assumptions : (w : World) (a b : List Call) → Assumptions k content (course w (a ++ b)) → Assumptions k content (course w a)
+  prefix_assumptions w a b h = prefix_entries (course w a) (course (final w a) b) (rw (sym (course-append w a b)) h)

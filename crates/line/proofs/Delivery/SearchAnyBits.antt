@@ -10,8 +10,8 @@ use lib.ListN.{length, drop, length-append, length-drop}
 use lib.Seq.{drop-append-le, drop-drop, drop_at}
 use borrow.Author.Tests.{eq-eqb}
 use Rattle.crc.specs.Bits.{Bits, number}
-use Rattle.block.specs.Block.{serviceSync, syncSequence, tens, syncBlock}
-use Rattle.line.specs.Receiving.{Reception, unfinished, sequence-found, stops, latest, searching, isSequence, search}
+use Rattle.block.specs.Block.{service_sync, sync_sequence, tens, sync_block}
+use Rattle.line.specs.Receiving.{Reception, unfinished, sequence_found, stops, latest, searching, is_sequence, search}
 use Rattle.line.specs.declared.receiver.Receiver.{Receiver}
 
 -- the latest 16 bits
@@ -21,14 +21,14 @@ latest16 row = drop (length row - 16) row
 pub length-latest : (row : Bits) → length (latest row) ≤ 15
 length-latest row = omega (arith, length-drop (length row - 15) row)
 
-latest-snoc : (earlier : Bits) (b : Bool) → latest earlier ++ (b ∷ []) ≡ latest16 (earlier ++ (b ∷ []))
-latest-snoc earlier b =
+latest_snoc : (earlier : Bits) (b : Bool) → latest earlier ++ (b ∷ []) ≡ latest16 (earlier ++ (b ∷ []))
+latest_snoc earlier b =
     let e : length (earlier ++ (b ∷ [])) - 16 ≡ length earlier - 15 = omega (arith, length-append earlier (b ∷ [])) in
     sym (ap (λ (n : ℕ). drop n (earlier ++ (b ∷ []))) e
     ∙ drop-append-le (length earlier - 15) earlier (b ∷ []) (omega arith))
 
-latest-latest16 : (row : Bits) → latest (latest16 row) ≡ latest row
-latest-latest16 row =
+latest_latest16 : (row : Bits) → latest (latest16 row) ≡ latest row
+latest_latest16 row =
     let e : length row - 16 + (length (latest16 row) - 15) ≡ length row - 15 =
     omega (arith, length-drop (length row - 16) row) in
     drop-drop (length (latest16 row) - 15) (length row - 16) row ∙ ap (λ (n : ℕ). drop n row) e
@@ -40,46 +40,46 @@ unfound s window used = record { rule = unfinished; row = []; used = used; state
 pub record GoesOn (s : Receiver) (earlier new : Bits) (used : ℕ) : Type 0 where
   pub is : search s (latest earlier) new used
       ≡ record { rule = unfinished; row = []; used = used + length new; state = searching s (latest (earlier ++ new)) }
-  pub last : (new ≡ []) ⊎ (isSequence (latest16 (earlier ++ new)) ≡ false)
+  pub last : (new ≡ []) ⊎ (is_sequence (latest16 (earlier ++ new)) ≡ false)
 
 -- one of them does
 abbrev pub Finds : Receiver → Bits → Bits → ℕ → Type 0
-Finds s earlier new used = (n : ℕ) × (search s (latest earlier) new used ≡ stops s sequence-found [] n)
+Finds s earlier new used = (n : ℕ) × (search s (latest earlier) new used ≡ stops s sequence_found [] n)
 
 module _ (s : Receiver) where
-  step-on : (earlier : Bits) (b : Bool) (bs : Bits) (used : ℕ) → isSequence (latest earlier ++ (b ∷ [])) ≡ false
+  step_on : (earlier : Bits) (b : Bool) (bs : Bits) (used : ℕ) → is_sequence (latest earlier ++ (b ∷ [])) ≡ false
       → search s (latest earlier) (b ∷ bs) used ≡ search s (latest (earlier ++ (b ∷ []))) bs (suc used)
-  step-on earlier b bs used e =
-      ap (λ (t : Bool). cond t (stops s sequence-found [] (suc used))
+  step_on earlier b bs used e =
+      ap (λ (t : Bool). cond t (stops s sequence_found [] (suc used))
       (search s (latest (latest earlier ++ (b ∷ []))) bs (suc used))) e
       ∙ ap (λ (window : Bits). search s window bs (suc used))
-      (ap latest (latest-snoc earlier b) ∙ latest-latest16 (earlier ++ (b ∷ [])))
+      (ap latest (latest_snoc earlier b) ∙ latest_latest16 (earlier ++ (b ∷ [])))
 
-  step-found : (earlier : Bits) (b : Bool) (bs : Bits) (used : ℕ) → isSequence (latest earlier ++ (b ∷ [])) ≡ true
-      → search s (latest earlier) (b ∷ bs) used ≡ stops s sequence-found [] (suc used)
-  step-found earlier b bs used e =
-      ap (λ (t : Bool). cond t (stops s sequence-found [] (suc used))
+  step_found : (earlier : Bits) (b : Bool) (bs : Bits) (used : ℕ) → is_sequence (latest earlier ++ (b ∷ [])) ≡ true
+      → search s (latest earlier) (b ∷ bs) used ≡ stops s sequence_found [] (suc used)
+  step_found earlier b bs used e =
+      ap (λ (t : Bool). cond t (stops s sequence_found [] (suc used))
       (search s (latest (latest earlier ++ (b ∷ []))) bs (suc used))) e
 
-  no-sequence : (earlier : Bits) (b : Bool) (bs : Bits) → isSequence (latest earlier ++ (b ∷ [])) ≡ false
-      → (bs ≡ []) ⊎ (isSequence (latest16 ((earlier ++ (b ∷ [])) ++ bs)) ≡ false)
-      → isSequence (latest16 ((earlier ++ (b ∷ [])) ++ bs)) ≡ false
-  no-sequence earlier b bs e (inl z) =
-      ap (λ (y : Bits). isSequence (latest16 y))
+  no_sequence : (earlier : Bits) (b : Bool) (bs : Bits) → is_sequence (latest earlier ++ (b ∷ [])) ≡ false
+      → (bs ≡ []) ⊎ (is_sequence (latest16 ((earlier ++ (b ∷ [])) ++ bs)) ≡ false)
+      → is_sequence (latest16 ((earlier ++ (b ∷ [])) ++ bs)) ≡ false
+  no_sequence earlier b bs e (inl z) =
+      ap (λ (y : Bits). is_sequence (latest16 y))
       (ap (λ (y : Bits). (earlier ++ (b ∷ [])) ++ y) z ∙ append-nil (earlier ++ (b ∷ [])))
-      ∙ ap isSequence (sym (latest-snoc earlier b)) ∙ e
-  no-sequence earlier b bs e (inr z) = z
+      ∙ ap is_sequence (sym (latest_snoc earlier b)) ∙ e
+  no_sequence earlier b bs e (inr z) = z
 
-  pub search-reads : (earlier new : Bits) (used : ℕ) → GoesOn s earlier new used ⊎ Finds s earlier new used
-  search-reads earlier [] used =
+  pub search_reads : (earlier new : Bits) (used : ℕ) → GoesOn s earlier new used ⊎ Finds s earlier new used
+  search_reads earlier [] used =
       let n : used ≡ used + 0 = omega arith in
       inl (record {
         is = ap (λ (y : Bits). unfound s (latest y) used) (sym (append-nil earlier))
             ∙ ap (unfound s (latest (earlier ++ []))) n;
         last = inl refl;
       })
-  search-reads earlier (b ∷ bs) used =
-      go (isSequence (latest earlier ++ (b ∷ []))) refl (search-reads (earlier ++ (b ∷ [])) bs (suc used))
+  search_reads earlier (b ∷ bs) used =
+      go (is_sequence (latest earlier ++ (b ∷ []))) refl (search_reads (earlier ++ (b ∷ [])) bs (suc used))
     where
       a : (earlier ++ (b ∷ [])) ++ bs ≡ earlier ++ (b ∷ bs)
       a = append_assoc earlier (b ∷ []) bs
@@ -87,31 +87,31 @@ module _ (s : Receiver) where
       n : suc used + length bs ≡ used + length (b ∷ bs)
       n = omega arith
 
-      go : (t : Bool) → isSequence (latest earlier ++ (b ∷ [])) ≡ t
+      go : (t : Bool) → is_sequence (latest earlier ++ (b ∷ [])) ≡ t
           → GoesOn s (earlier ++ (b ∷ [])) bs (suc used) ⊎ Finds s (earlier ++ (b ∷ [])) bs (suc used)
           → GoesOn s earlier (b ∷ bs) used ⊎ Finds s earlier (b ∷ bs) used
-      go true e r = inr (suc used, step-found earlier b bs used e)
+      go true e r = inr (suc used, step_found earlier b bs used e)
       go false e (inl r) =
           inl (record {
-            is = step-on earlier b bs used e ∙ r.is ∙ ap (λ (y : Bits). unfound s (latest y) (suc used + length bs)) a
+            is = step_on earlier b bs used e ∙ r.is ∙ ap (λ (y : Bits). unfound s (latest y) (suc used + length bs)) a
                 ∙ ap (unfound s (latest (earlier ++ (b ∷ bs)))) n;
-            last = inr (ap (λ (y : Bits). isSequence (latest16 y)) (sym a) ∙ no-sequence earlier b bs e r.last);
+            last = inr (ap (λ (y : Bits). is_sequence (latest16 y)) (sym a) ∙ no_sequence earlier b bs e r.last);
           })
-      go false e (inr r) = inr (r.0, step-on earlier b bs used e ∙ r.1)
+      go false e (inr r) = inr (r.0, step_on earlier b bs used e ∙ r.1)
 
 -- behind any bits, a synchronising block ends with the sequence
-pub sync-ends : (k : ℕ) (earlier : Bits) → isSequence (latest16 (earlier ++ syncBlock k)) ≡ true
-unfolding syncBlock
-sync-ends k earlier = ap isSequence tail ∙ eq-eqb (number syncSequence) (number syncSequence) refl
+pub sync_ends : (k : ℕ) (earlier : Bits) → is_sequence (latest16 (earlier ++ sync_block k)) ≡ true
+unfolding sync_block
+sync_ends k earlier = ap is_sequence tail ∙ eq-eqb (number sync_sequence) (number sync_sequence) refl
   where
-    e : earlier ++ ((serviceSync ++ tens (k / 2)) ++ syncSequence)
-        ≡ (earlier ++ (serviceSync ++ tens (k / 2))) ++ syncSequence
-    e = sym (append_assoc earlier (serviceSync ++ tens (k / 2)) syncSequence)
+    e : earlier ++ ((service_sync ++ tens (k / 2)) ++ sync_sequence)
+        ≡ (earlier ++ (service_sync ++ tens (k / 2))) ++ sync_sequence
+    e = sym (append_assoc earlier (service_sync ++ tens (k / 2)) sync_sequence)
 
-    n : length (earlier ++ (serviceSync ++ tens (k / 2))) ≡ length
-        ((earlier ++ (serviceSync ++ tens (k / 2))) ++ syncSequence) - 16
-    n = omega (arith, length-append (earlier ++ (serviceSync ++ tens (k / 2))) syncSequence)
+    n : length (earlier ++ (service_sync ++ tens (k / 2))) ≡ length
+        ((earlier ++ (service_sync ++ tens (k / 2))) ++ sync_sequence) - 16
+    n = omega (arith, length-append (earlier ++ (service_sync ++ tens (k / 2))) sync_sequence)
 
-    tail : latest16 (earlier ++ ((serviceSync ++ tens (k / 2)) ++ syncSequence)) ≡ syncSequence
-    tail = ap latest16 e ∙ drop_at (earlier ++ (serviceSync ++ tens (k / 2))) syncSequence
-        (length ((earlier ++ (serviceSync ++ tens (k / 2))) ++ syncSequence) - 16) n
+    tail : latest16 (earlier ++ ((service_sync ++ tens (k / 2)) ++ sync_sequence)) ≡ sync_sequence
+    tail = ap latest16 e ∙ drop_at (earlier ++ (service_sync ++ tens (k / 2))) sync_sequence
+        (length ((earlier ++ (service_sync ++ tens (k / 2))) ++ sync_sequence) - 16) n

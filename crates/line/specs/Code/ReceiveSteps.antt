@@ -2,7 +2,7 @@
 -- Assumes nothing.
 use Rattle.std.specs.Prelude.{◌≡◌, Bool, true, List, ℕ, ◌*◌, ◌^◌, ◌≤◌, ◌<◌, length}
 use Rattle.crc.specs.Bits.{Bits, binary}
-use Rattle.block.specs.Lengths.{isLength, blockLength}
+use Rattle.block.specs.Lengths.{is_length, block_length}
 use Rattle.line.specs.declared.receiver.Receiver.{Receiver}
 use Rattle.line.specs.declared.receiving.Event.{Event}
 use Rattle.line.specs.declared.receiver.Step.{Step}
@@ -15,24 +15,24 @@ use Rattle.line.specs.declared.rules.Rule.TheVariants as C
 use Rattle.line.specs.declared.marks.CodeSize.TheVariants as Size
 use Rattle.line.specs.declared.receiver.Opened.{Opened}
 use Rattle.line.specs.declared.receiver.Opening.TheVariants as O
-use Rattle.line.specs.Marks.{marksOf}
-use Rattle.line.specs.Order.{mostItems}
-use Rattle.line.specs.Receiving.{arrayBytes, freshReceiver, lastBad, Rule, accepts, previous, out-of-sequence, ends, wrong-length, ends-again, anything-else, waits, meaning, blockRule, stops, Reception, judgeStore, receivedAnswer, reported, receiveState, receiveStore}
-use Rattle.line.specs.ReceivingInPlace.{withArray}
+use Rattle.line.specs.Marks.{marks_of}
+use Rattle.line.specs.Order.{most_items}
+use Rattle.line.specs.Receiving.{array_bytes, fresh_receiver, last_bad, Rule, accepts, previous, out_of_sequence, ends, wrong_length, ends_again, anything_else, waits, meaning, block_rule, stops, Reception, judge_store, received_answer, reported, receive_state, receive_store}
+use Rattle.line.specs.ReceivingInPlace.{with_array}
 
 -- ---- what the private functions ask of their arguments
 
 -- an array of a receiver's length, and a head whose fields that a block's judging uses are in range
 pub record HeadInRange (h : Head) (array : List ℕ) : Type 0 where
-  pub array-length : length array ≡ arrayBytes
-  pub known : isLength h.setup.k ≡ true
-  pub bad-row : h.bad_row < lastBad
-  pub items : h.taken ≤ mostItems
+  pub array_length : length array ≡ array_bytes
+  pub known : is_length h.setup.k ≡ true
+  pub bad_row : h.bad_row < last_bad
+  pub items : h.taken ≤ most_items
 
 -- and a slice that holds the n bits of a block
 pub record FinishedBlock (h : Head) (array slice : List ℕ) : Type 0 where
   pub range : HeadInRange h array
-  pub held : blockLength h.setup.k ≤ 8 * length slice
+  pub held : block_length h.setup.k ≤ 8 * length slice
 
 -- a window of at most 15 bits
 pub record WindowInRange (w : Window) : Type 0 where
@@ -42,45 +42,45 @@ pub record WindowInRange (w : Window) : Type 0 where
 -- ---- what they promise
 
 -- the rule that each case of the code's enum stands for
-abbrev pub ruleOf : D.Rule → Rule
-ruleOf C.Accepts = accepts
-ruleOf C.Previous = previous
-ruleOf C.OutOfSequence = out-of-sequence
-ruleOf (C.Ends L) = ends L
-ruleOf C.WrongLength = wrong-length
-ruleOf C.EndsAgain = ends-again
-ruleOf C.AnythingElse = anything-else
-ruleOf C.Waits = waits
+abbrev pub rule_of : D.Rule → Rule
+rule_of C.Accepts = accepts
+rule_of C.Previous = previous
+rule_of C.OutOfSequence = out_of_sequence
+rule_of (C.Ends L) = ends L
+rule_of C.WrongLength = wrong_length
+rule_of C.EndsAgain = ends_again
+rule_of C.AnythingElse = anything_else
+rule_of C.Waits = waits
 
 -- the bits that a window holds
-abbrev pub windowBits : Window → Bits
-windowBits w = binary w.held w.number
+abbrev pub window_bits : Window → Bits
+window_bits w = binary w.held w.number
 
 -- what a call hands back, its head and the array as one state
-abbrev pub stepWith : HeadStep → List ℕ → Step
-stepWith r array = record { state = withArray r.head array; answer = r.answer }
+abbrev pub step_with : HeadStep → List ℕ → Step
+step_with r array = record { state = with_array r.head array; answer = r.answer }
 
-abbrev pub turnedAway : Head → ℕ → HeadStep
-turnedAway h n = record { head = h; answer = R.Refused n }
+abbrev pub turned_away : Head → ℕ → HeadStep
+turned_away h n = record { head = h; answer = R.Refused n }
 
 -- a state, an event and the bits used, as a call hands them back
 abbrev pub stepped : Receiver → Event → ℕ → Step
 stepped s event used = record { state = s; answer = R.Used event used }
 
 -- what a call hands back for what it read where nothing is stored
-abbrev pub handedBack : Reception → Step
-handedBack x = stepped x.state (meaning x.rule).event x.used
+abbrev pub handed_back : Reception → Step
+handed_back x = stepped x.state (meaning x.rule).event x.used
 
 -- what a refused opening hands back
-abbrev pub refusedOpening : ℕ → Opened
-refusedOpening n = record { state = freshReceiver 0 (marksOf Size.NotGiven); answer = O.Refused n }
+abbrev pub refused_opening : ℕ → Opened
+refused_opening n = record { state = fresh_receiver 0 (marks_of Size.NotGiven); answer = O.Refused n }
 
 -- what is read where these n bits complete a block
 abbrev pub judged : Receiver → Bits → Bool → ℕ → Reception
-judged s row ready used = stops s (blockRule s row ready) row used
+judged s row ready used = stops s (block_rule s row ready) row used
 
 -- what a call hands back for what it read, the store judged
 pub record Handed (s : Receiver) (store : List ℕ) (x : Reception) (result : Step) (store' : List ℕ) : Type 0 where
-  pub answers : receivedAnswer result.answer ≡ reported (judgeStore s store x)
-  pub state : result.state ≡ receiveState s (judgeStore s store x)
-  pub writes : store' ≡ receiveStore s store (judgeStore s store x)
+  pub answers : received_answer result.answer ≡ reported (judge_store s store x)
+  pub state : result.state ≡ receive_state s (judge_store s store x)
+  pub writes : store' ≡ receive_store s store (judge_store s store x)

@@ -1,25 +1,25 @@
 -- What a sending call is given and does once it is not refused. Assumes nothing.
 use Rattle.std.specs.Prelude.{◌≡◌, Bool, true, List, ℕ, ◌*◌, ◌≤◌, ◌<◌, length}
 use Rattle.block.specs.Answer.{done}
-use Rattle.block.specs.Lengths.{blockLength}
+use Rattle.block.specs.Lengths.{block_length}
 use Rattle.line.specs.declared.sender.Sender.{Sender}
 use Rattle.line.specs.declared.sender.Next.{Next}
 use Rattle.line.specs.declared.sender.Step.{Step}
-use Rattle.line.specs.Sending.{lastRun, transmit, senderInRange, sendBytes, sentAnswer}
+use Rattle.line.specs.Sending.{last_run, transmit, sender_in_range, send_bytes, sent_answer}
 
 -- a state in range that is not at rest for giving up
 pub record GoingOn (s : Sender) : Type 0 where
-  pub range : senderInRange s ≡ true
-  pub run : s.run < lastRun
+  pub range : sender_in_range s ≡ true
+  pub run : s.run < last_run
 
 -- such a state, with the order lent whole and room for the block
 pub record Lent (s : Sender) (order slice : List ℕ) : Type 0 where
   pub sender : GoingOn s
-  pub order-lent : s.setup.length ≤ 8 * length order
-  pub room : blockLength s.setup.k ≤ 8 * length slice
+  pub order_lent : s.setup.length ≤ 8 * length order
+  pub room : block_length s.setup.k ≤ 8 * length slice
 
 -- the block that is next goes out
 pub record Sends (s : Sender) (next : Next) (reading : Bool) (order slice : List ℕ) (result : Step) (slice' : List ℕ) : Type 0 where
-  pub answers : sentAnswer result.answer ≡ done (transmit s next reading).block
+  pub answers : sent_answer result.answer ≡ done (transmit s next reading).block
   pub state : result.state ≡ (transmit s next reading).state
-  pub writes : slice' ≡ sendBytes s order slice (done (transmit s next reading).block)
+  pub writes : slice' ≡ send_bytes s order slice (done (transmit s next reading).block)

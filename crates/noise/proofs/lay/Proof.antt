@@ -2,8 +2,8 @@
 use Rattle.std.proofs.Common.{◌≡◌, ℕ, ◌+◌, ◌-◌, ◌*◌, ◌/◌, ◌%◌, ◌^◌, ◌<◌, ◌≤◌, List, length, get_or, ap, ◌∙◌, arith, pow_mono, shl_lt, shl_exact, rules}
 use Rattle.crc.specs.Bits.{bits_of}
 use Rattle.crc.proofs.Bytes.{packed}
-use Rattle.noise.specs.Code.{xorThree, laid}
-use Rattle.noise.proofs.Spans.{laid-row}
+use Rattle.noise.specs.Code.{xor_three, laid}
+use Rattle.noise.proofs.Spans.{laid_row}
 use Rattle.noise.proofs.lay.Statement.{statement}
 use Rattle.noise.proofs.lay.Tie as tie
 
@@ -21,10 +21,10 @@ module _ (p j : ℕ) (h : p < 2 ^ 16) (k : j ≤ 8) where
 
 -- what the three bytes make of the slice
 lays : (place p x : ℕ) (s s' : List ℕ) → place / 8 + 3 ≤ length s → p < 2 ^ 16 → x ≡ p * 2 ^ (8 - place % 8)
-    → s' ≡ xorThree (place / 8) (x / 65536) (x / 256 % 256) (x % 256) s → length s' ≡ length s → ((i : ℕ) → get_or s' i 0 < 256)
+    → s' ≡ xor_three (place / 8) (x / 65536) (x / 256 % 256) (x % 256) s → length s' ≡ length s → ((i : ℕ) → get_or s' i 0 < 256)
     → s' ≡ laid place p s
 unfolding laid
-lays place p x s s' h b d e n bytes = packed s' (length s) _ n bytes (ap bits_of e ∙ laid-row place p x s h b d)
+lays place p x s s' h b d e n bytes = packed s' (length s) _ n bytes (ap bits_of e ∙ laid_row place p x s h b d)
 
 sub-span : tie.Need-overflow-sub-span
 sub-span c = search rules
@@ -59,7 +59,7 @@ returns c =
     let a = i.before.before.before.args in
     let b : a.pattern < 2 ^ 16 = search rules in
     lays a.place a.pattern _ a.block.now _ (search rules) b (exact a.pattern (8 - a.place % 8) b (omega arith))
-    i.xor-three.ensures (search rules) (λ i. (c.slice-known2.given i).ranges)
+    i.xor_three_lem.ensures (search rules) (λ i. (c.slice-known2.given i).ranges)
 
 pub lay-spec : {M : Type 1} → statement M
 lay-spec =

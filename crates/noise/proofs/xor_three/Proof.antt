@@ -1,8 +1,8 @@
 -- `xor_three` keeps its promise: three stores. Assumes nothing.
 use Rattle.std.proofs.Common.{◌≡◌, ℕ, ◌+◌, ◌≤◌, List, length, get_or, set, ◌∙◌, ap₂, arith, length-set, get_or-set_other, rules}
 use lib.Bits.{bit_xor}
-use Rattle.block.proofs.Packing.{three-stores}
-use Rattle.noise.specs.Code.{xorThree}
+use Rattle.block.proofs.Packing.{three_stores}
+use Rattle.noise.specs.Code.{xor_three}
 use Rattle.noise.proofs.xor_three.Statement.{statement}
 use Rattle.noise.proofs.xor_three.Tie as tie
 
@@ -14,19 +14,19 @@ module _ (at a b c : ℕ) (s : List ℕ) (h : at + 3 ≤ length s) where
   abbrev second : List ℕ
   second = set first (at + 1) (bit_xor (get_or first (at + 1) 0) b)
 
-  next-byte : get_or first (at + 1) 0 ≡ get_or s (at + 1) 0
-  next-byte = get_or-set_other s at (at + 1) _ 0 (λ (e : at + 1 ≡ at). omega arith)
+  next_byte_lem : get_or first (at + 1) 0 ≡ get_or s (at + 1) 0
+  next_byte_lem = get_or-set_other s at (at + 1) _ 0 (λ (e : at + 1 ≡ at). omega arith)
 
   last_byte : get_or second (at + 2) 0 ≡ get_or s (at + 2) 0
   last_byte =
       get_or-set_other first (at + 1) (at + 2) _ 0 (λ (e : at + 2 ≡ at + 1). omega arith)
       ∙ get_or-set_other s at (at + 2) _ 0 (λ (e : at + 2 ≡ at). omega arith)
 
-  stores : set second (at + 2) (bit_xor (get_or second (at + 2) 0) c) ≡ xorThree at a b c s
-  unfolding xorThree
+  stores : set second (at + 2) (bit_xor (get_or second (at + 2) 0) c) ≡ xor_three at a b c s
+  unfolding xor_three
   stores =
-      ap₂ (λ (y z : ℕ). set (set first (at + 1) (bit_xor y b)) (at + 2) (bit_xor z c)) next-byte last_byte
-      ∙ three-stores s at _ _ _ h
+      ap₂ (λ (y z : ℕ). set (set first (at + 1) (bit_xor y b)) (at + 2) (bit_xor z c)) next_byte_lem last_byte
+      ∙ three_stores s at _ _ _ h
 
 slice-read-block : tie.Need-slice-read-block
 slice-read-block c = search rules

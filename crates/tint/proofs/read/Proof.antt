@@ -10,73 +10,73 @@ use lib.ListN.{length, take, drop, length-drop}
 use lib.Seq.{take_all}
 use Rattle.block.specs.Answer.{Answer, refused, done}
 use Rattle.tint.specs.Refusals as Refusals
-use Rattle.tint.specs.Format.{Dose, dosesIn, isFormat, judgeDoses}
-use Rattle.tint.specs.Calls.{dosesOf, dosesFrom, judgedAnswer, read, dosesRead, Read}
+use Rattle.tint.specs.Format.{Dose, doses_in, is_format, judge_doses}
+use Rattle.tint.specs.Calls.{doses_of, doses_from, judged_answer, read, doses_read, Read}
 use Rattle.tint.specs.declared.Doses.{Doses}
 use Rattle.tint.specs.declared.Judged.TheVariants as J
 use Rattle.tint.specs.declared.OrderRead.{OrderRead}
-use Rattle.tint.proofs.Entries.{length-dosesIn, format-lengths, thirteen-fail, dosesOf-dosesFrom, judge-entry, judge-good, judged-good, judged-refused}
+use Rattle.tint.proofs.Entries.{length-doses_in, format-lengths, thirteen_fail, doses_of-doses_from, judge-entry, judge_good, judged_good, judged_refused}
 use Rattle.tint.proofs.read.Statement.{statement}
 use Rattle.tint.proofs.read.Tie as tie
 
 abbrev judge : List Dose → Answer (Unit {0})
-judge ds = judgeDoses ds (done tt)
+judge ds = judge_doses ds (done tt)
 
 module _ (order : List ℕ) where
   abbrev ds : List Dose
-  ds = dosesIn (drop 3 order)
+  ds = doses_in (drop 3 order)
 
   -- refused, with no doses
-  turned : (n : ℕ) (r : OrderRead) → r ≡ record { answer = J.Refused n; doses = dosesFrom [] } → read order ≡ refused n → Read order r
+  turned : (n : ℕ) (r : OrderRead) → r ≡ record { answer = J.Refused n; doses = doses_from [] } → read order ≡ refused n → Read order r
   turned n r e h =
-      subst (Read order) (sym e) (record { answers = sym h; doses = sym (ap dosesRead h) })
+      subst (Read order) (sym e) (record { answers = sym h; doses = sym (ap doses_read h) })
 
-  other_format : (r : OrderRead) → r ≡ record { answer = J.Refused 10; doses = dosesFrom [] } → isFormat order ≡ false → Read order r
+  other_format : (r : OrderRead) → r ≡ record { answer = J.Refused 10; doses = doses_from [] } → is_format order ≡ false → Read order r
   unfolding read
   other_format r e f = turned Refusals.format r e (rw f refl)
 
-  module _ (f : isFormat order ≡ true) where
-    in-format : read order ≡ judgeDoses ds (done ds)
+  module _ (f : is_format order ≡ true) where
+    in_format : read order ≡ judge_doses ds (done ds)
     unfolding read
-    in-format = rw f refl
+    in_format = rw f refl
 
-    too_many : (r : OrderRead) → r ≡ record { answer = J.Refused 11; doses = dosesFrom [] } → 12 < (length order - 3) / 3 → Read order r
+    too_many : (r : OrderRead) → r ≡ record { answer = J.Refused 11; doses = doses_from [] } → 12 < (length order - 3) / 3 → Read order r
     too_many r e h =
-        let n = length-dosesIn (drop 3 order) in
+        let n = length-doses_in (drop 3 order) in
         let l = length-drop 3 order in
-        turned Refusals.entry r e (in-format ∙ judge-entry ds (done ds) (thirteen-fail ds (omega arith)))
+        turned Refusals.entry r e (in_format ∙ judge-entry ds (done ds) (thirteen_fail ds (omega arith)))
 
-    module _ (d : Doses) (same : d ≡ dosesFrom ds) where
-      same-doses : dosesOf d ≡ ds
-      same-doses = ap dosesOf same ∙ dosesOf-dosesFrom ds
+    module _ (d : Doses) (same : d ≡ doses_from ds) where
+      same_doses : doses_of d ≡ ds
+      same_doses = ap doses_of same ∙ doses_of-doses_from ds
 
-      judged : (a : Answer (Unit {0})) → a ≡ judge (dosesOf d) → judge ds ≡ a
-      judged a h = sym (h ∙ ap judge same-doses)
+      judged : (a : Answer (Unit {0})) → a ≡ judge (doses_of d) → judge ds ≡ a
+      judged a h = sym (h ∙ ap judge same_doses)
 
-      bad : (n : ℕ) (r : OrderRead) → r ≡ record { answer = J.Refused n; doses = dosesFrom [] }
-          → refused n ≡ judge (dosesOf d) → Read order r
-      bad n r e h = turned n r e (in-format ∙ judged-refused ds (done ds) n (sym (judged (refused n) h)))
+      bad : (n : ℕ) (r : OrderRead) → r ≡ record { answer = J.Refused n; doses = doses_from [] }
+          → refused n ≡ judge (doses_of d) → Read order r
+      bad n r e h = turned n r e (in_format ∙ judged_refused ds (done ds) n (sym (judged (refused n) h)))
 
-      good : done tt ≡ judge (dosesOf d) → Read order (record { answer = J.Good; doses = d })
+      good : done tt ≡ judge (doses_of d) → Read order (record { answer = J.Good; doses = d })
       good h =
-          let j = judged-good ds (done tt) tt (judged (done tt) h) in
-          let r : read order ≡ done ds = in-format ∙ judge-good ds (done ds) j.0 j.1 in
-          record { answers = ap done same-doses ∙ sym r; doses = same ∙ sym (ap dosesRead r) }
+          let j = judged_good ds (done tt) tt (judged (done tt) h) in
+          let r : read order ≡ done ds = in_format ∙ judge_good ds (done ds) j.0 j.1 in
+          record { answers = ap done same_doses ∙ sym r; doses = same ∙ sym (ap doses_read r) }
 
 -- all that is behind the head
 behind : (s : List ℕ) → take (length s - 3) (drop 3 s) ≡ drop 3 s
 behind s = let l = length-drop 3 s in take_all (length s - 3) (drop 3 s) (omega arith)
 
 -- the format was found
-formed : (c : tie.Else1) → isFormat c.before.before.before.args.order.now ≡ true
-formed c = sym c.before.is-format.ensures ∙ not-false _ c.if1.false
+formed : (c : tie.Else1) → is_format c.before.before.before.args.order.now ≡ true
+formed c = sym c.before.is_format_lem.ensures ∙ not-false _ c.if1.false
 
 -- the doses that were loaded
 loaded : (c : tie.After-load-entries) → let s : List ℕ = c.before.before.before.before.before.before.args.order.now in
-    c.load-entries.result ≡ dosesFrom (dosesIn (drop 3 s))
+    c.load-entries.result ≡ doses_from (doses_in (drop 3 s))
 loaded c =
     let s : List ℕ = c.before.before.before.before.before.before.args.order.now in
-    c.load-entries.ensures ∙ ap (λ (x : List ℕ). dosesFrom (dosesIn x)) (behind s)
+    c.load-entries.ensures ∙ ap (λ (x : List ℕ). doses_from (doses_in x)) (behind s)
 
 is-format-requires : tie.Need-is-format-requires
 is-format-requires c κs = search rules
@@ -87,7 +87,7 @@ refused-requires c κs = search rules
 returns : tie.Need-returns
 returns c =
     other_format c.before.before.before.before.args.order.now _ c.refused.ensures
-    (sym c.before.before.is-format.ensures ∙ not-true _ c.before.if1.true)
+    (sym c.before.before.is_format_lem.ensures ∙ not-true _ c.before.if1.true)
 
 sub-count : tie.Need-overflow-sub-count
 sub-count c = let l = format-lengths c.before.before.before.args.order.now (formed c) in omega arith
@@ -121,7 +121,7 @@ judge-doses-requires : tie.Need-judge-doses-requires
 judge-doses-requires c κs =
     let e = c.before.before.before in
     let s = e.before.before.before.args.order.now in
-    let n = length-dosesIn (drop 3 s) in
+    let n = length-doses_in (drop 3 s) in
     let d = length-drop 3 s in
     let k = ap (λ (x : Doses). x.count) (loaded c) in
     omega arith
@@ -141,14 +141,14 @@ returns-3 c =
     let j = answer.before.before in
     let e = j.before.before.before.before in
     bad e.before.before.before.args.order.now (formed e) _ (loaded j.before) _ _ c.refused3.ensures
-    (ap judgedAnswer (sym answer.answer.given.1) ∙ j.judge-doses.ensures)
+    (ap judged_answer (sym answer.answer.given.1) ∙ j.judge-doses.ensures)
 
 returns-4 : tie.Need-returns-4
 returns-4 c =
     let j = c.before.before in
     let e = j.before.before.before.before in
     good e.before.before.before.args.order.now (formed e) _ (loaded j.before)
-    (ap judgedAnswer (sym c.enum_told.given.1) ∙ j.judge-doses.ensures)
+    (ap judged_answer (sym c.enum_told.given.1) ∙ j.judge-doses.ensures)
 
 pub read_spec : {M : Type 1} → statement M
 read_spec =

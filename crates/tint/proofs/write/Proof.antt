@@ -9,67 +9,67 @@ use Prim.Native.Nat.{ℕ, ◌+◌, ◌*◌, ◌≤◌, ◌<◌}
 use lib.Dec.{ltb}
 use lib.ListN.{length, drop}
 use Rattle.block.specs.Answer as A
-use Rattle.block.specs.Answer.{refused, done, refuseIf}
-use Rattle.tint.specs.Format.{Dose, orderBytes, inRangeAndOrder}
-use Rattle.tint.specs.Calls.{dosesOf, judge, judgedAnswer, write, writtenCount, writtenSlice, Write}
-use Rattle.tint.specs.Code.{headBytes, lowEntries}
+use Rattle.block.specs.Answer.{refused, done, refuse_if}
+use Rattle.tint.specs.Format.{Dose, order_bytes, in_range_and_order}
+use Rattle.tint.specs.Calls.{doses_of, judge, judged_answer, write, written_count, written_slice, Write}
+use Rattle.tint.specs.Code.{head_bytes, low_entries}
 use Rattle.tint.specs.declared.Doses.{Doses}
 use Rattle.tint.specs.declared.Written.TheVariants as W
-use Rattle.tint.proofs.Entries.{length-orderBytes, length-dosesAt, rising-orderBytes, judge-good, judged-good, counted-some, counted-good, counted-refused}
+use Rattle.tint.proofs.Entries.{length-order_bytes, length-doses_at, rising_order_bytes, judge_good, judged_good, counted-some, counted_good, counted_refused}
 use Rattle.tint.proofs.write.Statement.{statement}
 use Rattle.tint.proofs.write.Tie as tie
 
 module _ (d : Doses) (slice : List ℕ) where
   abbrev ds : List Dose
-  ds = dosesOf d
+  ds = doses_of d
 
   -- the doses, judged, are refused
   turned : (n : ℕ) → refused n ≡ judge d → Write d slice (W.Refused n) slice
   unfolding write
   turned n e =
-      let r : write d slice ≡ refused n = counted-refused ds _ n d.count e in
-      record { answers = sym (ap writtenCount r); writes = sym (ap (writtenSlice slice) r) }
+      let r : write d slice ≡ refused n = counted_refused ds _ n d.count e in
+      record { answers = sym (ap written_count r); writes = sym (ap (written_slice slice) r) }
 
   module _ (e : done tt ≡ judge d) where
     few : (1 ≤ d.count) × (d.count ≤ 12)
-    few = let c = counted-good ds (done tt) d.count tt (sym e) in (c.0, c.1)
+    few = let c = counted_good ds (done tt) d.count tt (sym e) in (c.0, c.1)
 
-    rises : inRangeAndOrder 0 ds ≡ true
-    rises = (judged-good ds (done tt) tt (counted-good ds (done tt) d.count tt (sym e)).2).0
+    rises : in_range_and_order 0 ds ≡ true
+    rises = (judged_good ds (done tt) tt (counted_good ds (done tt) d.count tt (sym e)).2).0
 
-    bytes : length (orderBytes ds) ≡ 3 + d.count * 3
-    bytes = length-orderBytes ds ∙ ap (λ (n : ℕ). 3 + n * 3) (length-dosesAt d.count d.canisters d.steps 0)
+    bytes : length (order_bytes ds) ≡ 3 + d.count * 3
+    bytes = length-order_bytes ds ∙ ap (λ (n : ℕ). 3 + n * 3) (length-doses_at d.count d.canisters d.steps 0)
 
     -- what is left to be tested
-    room : (t : Bool) → ltb (length slice) (length (orderBytes ds)) ≡ t → write d slice ≡ refuseIf t A.short (done (orderBytes ds))
+    room : (t : Bool) → ltb (length slice) (length (order_bytes ds)) ≡ t → write d slice ≡ refuse_if t A.short (done (order_bytes ds))
     unfolding write
     room t h =
-        let j = judged-good ds (done tt) tt (counted-good ds (done tt) d.count tt (sym e)).2 in
-        counted-some ds _ d.count few.0 few.1 ∙ judge-good ds _ j.0 j.1
-        ∙ ap (λ (b : Bool). refuseIf b A.short (done (orderBytes ds))) h
+        let j = judged_good ds (done tt) tt (counted_good ds (done tt) d.count tt (sym e)).2 in
+        counted-some ds _ d.count few.0 few.1 ∙ judge_good ds _ j.0 j.1
+        ∙ ap (λ (b : Bool). refuse_if b A.short (done (order_bytes ds))) h
 
     short : length slice < 3 + d.count * 3 → Write d slice (W.Refused A.short) slice
     short h =
         let n = bytes in
-        let r = room _ (lt-ltb (length slice) (length (orderBytes ds)) (omega arith)) in
-        record { answers = sym (ap writtenCount r); writes = sym (ap (writtenSlice slice) r) }
+        let r = room _ (lt-ltb (length slice) (length (order_bytes ds)) (omega arith)) in
+        record { answers = sym (ap written_count r); writes = sym (ap (written_slice slice) r) }
 
     written : (slice' : List ℕ) → 3 + d.count * 3 ≤ length slice
-        → slice' ≡ (headBytes (d.count * 3) ++ lowEntries ds) ++ drop (3 + d.count * 3) slice → Write d slice (W.Done (3 + d.count * 3)) slice'
+        → slice' ≡ (head_bytes (d.count * 3) ++ low_entries ds) ++ drop (3 + d.count * 3) slice → Write d slice (W.Done (3 + d.count * 3)) slice'
     written slice' h w =
         let n = bytes in
-        let m = length-dosesAt d.count d.canisters d.steps 0 in
-        let r = room _ (le-ltb (length slice) (length (orderBytes ds)) (omega arith)) in
-        let o : headBytes (d.count * 3) ++ lowEntries ds ≡ orderBytes ds =
-        ap (λ (k : ℕ). headBytes (k * 3) ++ lowEntries ds) (sym m) ∙ rising-orderBytes ds rises in
+        let m = length-doses_at d.count d.canisters d.steps 0 in
+        let r = room _ (le-ltb (length slice) (length (order_bytes ds)) (omega arith)) in
+        let o : head_bytes (d.count * 3) ++ low_entries ds ≡ order_bytes ds =
+        ap (λ (k : ℕ). head_bytes (k * 3) ++ low_entries ds) (sym m) ∙ rising_order_bytes ds rises in
         record {
-          answers = ap done (sym n) ∙ sym (ap writtenCount r);
-          writes = w ∙ ap₂ (λ (x : List ℕ) (k : ℕ). x ++ drop k slice) o (sym n) ∙ sym (ap (writtenSlice slice) r);
+          answers = ap done (sym n) ∙ sym (ap written_count r);
+          writes = w ∙ ap₂ (λ (x : List ℕ) (k : ℕ). x ++ drop k slice) o (sym n) ∙ sym (ap (written_slice slice) r);
         }
 
 -- the doses were judged good
 good : (c : tie.After-enum-told) → done tt ≡ judge c.before.before.before.before.args.doses
-good c = ap judgedAnswer (sym c.enum_told.given.1) ∙ c.before.before.judge.ensures.answers
+good c = ap judged_answer (sym c.enum_told.given.1) ∙ c.before.before.judge.ensures.answers
 
 judge-requires : tie.Need-judge-requires
 judge-requires c κs = search rules
@@ -80,7 +80,7 @@ enum-known-answer c = search rules
 returns : tie.Need-returns
 returns c =
     let a = c.before.before.before.before.before.args in
-    turned a.doses a.order.now _ (ap judgedAnswer (sym c.before.answer.given.1) ∙ c.before.before.before.judge.ensures.answers)
+    turned a.doses a.order.now _ (ap judged_answer (sym c.before.answer.given.1) ∙ c.before.before.before.judge.ensures.answers)
 
 enum_told : tie.Need-enum-told
 enum_told c = search rules

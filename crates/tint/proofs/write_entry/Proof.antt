@@ -2,7 +2,7 @@
 use borrow.Author.Rules.{rules}
 use native.Mathlib.Omega.{arith}
 use lib.ListN.{length-set}
-use Rattle.block.proofs.Packing.{three-stores}
+use Rattle.block.proofs.Packing.{three_stores}
 use Rattle.tint.proofs.write_entry.Statement.{statement}
 use Rattle.tint.proofs.write_entry.Tie as tie
 
@@ -34,7 +34,7 @@ same_length : tie.Need-same-length
 same_length c = search rules
 
 returns : tie.Need-returns
-returns c = three-stores c.args.entries.now c.args.at _ _ _ (omega arith)
+returns c = three_stores c.args.entries.now c.args.at _ _ _ (omega arith)
 
 pub write-entry-spec : {M : Type 1} → statement M
 write-entry-spec =

@@ -2,7 +2,7 @@
 use borrow.Author.Rules.{rules}
 use native.Mathlib.Omega.{arith}
 use lib.ListN.{length-set}
-use Rattle.block.proofs.Packing.{three-stores}
+use Rattle.block.proofs.Packing.{three_stores}
 use Rattle.tint.proofs.write_head.Statement.{statement}
 use Rattle.tint.proofs.write_head.Tie as tie
 
@@ -25,7 +25,7 @@ same_length : tie.Need-same-length
 same_length c = search rules
 
 returns : tie.Need-returns
-returns c = three-stores c.args.order.now 0 _ _ _ (omega arith)
+returns c = three_stores c.args.order.now 0 _ _ _ (omega arith)
 
 pub write-head-spec : {M : Type 1} → statement M
 write-head-spec =

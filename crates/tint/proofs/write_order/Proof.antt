@@ -6,15 +6,15 @@ use native.Mathlib.Omega.{arith}
 use Prim.Native.Nat.{ℕ, ◌+◌, ◌-◌, ◌*◌}
 use lib.ListN.{length, take, drop}
 use lib.Seq.{take_all, drop-length, drop-drop}
-use Rattle.tint.specs.Calls.{dosesAt}
-use Rattle.tint.specs.Code.{headBytes, lowEntries}
+use Rattle.tint.specs.Calls.{doses_at}
+use Rattle.tint.specs.Code.{head_bytes, low_entries}
 use Rattle.tint.proofs.write_order.Statement.{statement}
 use Rattle.tint.proofs.write_order.Tie as tie
 
 -- the part behind three bytes, put back
-put_back : (n follow : ℕ) (order after part low : List ℕ) → after ≡ headBytes follow ++ drop 3 order
+put_back : (n follow : ℕ) (order after part low : List ℕ) → after ≡ head_bytes follow ++ drop 3 order
     → part ≡ low ++ drop n (take (length after - 3) (drop 3 after))
-    → take 3 after ++ (part ++ drop (length after - 3) (drop 3 after)) ≡ (headBytes follow ++ low) ++ drop (3 + n) order
+    → take 3 after ++ (part ++ drop (length after - 3) (drop 3 after)) ≡ (head_bytes follow ++ low) ++ drop (3 + n) order
 put_back n follow order after part low e p =
     let rest : List ℕ = drop 3 order in
     let l : length after - 3 ≡ length rest = let k = ap length e in omega arith in
@@ -22,7 +22,7 @@ put_back n follow order after part low e p =
     let t : take (length after - 3) (drop 3 after) ≡ rest = ap₂ take l d ∙ take_all (length rest) rest (omega arith) in
     let z : drop (length after - 3) (drop 3 after) ≡ [] = ap₂ drop l d ∙ drop-length rest in
     ap₂ (λ (x y : List ℕ). x ++ y) (ap (take 3) e) (ap (λ (y : List ℕ). part ++ y) z ∙ append-nil part ∙ p ∙ ap (λ (y : List ℕ). low ++ drop n y) t)
-    ∙ sym (append_assoc (headBytes follow) low (drop n rest)) ∙ ap (λ (y : List ℕ). (headBytes follow ++ low) ++ y) (drop-drop n 3 order)
+    ∙ sym (append_assoc (head_bytes follow) low (drop n rest)) ∙ ap (λ (y : List ℕ). (head_bytes follow ++ low) ++ y) (drop-drop n 3 order)
 
 mul-write-head : tie.Need-overflow-mul-write-head
 mul-write-head c = search rules
@@ -50,7 +50,7 @@ returns c =
     let entries = c.before.before in
     let head = entries.before.before.before.before in
     let a = head.before.before.before.args in
-    put_back (a.count * 3) (a.count * 3) a.order.now _ _ (lowEntries (dosesAt a.count a.canisters a.steps 0))
+    put_back (a.count * 3) (a.count * 3) a.order.now _ _ (low_entries (doses_at a.count a.canisters a.steps 0))
     head.write-head.ensures entries.write_entries.ensures
 
 pub write-order-spec : {M : Type 1} → statement M

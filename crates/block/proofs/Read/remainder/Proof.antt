@@ -3,7 +3,7 @@ use mathlib.Core.List.{[], ◌∷◌}
 use mathlib.Core.Path.{◌≡◌, refl}
 use types.Run.{OneOf, miss}
 use denote.Enum.Declared.{tag_of}
-use Rattle.block.specs.Calls.{readAnswer, carriedRemainder}
+use Rattle.block.specs.Calls.{read_answer, carried_remainder}
 use Rattle.block.specs.declared.Read.{Read}
 use Rattle.block.specs.declared.Read.TheVariants as R
 use Rattle.block.specs.contracts.Read.{the_type}
@@ -17,13 +17,13 @@ enum-known-self c = search rules
 returns : tie.Need-returns
 returns c = search rules
 
-carries-none : (a : Read) → OneOf (0 ∷ 2 ∷ []) (tag_of the_type a) → 0 ≡ carriedRemainder (readAnswer a)
-carries-none (R.Passed s) t = refl
-carries-none (R.Failed r) t = absurd (miss (0 ∷ 2 ∷ []) 1 tt t)
-carries-none (R.Refused n) t = refl
+carries_none : (a : Read) → OneOf (0 ∷ 2 ∷ []) (tag_of the_type a) → 0 ≡ carried_remainder (read_answer a)
+carries_none (R.Passed s) t = refl
+carries_none (R.Failed r) t = absurd (miss (0 ∷ 2 ∷ []) 1 tt t)
+carries_none (R.Refused n) t = refl
 
 returns-2 : tie.Need-returns-2
-returns-2 c = carries-none c.before.args.self c.match.keys2
+returns-2 c = carries_none c.before.args.self c.match.keys2
 
 pub remainder-spec : {M : Type 1} → statement M
 remainder-spec = tie.close (tie.spec enum-known-self returns returns-2)

@@ -7,19 +7,19 @@ use lib.ListN.{take}
 use Rattle.crc.specs.Bits.{binary, bits_of}
 use Rattle.block.specs.Block.{block_bits}
 use Rattle.block.specs.Calls.{overwritten}
-use Rattle.block.proofs.Refusals.{build-service, build-payload, build-slice, build-done}
+use Rattle.block.proofs.Refusals.{build_service, build_payload, build_slice, build_done}
 use Rattle.block.proofs.packed.build.Statement.{statement}
 use Rattle.block.proofs.packed.build.Tie as tie
 
 returns : tie.Need-returns
 returns c =
     let a = c.before.before.before.args in
-    build-service (8 * a.m) a.service a.payload.now a.block.now c.if1.true
+    build_service (8 * a.m) a.service a.payload.now a.block.now c.if1.true
 
 returns-2 : tie.Need-returns-2
 returns-2 c =
     let a = c.before.before.before.before.args in
-    build-payload (8 * a.m) a.service a.payload.now a.block.now c.before.if1.false (omega arith)
+    build_payload (8 * a.m) a.service a.payload.now a.block.now c.before.if1.false (omega arith)
 
 add-if3 : tie.Need-overflow-add-if3
 add-if3 c = search rules
@@ -27,7 +27,7 @@ add-if3 c = search rules
 returns-3 : tie.Need-returns-3
 returns-3 c =
     let a = c.before.before.before.before.before.args in
-    build-slice (8 * a.m) a.service a.payload.now a.block.now c.before.before.if1.false (omega arith) (omega arith)
+    build_slice (8 * a.m) a.service a.payload.now a.block.now c.before.before.if1.false (omega arith) (omega arith)
 
 fill-block-requires : tie.Need-fill-block-requires
 fill-block-requires c κs = search rules
@@ -39,7 +39,7 @@ returns-4 : tie.Need-returns-4
 returns-4 c =
     let a = c.before.before.before.before.before.before.before.before.before.args in
     let n : a.m ≡ 8 * a.m / 8 = omega arith in
-    build-done (8 * a.m) a.service a.payload.now a.block.now c.before.before.before.before.before.before.if1.false (omega arith) (omega arith) _
+    build_done (8 * a.m) a.service a.payload.now a.block.now c.before.before.before.before.before.before.if1.false (omega arith) (omega arith) _
     (c.before.before.fill-block.ensures
     ∙ ap (λ (x : ℕ). overwritten (x + 3) (block_bits (binary 4 a.service) (take (8 * a.m) (bits_of a.payload.now))) a.block.now) n)
 

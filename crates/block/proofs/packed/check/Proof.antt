@@ -6,8 +6,8 @@ use borrow.Author.Rules.{rules}
 use borrow.Author.Tests.{ltb-false}
 use lib.ListN.{length}
 use Rattle.block.specs.Answer.{done}
-use Rattle.block.specs.Lengths.{blockLength}
-use Rattle.block.proofs.Refusals.{check-slice, check_done}
+use Rattle.block.specs.Lengths.{block_length}
+use Rattle.block.proofs.Refusals.{check_slice, check_done}
 use Rattle.block.proofs.packed.check.Statement.{statement}
 use Rattle.block.proofs.packed.check.Tie as tie
 
@@ -17,12 +17,12 @@ short-of-block-requires c κs = search rules
 returns : tie.Need-returns
 returns c =
     let a = c.before.before.before.args in
-    check-slice (8 * a.m) a.block.now (sym c.before.short-of-block.ensures ∙ c.if1.true)
+    check_slice (8 * a.m) a.block.now (sym c.before.short-of-block.ensures ∙ c.if1.true)
 
 remainder-of-requires : tie.Need-remainder-of-requires
 remainder-of-requires c κs =
     let a = c.before.before.before.args in
-    omega (arith, ltb-false (8 * length a.block.now) (blockLength (8 * a.m)) (sym c.before.short-of-block.ensures ∙ c.if1.false))
+    omega (arith, ltb-false (8 * length a.block.now) (block_length (8 * a.m)) (sym c.before.short-of-block.ensures ∙ c.if1.false))
 
 returns-2 : tie.Need-returns-2
 returns-2 c =

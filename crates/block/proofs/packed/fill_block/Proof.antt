@@ -9,7 +9,7 @@ use lib.Seq.{take_at, drop-append-add, drop-append-le, drop-drop, length-take-le
 use Rattle.crc.specs.Bits.{Bits, binary, bits_of, bytes_of}
 use Rattle.crc.specs.Check.{check, register}
 use Rattle.crc.proofs.Rows.{length-binary}
-use Rattle.crc.proofs.Bytes.{length-bitsOf, length-bytesOf, bitsOf-append, take-bitsOf, bytesOf-add, bytesOf-front}
+use Rattle.crc.proofs.Bytes.{length-bits_of, length-bytes_of, bits_of-append, take-bits_of, bytes_of-add, bytes_of_front}
 use Rattle.crc.proofs.Register.{register-append, register-check}
 use Rattle.block.specs.Block.{block_bits}
 use Rattle.block.specs.Calls.{overwritten}
@@ -21,28 +21,28 @@ module _ (m service : ℕ) (payload : List ℕ) (hp : m ≤ length payload) wher
   abbrev body : Bits
   body = binary 4 service ++ bits_of (take m payload)
 
-  length-body : length body ≡ 4 + 8 * m
-  length-body =
+  length_body : length body ≡ 4 + 8 * m
+  length_body =
       length-append (binary 4 service) (bits_of (take m payload))
-      ∙ ap₂ (λ (x y : ℕ). x + y) (length-binary 4 service) (length-bitsOf (take m payload) ∙ ap (λ (x : ℕ). 8 * x) (length-take-le m payload hp))
+      ∙ ap₂ (λ (x y : ℕ). x + y) (length-binary 4 service) (length-bits_of (take m payload) ∙ ap (λ (x : ℕ). 8 * x) (length-take-le m payload hp))
 
-  body-front : bytes_of m (binary 4 service ++ bits_of payload) ≡ bytes_of m body
-  body-front =
+  body_front : bytes_of m (binary 4 service ++ bits_of payload) ≡ bytes_of m body
+  body_front =
       ap (λ (l : Bits). bytes_of m (binary 4 service ++ l))
-      (ap bits_of (sym (take-append-drop m payload)) ∙ bitsOf-append (take m payload) (drop m payload))
+      (ap bits_of (sym (take-append-drop m payload)) ∙ bits_of-append (take m payload) (drop m payload))
       ∙ ap (bytes_of m) (sym (append_assoc (binary 4 service) (bits_of (take m payload)) (bits_of (drop m payload))))
-      ∙ bytesOf-front m body (bits_of (drop m payload)) (omega (arith, length-body))
+      ∙ bytes_of_front m body (bits_of (drop m payload)) (omega (arith, length_body))
 
   -- its bytes, with the four bits that the shifted ones leave
-  packed-block : (last : ℕ) → binary 4 last ≡ drop (8 * m) body
+  packed_block : (last : ℕ) → binary 4 last ≡ drop (8 * m) body
       → bytes_of (m + 3) (block_bits (binary 4 service) (take (8 * m) (bits_of payload)))
       ≡ bytes_of m body ++ bytes_of 3 (binary 4 last ++ binary 16 (check body))
   unfolding block_bits
-  packed-block last rest =
-      ap (λ (l : Bits). bytes_of (m + 3) ((binary 4 service ++ l) ++ binary 16 (check (binary 4 service ++ l)))) (take-bitsOf m payload)
-      ∙ bytesOf-add m 3 (body ++ binary 16 (check body))
-      ∙ ap₂ (λ (x y : List ℕ). x ++ y) (bytesOf-front m body (binary 16 (check body)) (omega (arith, length-body)))
-      (ap (bytes_of 3) (drop-append-le (8 * m) body (binary 16 (check body)) (omega (arith, length-body))
+  packed_block last rest =
+      ap (λ (l : Bits). bytes_of (m + 3) ((binary 4 service ++ l) ++ binary 16 (check (binary 4 service ++ l)))) (take-bits_of m payload)
+      ∙ bytes_of-add m 3 (body ++ binary 16 (check body))
+      ∙ ap₂ (λ (x y : List ℕ). x ++ y) (bytes_of_front m body (binary 16 (check body)) (omega (arith, length_body)))
+      (ap (bytes_of 3) (drop-append-le (8 * m) body (binary 16 (check body)) (omega (arith, length_body))
       ∙ ap (λ (l : Bits). l ++ binary 16 (check body)) (sym rest)))
 
   -- what the three calls write
@@ -55,16 +55,16 @@ module _ (m service : ℕ) (payload : List ℕ) (hp : m ≤ length payload) wher
   written block shifted done c last hc rest hs hl =
       let k : c ≡ check body =
       hc ∙ sym (register-append 0 (binary 4 service) (bits_of (take m payload))) ∙ register-check body in
-      let s : shifted ≡ bytes_of m body ++ drop m block = hs ∙ ap (λ (l : List ℕ). l ++ drop m block) body-front in
-      let f : take m shifted ≡ bytes_of m body = ap (take m) s ∙ take_at (bytes_of m body) (drop m block) m (length-bytesOf m body) in
+      let s : shifted ≡ bytes_of m body ++ drop m block = hs ∙ ap (λ (l : List ℕ). l ++ drop m block) body_front in
+      let f : take m shifted ≡ bytes_of m body = ap (take m) s ∙ take_at (bytes_of m body) (drop m block) m (length-bytes_of m body) in
       let b : drop (m + 3) shifted ≡ drop (m + 3) block =
-      ap (drop (m + 3)) s ∙ ap (λ (n : ℕ). drop (n + 3) (bytes_of m body ++ drop m block)) (sym (length-bytesOf m body))
+      ap (drop (m + 3)) s ∙ ap (λ (n : ℕ). drop (n + 3) (bytes_of m body ++ drop m block)) (sym (length-bytes_of m body))
       ∙ drop-append-add (bytes_of m body) (drop m block) 3 ∙ drop-drop 3 m block in
       hl
       ∙ ap₂ (λ (x y : List ℕ). x ++ (bytes_of 3 (binary 4 last ++ binary 16 c) ++ y)) f b
       ∙ sym (append_assoc (bytes_of m body) (bytes_of 3 (binary 4 last ++ binary 16 c)) (drop (m + 3) block))
       ∙ ap (λ (x : ℕ). (bytes_of m body ++ bytes_of 3 (binary 4 last ++ binary 16 x)) ++ drop (m + 3) block) k
-      ∙ ap (λ (l : List ℕ). l ++ drop (m + 3) block) (sym (packed-block last rest))
+      ∙ ap (λ (l : List ℕ). l ++ drop (m + 3) block) (sym (packed_block last rest))
 
 feed-nibble-requires : tie.Need-feed-nibble-requires
 feed-nibble-requires c κs = search rules

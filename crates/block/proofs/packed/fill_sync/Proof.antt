@@ -11,27 +11,27 @@ use lib.Bits.{bit_xor}
 use lib.ListN.{length, get_or, drop, set, replicate, length-set, length-append, length-drop, length-replicate}
 use lib.Seq.{take_at, drop-append-add, drop-drop}
 use Rattle.crc.specs.Bits.{number, bytes_of}
-use Rattle.block.specs.Block.{tens, serviceSync, syncSequence, syncBlock}
+use Rattle.block.specs.Block.{tens, service_sync, sync_sequence, sync_block}
 use Rattle.block.specs.Calls.{overwritten}
-use Rattle.block.proofs.Packing.{three-stores}
+use Rattle.block.proofs.Packing.{three_stores}
 use Rattle.block.proofs.packed.fill_sync.Statement.{statement}
 use Rattle.block.proofs.packed.fill_sync.Tie as tie
 
-abbrev invariant-loop : tie.invariant-loop
-invariant-loop m block₀ at₀ block at =
+abbrev invariant_loop : tie.invariant_loop
+invariant_loop m block₀ at₀ block at =
     (at ≤ m) × (block ≡ replicate at 0xaa ++ drop at block₀) × (length block ≡ length block₀)
 
-abbrev decreases-loop : tie.decreases-loop
-decreases-loop m block₀ at₀ block at = m - at
+abbrev decreases_loop : tie.decreases_loop
+decreases_loop m block₀ at₀ block at = m - at
 
 -- the row from half of a byte of 10101010 on
-to-come : (j : ℕ) → bytes_of (j + 3) (true ∷ false ∷ true ∷ false ∷ (tens (4 * j) ++ syncSequence)) ≡ replicate j 0xaa ++ (0xa5 ∷ 0x0a ∷ 0x50 ∷ [])
+to_come_lem : (j : ℕ) → bytes_of (j + 3) (true ∷ false ∷ true ∷ false ∷ (tens (4 * j) ++ sync_sequence)) ≡ replicate j 0xaa ++ (0xa5 ∷ 0x0a ∷ 0x50 ∷ [])
 unfolding bytes_of number
-to-come zero = refl
-to-come (suc j) =
+to_come_lem zero = refl
+to_come_lem (suc j) =
     let e : 4 * suc j ≡ suc (suc (suc (suc (4 * j)))) = omega arith in
-    ap₂ (λ (n i : ℕ). bytes_of n (true ∷ false ∷ true ∷ false ∷ (tens i ++ syncSequence))) (suc-add j 3) e
-    ∙ ap (λ (l : List ℕ). 0xaa ∷ l) (to-come j)
+    ap₂ (λ (n i : ℕ). bytes_of n (true ∷ false ∷ true ∷ false ∷ (tens i ++ sync_sequence))) (suc-add j 3) e
+    ∙ ap (λ (l : List ℕ). 0xaa ∷ l) (to_come_lem j)
 
 -- the bytes of 10 repeated and the sequence
 abbrev repeated : ℕ → List ℕ
@@ -39,22 +39,22 @@ repeated m = replicate m 0xaa ++ (0xa5 ∷ 0x0a ∷ 0x50 ∷ [])
 
 -- the first four bits inverted, whether data or the sequence stand behind them
 inverted : (m : ℕ) (rest : List ℕ)
-    → set (repeated m ++ rest) 0 (bit_xor (get_or (repeated m ++ rest) 0 0) 0xf0) ≡ bytes_of (m + 3) (syncBlock (8 * m)) ++ rest
-unfolding bytes_of number syncBlock
+    → set (repeated m ++ rest) 0 (bit_xor (get_or (repeated m ++ rest) 0 0) 0xf0) ≡ bytes_of (m + 3) (sync_block (8 * m)) ++ rest
+unfolding bytes_of number sync_block
 inverted zero rest = refl
 inverted (suc j) rest =
     let e : 8 * suc j / 2 ≡ suc (suc (suc (suc (4 * j)))) = omega arith in
     sym
     (ap (λ (l : List ℕ). l ++ rest)
-    (ap₂ (λ (n i : ℕ). bytes_of n ((serviceSync ++ tens i) ++ syncSequence)) (suc-add j 3) e
-    ∙ ap (λ (l : List ℕ). 0x5a ∷ l) (to-come j)))
+    (ap₂ (λ (n i : ℕ). bytes_of n ((service_sync ++ tens i) ++ sync_sequence)) (suc-add j 3) e
+    ∙ ap (λ (l : List ℕ). 0x5a ∷ l) (to_come_lem j)))
 
 module _ (m i : ℕ) (filled block : List ℕ) (held : m + 3 ≤ length block) (all : i ≡ m) (fill : filled ≡ replicate i 0xaa ++ drop i block) where
   abbrev stored : List ℕ
   stored = set (set (set filled m 0xa5) (m + 1) 0x0a) (m + 2) 0x50
 
-  bytes-stored : stored ≡ repeated m ++ drop (m + 3) block
-  bytes-stored =
+  bytes_stored : stored ≡ repeated m ++ drop (m + 3) block
+  bytes_stored =
       let p : List ℕ = replicate m 0xaa in
       let n : length p ≡ m = length-replicate m 0xaa in
       let l : List ℕ = p ++ drop m block in
@@ -64,26 +64,26 @@ module _ (m i : ℕ) (filled block : List ℕ) (held : m + 3 ≤ length block) (
       let hn : length l ≡ length block =
       length-append p (drop m block) ∙ ap₂ (λ (x y : ℕ). x + y) n (length-drop m block) ∙ omega arith in
       ap (λ (x : List ℕ). set (set (set x m 0xa5) (m + 1) 0x0a) (m + 2) 0x50) f
-      ∙ three-stores l m 0xa5 0x0a 0x50 (omega arith)
+      ∙ three_stores l m 0xa5 0x0a 0x50 (omega arith)
       ∙ ap₂ (λ (x y : List ℕ). x ++ ((0xa5 ∷ 0x0a ∷ 0x50 ∷ []) ++ y)) (take_at p (drop m block) m n) d
       ∙ sym (append_assoc p (0xa5 ∷ 0x0a ∷ 0x50 ∷ []) (drop (m + 3) block))
 
-  written : set stored 0 (bit_xor (get_or stored 0 0) 0xf0) ≡ overwritten (m + 3) (syncBlock (8 * m)) block
-  written = ap (λ (x : List ℕ). set x 0 (bit_xor (get_or x 0 0) 0xf0)) bytes-stored ∙ inverted m (drop (m + 3) block)
+  written : set stored 0 (bit_xor (get_or stored 0 0) 0xf0) ≡ overwritten (m + 3) (sync_block (8 * m)) block
+  written = ap (λ (x : List ℕ). set x 0 (bit_xor (get_or x 0 0) 0xf0)) bytes_stored ∙ inverted m (drop (m + 3) block)
 
-loop-holds : tie.Need-loop-init invariant-loop decreases-loop
+loop-holds : tie.Need-loop-init invariant_loop decreases_loop
 loop-holds c = (search rules, fill_none c.args.block.now 0xaa, refl)
 
-slice-write-block : tie.Need-slice-write-block invariant-loop decreases-loop
+slice-write-block : tie.Need-slice-write-block invariant_loop decreases_loop
 slice-write-block c = omega arith
 
-add_at : tie.Need-overflow-add-at invariant-loop decreases-loop
+add_at : tie.Need-overflow-add-at invariant_loop decreases_loop
 add_at c = omega arith
 
-loop-less : tie.Need-loop-smaller invariant-loop decreases-loop
+loop-less : tie.Need-loop-smaller invariant_loop decreases_loop
 loop-less c = omega arith
 
-loop-again : tie.Need-loop-preserved invariant-loop decreases-loop
+loop-again : tie.Need-loop-preserved invariant_loop decreases_loop
 loop-again c =
     let l = c.before.loop in
     let a = c.before.before.args in (
@@ -92,31 +92,31 @@ loop-again c =
       length-set l.block l.at 0xaa ∙ l.invariant.2,
     )
 
-slice-write-block-2 : tie.Need-slice-write-block-2 invariant-loop decreases-loop
+slice-write-block-2 : tie.Need-slice-write-block-2 invariant_loop decreases_loop
 slice-write-block-2 c = omega arith
 
-add-block : tie.Need-overflow-add-block invariant-loop decreases-loop
+add-block : tie.Need-overflow-add-block invariant_loop decreases_loop
 add-block c = omega arith
 
-slice-write-block-3 : tie.Need-slice-write-block-3 invariant-loop decreases-loop
+slice-write-block-3 : tie.Need-slice-write-block-3 invariant_loop decreases_loop
 slice-write-block-3 c = simp length-set (omega arith)
 
-add-block-2 : tie.Need-overflow-add-block-2 invariant-loop decreases-loop
+add-block-2 : tie.Need-overflow-add-block-2 invariant_loop decreases_loop
 add-block-2 c = omega arith
 
-slice-write-block-4 : tie.Need-slice-write-block-4 invariant-loop decreases-loop
+slice-write-block-4 : tie.Need-slice-write-block-4 invariant_loop decreases_loop
 slice-write-block-4 c = simp length-set (omega arith)
 
-slice-read-block : tie.Need-slice-read-block invariant-loop decreases-loop
+slice-read-block : tie.Need-slice-read-block invariant_loop decreases_loop
 slice-read-block c = simp length-set (omega arith)
 
-slice-write-block-5 : tie.Need-slice-write-block-5 invariant-loop decreases-loop
+slice-write-block-5 : tie.Need-slice-write-block-5 invariant_loop decreases_loop
 slice-write-block-5 c = simp length-set (omega arith)
 
-same_length : tie.Need-same-length invariant-loop decreases-loop
+same_length : tie.Need-same-length invariant_loop decreases_loop
 same_length c = simp length-set c.before.before.loop.invariant.2
 
-returns : tie.Need-returns invariant-loop decreases-loop
+returns : tie.Need-returns invariant_loop decreases_loop
 returns c =
     let l = c.before.before.loop in
     let a = c.before.before.before.args in
@@ -126,8 +126,8 @@ pub fill-sync-spec : {M : Type 1} → statement M
 fill-sync-spec =
     tie.close
     (tie.spec
-    invariant-loop
-    decreases-loop
+    invariant_loop
+    decreases_loop
     loop-holds
     slice-write-block
     add_at

@@ -6,7 +6,7 @@ use mir.Facts.{Fits-mask}
 use native.Mathlib.Omega.{arith}
 use Prim.Native.Nat.{ℕ, ◌+◌, ◌/◌}
 use lib.ListN.{take, drop, length-set}
-use Rattle.block.proofs.Packing.{check-bytes, three-stores}
+use Rattle.block.proofs.Packing.{check_bytes, three_stores}
 use Rattle.block.proofs.packed.put_check.Statement.{statement}
 use Rattle.block.proofs.packed.put_check.Tie as tie
 
@@ -39,9 +39,9 @@ same_length c = search rules
 
 returns : tie.Need-returns
 returns c =
-    three-stores c.args.block.now c.args.m _ _ _ (search rules)
+    three_stores c.args.block.now c.args.m _ _ _ (search rules)
     ∙ ap (λ (l : List ℕ). take c.args.m c.args.block.now ++ (l ++ drop (c.args.m + 3) c.args.block.now))
-    (sym (check-bytes c.args.last c.args.check (search rules)))
+    (sym (check_bytes c.args.last c.args.check (search rules)))
 
 pub put-check-spec : {M : Type 1} → statement M
 put-check-spec =

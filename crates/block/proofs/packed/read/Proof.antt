@@ -6,11 +6,11 @@ use native.Mathlib.Omega.{arith}
 use lib.ListN.{take, drop}
 use Rattle.crc.specs.Bits.{bits_of}
 use Rattle.block.specs.Answer.{done}
-use Rattle.block.specs.Lengths.{blockLength}
-use Rattle.block.specs.Block.{payloadOf, verdict}
-use Rattle.block.specs.Calls.{readAnswer, overwritten}
-use Rattle.block.proofs.Packing.{row-judged}
-use Rattle.block.proofs.Refusals.{data-bytes, read-slice, read-payload, read_kept, read-moved}
+use Rattle.block.specs.Lengths.{block_length}
+use Rattle.block.specs.Block.{payload_of, verdict}
+use Rattle.block.specs.Calls.{read_answer, overwritten}
+use Rattle.block.proofs.Packing.{row_judged}
+use Rattle.block.proofs.Refusals.{data_bytes, read_slice, read_payload, read_kept, read-moved}
 use borrow.Author.Rules.{rules}
 use Rattle.block.proofs.packed.read.Statement.{statement}
 use Rattle.block.proofs.packed.read.Tie as tie
@@ -18,7 +18,7 @@ use Rattle.block.proofs.packed.read.Tie as tie
 returns : tie.Need-returns
 returns c =
     let a = c.before.before.before.args in
-    read-payload (8 * a.m) a.block.now a.payload.now (omega arith)
+    read_payload (8 * a.m) a.block.now a.payload.now (omega arith)
 
 add-if2 : tie.Need-overflow-add-if2
 add-if2 c = search rules
@@ -26,7 +26,7 @@ add-if2 c = search rules
 returns-2 : tie.Need-returns-2
 returns-2 c =
     let a = c.before.before.before.before.args in
-    read-slice (8 * a.m) a.block.now a.payload.now (omega arith)
+    read_slice (8 * a.m) a.block.now a.payload.now (omega arith)
 
 remainder-of-requires : tie.Need-remainder-of-requires
 remainder-of-requires c κs = search rules
@@ -50,12 +50,12 @@ abbrev start : tie.After-judged → tie.Start
 start c = c.before.before.before.before.before.before.before
 
 answered : (c : tie.After-judged)
-    → readAnswer c.judged.result ≡ done (verdict (take (blockLength (8 * (start c).args.m)) (bits_of (start c).args.block.now)))
+    → read_answer c.judged.result ≡ done (verdict (take (block_length (8 * (start c).args.m)) (bits_of (start c).args.block.now)))
 answered c =
     let a = (start c).args in
     c.judged.ensures
     ∙ ap done
-    (row-judged (blockLength (8 * a.m)) a.block.now _ (omega arith) (omega arith) (c.before.shared-slice-known2.given 0).fits c.before.before.remainder_of.ensures)
+    (row_judged (block_length (8 * a.m)) a.block.now _ (omega arith) (omega arith) (c.before.shared-slice-known2.given 0).fits c.before.before.remainder_of.ensures)
 
 returns-3 : tie.Need-returns-3
 returns-3 c =
@@ -65,8 +65,8 @@ returns-3 c =
     let n : a.m ≡ 8 * a.m / 8 = omega arith in
     read-moved (8 * a.m) a.block.now a.payload.now (omega arith) (omega arith) _ (answered k) m.match.keys1 _
     (c.before.before.shift-half.ensures
-    ∙ ap (λ (l : List ℕ). l ++ drop a.m a.payload.now) (data-bytes a.m a.block.now a.payload.now (omega arith))
-    ∙ ap (λ (x : ℕ). overwritten x (payloadOf (8 * a.m) (bits_of a.block.now)) a.payload.now) n)
+    ∙ ap (λ (l : List ℕ). l ++ drop a.m a.payload.now) (data_bytes a.m a.block.now a.payload.now (omega arith))
+    ∙ ap (λ (x : ℕ). overwritten x (payload_of (8 * a.m) (bits_of a.block.now)) a.payload.now) n)
 
 returns-4 : tie.Need-returns-4
 returns-4 c =

@@ -6,12 +6,12 @@ use lib.ListN.{length, take}
 use Rattle.crc.specs.Bits.{bits_of}
 use Rattle.crc.specs.Check.{remainder}
 use Rattle.block.specs.Answer.{done}
-use Rattle.block.specs.Lengths.{blockLength}
+use Rattle.block.specs.Lengths.{block_length}
 use Rattle.block.specs.Block.{verdict}
-use Rattle.block.specs.Calls.{checkedAnswer}
-use Rattle.block.specs.Packed.{servicePacked}
-use Rattle.block.proofs.Refusals.{service-refused, service-checked}
-use Rattle.block.proofs.Packing.{row-judged}
+use Rattle.block.specs.Calls.{checked_answer}
+use Rattle.block.specs.Packed.{service_packed}
+use Rattle.block.proofs.Refusals.{service_refused, service_checked}
+use Rattle.block.proofs.Packing.{row_judged}
 use borrow.Author.Rules.{rules}
 use Rattle.block.proofs.packed.read_service.Statement.{statement}
 use Rattle.block.proofs.packed.read_service.Tie as tie
@@ -21,12 +21,12 @@ start c = c.before.before.before.before
 
 -- what a remainder handed over says
 checked : (c : tie.After-remainder)
-    → (c.remainder.given.0.0 ≡ remainder (take (blockLength (8 * (start c).args.m)) (bits_of (start c).args.block.now)))
+    → (c.remainder.given.0.0 ≡ remainder (take (block_length (8 * (start c).args.m)) (bits_of (start c).args.block.now)))
     × (0 < length (start c).args.block.now)
-    × (servicePacked (8 * (start c).args.m) (start c).args.block.now ≡ done (verdict (take (blockLength (8 * (start c).args.m)) (bits_of (start c).args.block.now))))
+    × (service_packed (8 * (start c).args.m) (start c).args.block.now ≡ done (verdict (take (block_length (8 * (start c).args.m)) (bits_of (start c).args.block.now))))
 checked c =
     let b = c.before.before in
-    service-checked _ _ _ (sym b.check.ensures.answers ∙ ap checkedAnswer c.remainder.given.1)
+    service_checked _ _ _ (sym b.check.ensures.answers ∙ ap checked_answer c.remainder.given.1)
 
 check-requires : tie.Need-check-requires
 check-requires c κs = search rules
@@ -50,7 +50,7 @@ returns c =
     let f = checked m in
     record {
       answers = c.judged.ensures
-          ∙ ap done (row-judged (blockLength (8 * a.m)) a.block.now _ (omega arith) f.1 (c.before.shared-slice-known2.given 0).fits f.0)
+          ∙ ap done (row_judged (block_length (8 * a.m)) a.block.now _ (omega arith) f.1 (c.before.shared-slice-known2.given 0).fits f.0)
           ∙ sym f.2;
     }
 
@@ -59,7 +59,7 @@ returns-2 c =
     let n = c.before in
     let b = n.before.before in
     let a = b.before.before.args in
-    record { answers = sym (service-refused (8 * a.m) a.block.now _ (sym b.check.ensures.answers ∙ ap checkedAnswer n.number.given.1)) }
+    record { answers = sym (service_refused (8 * a.m) a.block.now _ (sym b.check.ensures.answers ∙ ap checked_answer n.number.given.1)) }
 
 pub read-service-spec : {M : Type 1} → statement M
 read-service-spec =

@@ -10,9 +10,9 @@ use lib.Seq.{length-take-le}
 use Rattle.crc.specs.Bits.{Bits, binary, bits_of}
 use Rattle.crc.specs.Check.{check, register, remainder}
 use Rattle.crc.proofs.Rows.{length-binary, number-binary}
-use Rattle.crc.proofs.Codeword.{remainder-behind}
+use Rattle.crc.proofs.Codeword.{remainder_behind}
 use Rattle.crc.proofs.Register.{register-append, register-check}
-use Rattle.block.proofs.Packing.{block-parts}
+use Rattle.block.proofs.Packing.{block_parts}
 use Rattle.block.proofs.packed.remainder_of.Statement.{statement}
 use Rattle.block.proofs.packed.remainder_of.Tie as tie
 
@@ -25,9 +25,9 @@ whole m s c r h hr hc e =
     let k : c ≡ check front =
     hc ∙ sym (register-append 0 (bits_of (take m s)) (binary 4 (get_or s m 0 / 16))) ∙ register-check front in
     ap₂ bit_xor k (sym (number-binary 16 r hr))
-    ∙ sym (remainder-behind front (binary 16 r) (length-binary 16 r))
+    ∙ sym (remainder_behind front (binary 16 r) (length-binary 16 r))
     ∙ ap (λ (l : Bits). remainder (front ++ l)) e
-    ∙ ap remainder (sym (block-parts m s h))
+    ∙ ap remainder (sym (block_parts m s h))
 
 slice-aggregate-feed-bytes : tie.Need-slice-aggregate-feed-bytes
 slice-aggregate-feed-bytes c =

@@ -11,28 +11,28 @@ use lib.Bits.{bit_or}
 use lib.ListN.{length, get_or, take, drop, set, length-set, take-append-drop}
 use lib.Seq.{take-suc-set, drop-set-lt, drop-drop}
 use Rattle.crc.specs.Bits.{Bits, binary, bits_of, bytes_of}
-use Rattle.block.proofs.Packing.{drop-half-first, shifted-first}
+use Rattle.block.proofs.Packing.{drop_half_first, shifted_first}
 use Rattle.block.proofs.packed.shift_half.Statement.{statement}
 use Rattle.block.proofs.packed.shift_half.Tie as tie
 
 -- what is to come from place i on: the half of the byte there, and the bytes behind it
-abbrev toCome : List ℕ → ℕ → Bits
-toCome from i = binary 4 (get_or from i 0) ++ bits_of (drop (i + 1) from)
+abbrev to_come : List ℕ → ℕ → Bits
+to_come from i = binary 4 (get_or from i 0) ++ bits_of (drop (i + 1) from)
 
-abbrev invariant-loop : tie.invariant-loop
-invariant-loop m from to₀ i₀ to i =
+abbrev invariant_loop : tie.invariant_loop
+invariant_loop m from to₀ i₀ to i =
     (i ≤ m) × (length to ≡ length to₀) × (drop i to ≡ drop i to₀)
-    × (take i to ++ bytes_of (m - i) (toCome from i) ≡ bytes_of m (drop 4 (bits_of from)))
+    × (take i to ++ bytes_of (m - i) (to_come from i) ≡ bytes_of m (drop 4 (bits_of from)))
 
-abbrev decreases-loop : tie.decreases-loop
-decreases-loop m from to₀ i₀ to i = m - i
+abbrev decreases_loop : tie.decreases_loop
+decreases_loop m from to₀ i₀ to i = m - i
 
-start : (m : ℕ) (from : List ℕ) → m < length from → bytes_of (m - 0) (toCome from 0) ≡ bytes_of m (drop 4 (bits_of from))
-start m from h = ap₂ bytes_of (sub-zero m) (sym (drop-half-first from (omega arith)))
+start : (m : ℕ) (from : List ℕ) → m < length from → bytes_of (m - 0) (to_come from 0) ≡ bytes_of m (drop 4 (bits_of from))
+start m from h = ap₂ bytes_of (sub-zero m) (sym (drop_half_first from (omega arith)))
 
 step : (to from : List ℕ) (m i v : ℕ) → i < m → m < length from → i < length to → get_or from (i + 1) 0 < 256
     → v ≡ bit_or ((get_or from i 0 * 2 ^ 4) % 2 ^ 8) (get_or from (i + 1) 0 / 2 ^ 4)
-    → take (i + 1) (set to i v) ++ bytes_of (m - (i + 1)) (toCome from (i + 1)) ≡ take i to ++ bytes_of (m - i) (toCome from i)
+    → take (i + 1) (set to i v) ++ bytes_of (m - (i + 1)) (to_come from (i + 1)) ≡ take i to ++ bytes_of (m - i) (to_come from i)
 step to from m i v hm hf ht hb hv =
     let e : m - i ≡ suc (m - (i + 1)) = omega arith in
     ap₂ (λ (l t : List ℕ). l ++ t) (ap (λ (j : ℕ). take j (set to i v)) (add-one i) ∙ take-suc-set to i v ht)
@@ -40,7 +40,7 @@ step to from m i v hm hf ht hb hv =
     ∙ append_assoc (take i to) (v ∷ []) (bytes_of (m - (i + 1)) (binary 4 (get_or from (i + 1) 0) ++ bits_of (drop (suc (i + 1)) from)))
     ∙ ap (λ (t : List ℕ). take i to ++ t)
     (ap (λ (x : ℕ). x ∷ bytes_of (m - (i + 1)) (binary 4 (get_or from (i + 1) 0) ++ bits_of (drop (suc (i + 1)) from))) hv
-    ∙ sym (shifted-first (m - (i + 1)) (get_or from i 0) from (i + 1) (omega arith) hb) ∙ ap (λ (n : ℕ). bytes_of n (toCome from i)) (sym e))
+    ∙ sym (shifted_first (m - (i + 1)) (get_or from i 0) from (i + 1) (omega arith) hb) ∙ ap (λ (n : ℕ). bytes_of n (to_come from i)) (sym e))
 
 further : (a b : List ℕ) (i : ℕ) → drop i a ≡ drop i b → drop (i + 1) a ≡ drop (i + 1) b
 further a b i e = sym (drop-drop 1 i a) ∙ ap (drop 1) e ∙ drop-drop 1 i b
@@ -54,28 +54,28 @@ last to to₀ m i row rest hi hd hr =
     ∙ ap₂ (λ (l t : List ℕ). l ++ t) (sym (append-nil (take i to)) ∙ ap (λ (n : ℕ). take i to ++ bytes_of n rest) (sym z) ∙ hr)
     (hd ∙ ap (λ (n : ℕ). drop n to₀) hi)
 
-loop-holds : tie.Need-loop-init invariant-loop decreases-loop
+loop-holds : tie.Need-loop-init invariant_loop decreases_loop
 loop-holds c = (search rules, refl, refl, start c.args.m c.args.from.now (search rules))
 
-shared-slice-read-to : tie.Need-shared-slice-read-to invariant-loop decreases-loop
+shared-slice-read-to : tie.Need-shared-slice-read-to invariant_loop decreases_loop
 shared-slice-read-to c = omega arith
 
-add-to : tie.Need-overflow-add-to invariant-loop decreases-loop
+add-to : tie.Need-overflow-add-to invariant_loop decreases_loop
 add-to c = omega arith
 
-shared-slice-read-to-2 : tie.Need-shared-slice-read-to-2 invariant-loop decreases-loop
+shared-slice-read-to-2 : tie.Need-shared-slice-read-to-2 invariant_loop decreases_loop
 shared-slice-read-to-2 c = omega arith
 
-slice-write-to : tie.Need-slice-write-to invariant-loop decreases-loop
+slice-write-to : tie.Need-slice-write-to invariant_loop decreases_loop
 slice-write-to c = omega arith
 
-add-i : tie.Need-overflow-add-i invariant-loop decreases-loop
+add-i : tie.Need-overflow-add-i invariant_loop decreases_loop
 add-i c = omega arith
 
-loop-less : tie.Need-loop-smaller invariant-loop decreases-loop
+loop-less : tie.Need-loop-smaller invariant_loop decreases_loop
 loop-less c = omega arith
 
-loop-again : tie.Need-loop-preserved invariant-loop decreases-loop
+loop-again : tie.Need-loop-preserved invariant_loop decreases_loop
 loop-again c =
     let l = c.before.before.before.loop in
     let a = c.before.before.before.before.args in
@@ -86,21 +86,21 @@ loop-again c =
       step l.to a.from.now a.m l.i _ (omega arith) (omega arith) (omega arith) h refl ∙ l.invariant.3,
     )
 
-same_length : tie.Need-same-length invariant-loop decreases-loop
+same_length : tie.Need-same-length invariant_loop decreases_loop
 same_length c = c.before.loop.invariant.1
 
-returns : tie.Need-returns invariant-loop decreases-loop
+returns : tie.Need-returns invariant_loop decreases_loop
 returns c =
     let l = c.before.loop in
     let a = c.before.before.args in
-    last l.to a.to.now a.m l.i (drop 4 (bits_of a.from.now)) (toCome a.from.now l.i) (omega arith) l.invariant.2 l.invariant.3
+    last l.to a.to.now a.m l.i (drop 4 (bits_of a.from.now)) (to_come a.from.now l.i) (omega arith) l.invariant.2 l.invariant.3
 
 pub shift-half-spec : {M : Type 1} → statement M
 shift-half-spec =
     tie.close
     (tie.spec
-    invariant-loop
-    decreases-loop
+    invariant_loop
+    decreases_loop
     loop-holds
     shared-slice-read-to
     add-to

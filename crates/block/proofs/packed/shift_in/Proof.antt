@@ -10,7 +10,7 @@ use lib.ListN.{length, get_or, take, drop, set, drop_of_length-le}
 use lib.Seq.{take_all}
 use Rattle.crc.specs.Bits.{Bits, binary, bits_of, bytes_of}
 use Rattle.block.specs.Calls.{overwritten}
-use Rattle.block.proofs.Packing.{drop-half-first, shifted-first, shifted-rest}
+use Rattle.block.proofs.Packing.{drop_half_first, shifted_first, shifted_rest}
 use Rattle.block.proofs.packed.shift_in.Statement.{statement}
 use Rattle.block.proofs.packed.shift_in.Tie as tie
 
@@ -28,8 +28,8 @@ front m c payload (b ∷ bs) part hm hp hb h0 e =
     let d : drop (suc (length bs) - 1) bs ≡ [] = drop_of_length-le bs {i = suc (length bs) - 1} (omega arith) in
     let first : bytes_of m (binary 4 c ++ bits_of payload) ≡ v ∷ bytes_of (m - 1) (drop 4 (bits_of payload)) =
     ap (λ (x : ℕ). bytes_of x (binary 4 c ++ bits_of payload)) (sym sm)
-    ∙ shifted-first (m - 1) c payload 0 (omega arith) h0
-    ∙ ap (λ (l : Bits). v ∷ bytes_of (m - 1) l) (sym (drop-half-first payload (omega arith))) in
+    ∙ shifted_first (m - 1) c payload 0 (omega arith) h0
+    ∙ ap (λ (l : Bits). v ∷ bytes_of (m - 1) l) (sym (drop_half_first payload (omega arith))) in
     ap (λ (l : List ℕ). v ∷ l) (ap (λ (l : List ℕ). part ++ l) d ∙ append-nil part ∙ e ∙ ap (λ (l : List ℕ). bytes_of (m - 1) (drop 4 (bits_of payload)) ++ drop (m - 1) l) t)
     ∙ ap₂ (λ (x y : List ℕ). x ++ y) (sym first) (ap (λ (x : ℕ). drop x (b ∷ bs)) sm)
 
@@ -87,7 +87,7 @@ rest : (m c : ℕ) (payload : List ℕ) → 0 < m → m ≤ length payload
 rest m c payload hm hp =
     let e : suc (m - 1) ≡ m = omega arith in
     subst (λ (n : ℕ). binary 4 (get_or payload (m - 1) 0) ≡ drop (8 * n) (binary 4 c ++ bits_of (take n payload))) e
-    (sym (shifted-rest c (m - 1) payload (omega arith)))
+    (sym (shifted_rest c (m - 1) payload (omega arith)))
 
 returns-2 : tie.Need-returns-2
 returns-2 c =

@@ -7,22 +7,22 @@ use borrow.Author.Rules.{rules}
 use borrow.Author.Tests.{ltb-true, ltb-false, lt-ltb, le-ltb}
 use lib.Dec.{ltb}
 use lib.ListN.{length}
-use Rattle.block.specs.Lengths.{blockLength}
+use Rattle.block.specs.Lengths.{block_length}
 use Rattle.block.proofs.packed.short_of_block.Statement.{statement}
 use Rattle.block.proofs.packed.short_of_block.Tie as tie
 
-by_bytes : (bytes m : ℕ) (t : Bool) → m ≤ bytes → ltb (bytes - m) 3 ≡ t → t ≡ ltb (8 * bytes) (blockLength (8 * m))
+by_bytes : (bytes m : ℕ) (t : Bool) → m ≤ bytes → ltb (bytes - m) 3 ≡ t → t ≡ ltb (8 * bytes) (block_length (8 * m))
 by_bytes bytes m true n e =
     let h = ltb-true (bytes - m) 3 e in
-    sym (lt-ltb (8 * bytes) (blockLength (8 * m)) (omega arith))
+    sym (lt-ltb (8 * bytes) (block_length (8 * m)) (omega arith))
 by_bytes bytes m false n e =
     let h = ltb-false (bytes - m) 3 e in
-    sym (le-ltb (8 * bytes) (blockLength (8 * m)) (omega arith))
+    sym (le-ltb (8 * bytes) (block_length (8 * m)) (omega arith))
 
 returns : tie.Need-returns
 returns c =
     let a = c.before.args in
-    sym (lt-ltb (8 * length a.block.now) (blockLength (8 * a.m)) (omega arith))
+    sym (lt-ltb (8 * length a.block.now) (block_length (8 * a.m)) (omega arith))
 
 sub-result : tie.Need-overflow-sub-result
 sub-result c = search rules

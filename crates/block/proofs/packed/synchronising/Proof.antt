@@ -5,10 +5,10 @@ use mathlib.Core.Path.{◌≡◌, sym, ap, ◌∙◌}
 use native.Mathlib.Omega.{arith}
 use Prim.Native.Nat.{ℕ, ◌/◌, ◌+◌, ◌*◌}
 use lib.ListN.{length}
-use Rattle.block.specs.Lengths.{blockLength}
-use Rattle.block.specs.Block.{syncBlock}
+use Rattle.block.specs.Lengths.{block_length}
+use Rattle.block.specs.Block.{sync_block}
 use Rattle.block.specs.Calls.{overwritten}
-use Rattle.block.proofs.Refusals.{sync-slice, sync-done}
+use Rattle.block.proofs.Refusals.{sync_slice, sync_done}
 use Rattle.block.proofs.packed.synchronising.Statement.{statement}
 use Rattle.block.proofs.packed.synchronising.Tie as tie
 
@@ -21,13 +21,13 @@ same_length c = search rules
 returns : tie.Need-returns
 returns c =
     let a = c.before.before.before.before.args in
-    sync-slice (8 * a.m) a.block.now (sym c.before.short-of-block.ensures ∙ c.if1.true)
+    sync_slice (8 * a.m) a.block.now (sym c.before.short-of-block.ensures ∙ c.if1.true)
 
 fill-sync-requires : tie.Need-fill-sync-requires
 fill-sync-requires c κs =
     let e = c.before in
     let a = e.before.before.before.before.args in
-    omega (arith, ltb-false (8 * length a.block.now) (blockLength (8 * a.m)) (sym e.before.short-of-block.ensures ∙ e.if1.false))
+    omega (arith, ltb-false (8 * length a.block.now) (block_length (8 * a.m)) (sym e.before.short-of-block.ensures ∙ e.if1.false))
 
 same-length-2 : tie.Need-same-length-2
 same-length-2 c = search rules
@@ -37,8 +37,8 @@ returns-2 c =
     let e = c.before.before.before.before in
     let a = e.before.before.before.before.args in
     let n : a.m ≡ 8 * a.m / 8 = omega arith in
-    sync-done (8 * a.m) a.block.now (sym e.before.short-of-block.ensures ∙ e.if1.false) _
-    (c.before.before.fill-sync.ensures ∙ ap (λ (x : ℕ). overwritten (x + 3) (syncBlock (8 * a.m)) a.block.now) n)
+    sync_done (8 * a.m) a.block.now (sym e.before.short-of-block.ensures ∙ e.if1.false) _
+    (c.before.before.fill-sync.ensures ∙ ap (λ (x : ℕ). overwritten (x + 3) (sync_block (8 * a.m)) a.block.now) n)
 
 pub synchronising-spec : {M : Type 1} → statement M
 synchronising-spec =

@@ -19,34 +19,34 @@ turn s copy i e h g =
 whole : (s copy : List ℕ) (i : ℕ) → take i copy ≡ take i s → i ≡ 483 → length copy ≡ 483 → length s ≡ 483 → copy ≡ s
 whole s copy i e h g n = sym (take_all 483 copy (omega arith)) ∙ rw h at e ∙ take_all 483 s (omega arith)
 
-abbrev invariant-loop : tie.invariant-loop
-invariant-loop array copy₀ i₀ copy i = (i ≤ 483) × (length copy ≡ 483) × (take i copy ≡ take i array)
+abbrev invariant_loop : tie.invariant_loop
+invariant_loop array copy₀ i₀ copy i = (i ≤ 483) × (length copy ≡ 483) × (take i copy ≡ take i array)
 
-abbrev decreases-loop : tie.decreases-loop
-decreases-loop array copy₀ i₀ copy i = 483 - i
+abbrev decreases_loop : tie.decreases_loop
+decreases_loop array copy₀ i₀ copy i = 483 - i
 
-loop-holds : tie.Need-loop-init invariant-loop decreases-loop
+loop-holds : tie.Need-loop-init invariant_loop decreases_loop
 loop-holds c = (search rules, search rules, refl)
 
-shared-slice-read-copy : tie.Need-shared-slice-read-copy invariant-loop decreases-loop
+shared-slice-read-copy : tie.Need-shared-slice-read-copy invariant_loop decreases_loop
 shared-slice-read-copy c = omega arith
 
-array-write-copy : tie.Need-array-write-copy invariant-loop decreases-loop
+array-write-copy : tie.Need-array-write-copy invariant_loop decreases_loop
 array-write-copy c = omega arith
 
-add-i : tie.Need-overflow-add-i invariant-loop decreases-loop
+add-i : tie.Need-overflow-add-i invariant_loop decreases_loop
 add-i c = omega arith
 
-loop-less : tie.Need-loop-smaller invariant-loop decreases-loop
+loop-less : tie.Need-loop-smaller invariant_loop decreases_loop
 loop-less c = omega arith
 
-loop-again : tie.Need-loop-preserved invariant-loop decreases-loop
+loop-again : tie.Need-loop-preserved invariant_loop decreases_loop
 loop-again c =
     let l = c.before.before.loop in
     let a = c.before.before.before in
     (omega arith, simp length-set l.invariant.1, turn a.args.array.now l.copy l.i l.invariant.2 (omega arith) (omega arith))
 
-returns : tie.Need-returns invariant-loop decreases-loop
+returns : tie.Need-returns invariant_loop decreases_loop
 returns c =
     let l = c.before.loop in
     let a = c.before.before in
@@ -56,8 +56,8 @@ pub copied-spec : {M : Type 1} → statement M
 copied-spec =
     tie.close
     (tie.spec
-    invariant-loop
-    decreases-loop
+    invariant_loop
+    decreases_loop
     loop-holds
     shared-slice-read-copy
     array-write-copy

@@ -5,36 +5,36 @@ use Prim.Native.Nat.{ℕ, suc, ◌+◌, ◌-◌, ◌*◌, ◌/◌, ◌%◌, ◌�
 use native.Mathlib.Omega.{arith}
 use lib.ListN.{length, take, drop, get_or, set, length-set}
 use Rattle.crc.specs.Bits.{binary, bits_of}
-use Rattle.crc.proofs.Bytes.{set-bytes, packed}
+use Rattle.crc.proofs.Bytes.{set_bytes, packed}
 use native.Mathlib.Nat.{add-zero}
 use native.Mathlib.Numerals.{add-one}
 use lib.Seq.{drop-set-lt}
 use mir.Syntax.{w8}
 use mir.Val.{Fits}
 use Rattle.line.specs.Receiving.{overwrite}
-use Rattle.line.proofs.BitMoves.{held-bits, one-byte-more, last_byte, further}
+use Rattle.line.proofs.BitMoves.{held_bits_lem, one_byte_more, last_byte, further}
 use borrow.Author.Rules.{rules}
 use Rattle.line.proofs.hold.put_bits.Statement.{statement}
 use Rattle.line.proofs.hold.put_bits.Tie as tie
 
-abbrev invariant-loop : tie.invariant-loop
-invariant-loop array₀ held line count shift from whole carry₀ i₀ array carry i =
+abbrev invariant_loop : tie.invariant_loop
+invariant_loop array₀ held line count shift from whole carry₀ i₀ array carry i =
     (i ≤ whole) × (length array ≡ length array₀) × (drop (from + i) array ≡ drop (from + i) array₀)
     × (bits_of (take (from + i) array) ++ binary shift carry ≡ take held (bits_of array₀) ++ bits_of (take i line))
 
-abbrev decreases-loop : tie.decreases-loop
-decreases-loop array₀ held line count shift from whole carry₀ i₀ array carry i = whole - i
+abbrev decreases_loop : tie.decreases_loop
+decreases_loop array₀ held line count shift from whole carry₀ i₀ array carry i = whole - i
 
-add-whole : tie.Need-overflow-add-whole invariant-loop decreases-loop
+add-whole : tie.Need-overflow-add-whole invariant_loop decreases_loop
 add-whole c = omega arith
 
-slice-read-first-bits : tie.Need-slice-read-first-bits invariant-loop decreases-loop
+slice-read-first-bits : tie.Need-slice-read-first-bits invariant_loop decreases_loop
 slice-read-first-bits c = omega arith
 
-first-bits-requires : tie.Need-first-bits-requires invariant-loop decreases-loop
+first-bits-requires : tie.Need-first-bits-requires invariant_loop decreases_loop
 first-bits-requires c κs = search rules
 
-loop-holds : tie.Need-loop-init invariant-loop decreases-loop
+loop-holds : tie.Need-loop-init invariant_loop decreases_loop
 unfolding bits_of
 loop-holds c =
     let a = c.before.before.before.before.args in
@@ -44,29 +44,29 @@ loop-holds c =
       refl,
       refl,
       ap (λ (k : ℕ). bits_of (take k a.array.now) ++ binary (a.held % 8) c.first-bits.result) (add-zero from)
-          ∙ held-bits a.array.now a.held from (a.held % 8) c.first-bits.result e (omega arith) (omega arith) c.first-bits.ensures
+          ∙ held_bits_lem a.array.now a.held from (a.held % 8) c.first-bits.result e (omega arith) (omega arith) c.first-bits.ensures
           ∙ sym (append-nil (take a.held (bits_of a.array.now))),
     )
 
-shared-slice-read-x : tie.Need-shared-slice-read-x invariant-loop decreases-loop
+shared-slice-read-x : tie.Need-shared-slice-read-x invariant_loop decreases_loop
 shared-slice-read-x c = omega arith
 
-join-requires : tie.Need-join-requires invariant-loop decreases-loop
+join-requires : tie.Need-join-requires invariant_loop decreases_loop
 join-requires c κs = search rules
 
-add-array : tie.Need-overflow-add-array invariant-loop decreases-loop
+add-array : tie.Need-overflow-add-array invariant_loop decreases_loop
 add-array c = omega arith
 
-slice-write-array : tie.Need-slice-write-array invariant-loop decreases-loop
+slice-write-array : tie.Need-slice-write-array invariant_loop decreases_loop
 slice-write-array c = omega arith
 
-add-i : tie.Need-overflow-add-i invariant-loop decreases-loop
+add-i : tie.Need-overflow-add-i invariant_loop decreases_loop
 add-i c = omega arith
 
-loop-less : tie.Need-loop-smaller invariant-loop decreases-loop
+loop-less : tie.Need-loop-smaller invariant_loop decreases_loop
 loop-less c = omega arith
 
-loop-again : tie.Need-loop-preserved invariant-loop decreases-loop
+loop-again : tie.Need-loop-preserved invariant_loop decreases_loop
 loop-again c =
     let a = c.before.before.before.before.before.before.before.before.args in
     let l = c.before.before.before.loop in
@@ -81,36 +81,36 @@ loop-again c =
           ∙ further l.array a.array.now at l.invariant.2
           ∙ ap (λ (k : ℕ). drop k a.array.now) (sym e),
       ap (λ (k : ℕ). bits_of (take k (set l.array at c.join.result)) ++ binary s (get_or a.line.now l.i 0)) e
-          ∙ one-byte-more l.array a.line.now at l.i s l.carry c.join.result (take a.held (bits_of a.array.now))
+          ∙ one_byte_more l.array a.line.now at l.i s l.carry c.join.result (take a.held (bits_of a.array.now))
           (omega arith) (omega arith) (omega arith) c.join.ensures l.invariant.3
           ∙ ap (λ (k : ℕ). take a.held (bits_of a.array.now) ++ bits_of (take k a.line.now)) (sym (add-one l.i)),
     )
 
-add-to : tie.Need-overflow-add-to invariant-loop decreases-loop
+add-to : tie.Need-overflow-add-to invariant_loop decreases_loop
 add-to c = omega arith
 
-byte-at-requires : tie.Need-byte-at-requires invariant-loop decreases-loop
+byte-at-requires : tie.Need-byte-at-requires invariant_loop decreases_loop
 byte-at-requires c κs = search rules
 
-join-requires-2 : tie.Need-join-requires-2 invariant-loop decreases-loop
+join-requires-2 : tie.Need-join-requires-2 invariant_loop decreases_loop
 join-requires-2 c κs = search rules
 
-add-merge : tie.Need-overflow-add-merge invariant-loop decreases-loop
+add-merge : tie.Need-overflow-add-merge invariant_loop decreases_loop
 add-merge c = omega arith
 
-slice-read-merge : tie.Need-slice-read-merge invariant-loop decreases-loop
+slice-read-merge : tie.Need-slice-read-merge invariant_loop decreases_loop
 slice-read-merge c = omega arith
 
-merge-requires : tie.Need-merge-requires invariant-loop decreases-loop
+merge-requires : tie.Need-merge-requires invariant_loop decreases_loop
 merge-requires c κs = search rules
 
-slice-write-array-2 : tie.Need-slice-write-array-2 invariant-loop decreases-loop
+slice-write-array-2 : tie.Need-slice-write-array-2 invariant_loop decreases_loop
 slice-write-array-2 c = omega arith
 
-same_length : tie.Need-same-length invariant-loop decreases-loop
+same_length : tie.Need-same-length invariant_loop decreases_loop
 same_length c = simp length-set c.before.before.before.before.before.loop.invariant.1
 
-returns : tie.Need-returns invariant-loop decreases-loop
+returns : tie.Need-returns invariant_loop decreases_loop
 returns c =
     let a = c.before.before.before.before.before.before.before.before.before.before.args in
     let l = c.before.before.before.before.before.loop in
@@ -123,7 +123,7 @@ returns c =
     packed (set l.array at c.merge.result) 483
     (overwrite a.held (take a.count (bits_of a.line.now)) (bits_of a.array.now))
     (length-set l.array at c.merge.result ∙ l.invariant.1 ∙ c.before.before.before.before.before.before.before.before.before.before.requires.0)
-    (set-bytes l.array at c.merge.result w.fits (λ j. (c.before.slice-known3.given j).fits))
+    (set_bytes l.array at c.merge.result w.fits (λ j. (c.before.slice-known3.given j).fits))
     (last_byte l.array a.array.now a.line.now a.held a.count at whole s ((s + a.count) % 8) l.carry c.before.before.join2.result c.merge.result
     (omega arith) (omega arith) (rw done at l.invariant.2) (omega arith) (omega arith) (omega arith) (omega arith) (omega arith)
     (c.before.before.join2.ensures ∙ ap (λ (x : ℕ). take 8 (binary s l.carry ++ binary 8 x)) c.before.before.before.byte_at.ensures)
@@ -134,8 +134,8 @@ pub put-bits-spec : {M : Type 1} → statement M
 put-bits-spec =
     tie.close
     (tie.spec
-    invariant-loop
-    decreases-loop
+    invariant_loop
+    decreases_loop
     add-whole
     slice-read-first-bits
     first-bits-requires

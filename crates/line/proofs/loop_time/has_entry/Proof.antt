@@ -7,8 +7,8 @@ use Prim.Native.Nat.{ℕ}
 use lib.Dec.{T}
 use lib.ListN.{get_or}
 use Rattle.block.specs.Lengths.{lengths}
-use Rattle.line.specs.LoopTime.{speeds, blockTime, hasEntry}
-use Rattle.line.proofs.Table.{at-cell}
+use Rattle.line.specs.LoopTime.{speeds, block_time, has_entry}
+use Rattle.line.proofs.Table.{at_cell}
 use Rattle.line.proofs.loop_time.has_entry.Statement.{statement}
 use Rattle.line.proofs.loop_time.has_entry.Tie as tie
 
@@ -30,7 +30,7 @@ same→eq false false t = refl
 
 right : ℕ → ℕ → Bool
 right row column =
-    same (get_or (get_or entry row []) column false) (hasEntry (get_or lengths row 0) (get_or speeds column 0))
+    same (get_or (get_or entry row []) column false) (has_entry (get_or lengths row 0) (get_or speeds column 0))
 
 mul-result : tie.Need-overflow-mul-result
 mul-result c = search rules
@@ -42,12 +42,12 @@ index-2-result : tie.Need-bounds-2-result
 index-2-result c = search rules
 
 returns : tie.Need-returns
-unfolding entry same right hasEntry blockTime
+unfolding entry same right has_entry block_time
 returns c =
     let row = c.before.args.row in
     let column = c.before.args.column in
-    same→eq (get_or (get_or entry row []) column false) (hasEntry (get_or lengths row 0) (get_or speeds column 0))
-    (at-cell right 4 6 tt row column (search rules) (search rules))
+    same→eq (get_or (get_or entry row []) column false) (has_entry (get_or lengths row 0) (get_or speeds column 0))
+    (at_cell right 4 6 tt row column (search rules) (search rules))
 
 pub has-entry-spec : {M : Type 1} → statement M
 has-entry-spec = tie.close (tie.spec mul-result index-1-result index-2-result returns)

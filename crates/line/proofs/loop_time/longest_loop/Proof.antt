@@ -6,8 +6,8 @@ use Prim.Native.Nat.{ℕ}
 use lib.Dec.{eqb, eqb→eq}
 use lib.ListN.{get_or}
 use Rattle.block.specs.Lengths.{lengths}
-use Rattle.line.specs.LoopTime.{speeds, blockTime, longestLoop}
-use Rattle.line.proofs.Table.{at-cell}
+use Rattle.line.specs.LoopTime.{speeds, block_time, longest_loop}
+use Rattle.line.proofs.Table.{at_cell}
 use Rattle.line.proofs.loop_time.longest_loop.Statement.{statement}
 use Rattle.line.proofs.loop_time.longest_loop.Tie as tie
 
@@ -18,7 +18,7 @@ limit =
 
 right : ℕ → ℕ → Bool
 right row column =
-    eqb (get_or (get_or limit row []) column 0) (longestLoop (get_or lengths row 0) (get_or speeds column 0))
+    eqb (get_or (get_or limit row []) column 0) (longest_loop (get_or lengths row 0) (get_or speeds column 0))
 
 mul-result : tie.Need-overflow-mul-result
 mul-result c = search rules
@@ -33,12 +33,12 @@ index-2-result : tie.Need-bounds-2-result
 index-2-result c = search rules
 
 returns : tie.Need-returns
-unfolding limit right longestLoop blockTime
+unfolding limit right longest_loop block_time
 returns c =
     let row = c.before.args.row in
     let column = c.before.args.column in
-    eqb→eq (get_or (get_or limit row []) column 0) (longestLoop (get_or lengths row 0) (get_or speeds column 0))
-    (at-cell right 4 6 tt row column (search rules) (search rules))
+    eqb→eq (get_or (get_or limit row []) column 0) (longest_loop (get_or lengths row 0) (get_or speeds column 0))
+    (at_cell right 4 6 tt row column (search rules) (search rules))
 
 pub longest-loop-spec : {M : Type 1} → statement M
 longest-loop-spec =

@@ -3,7 +3,7 @@ use mathlib.Core.Path.{◌≡◌, refl, ap, sym, ◌∙◌}
 use Prim.Native.Nat.{ℕ, zero, suc, ◌-◌}
 use native.Mathlib.Omega.{arith}
 use borrow.Author.Tests.{not-true, not-false}
-use Rattle.line.specs.Order.{letter, marked, dataService}
+use Rattle.line.specs.Order.{letter, marked, data_service}
 use borrow.Author.Rules.{rules}
 use Rattle.line.proofs.order.data_service.Statement.{statement}
 use Rattle.line.proofs.order.data_service.Tie as tie
@@ -16,7 +16,7 @@ letter-requires : tie.Need-letter-requires
 letter-requires c κs = search rules
 
 returns : tie.Need-returns
-unfolding dataService
+unfolding data_service
 returns c =
     let a = c.before.before.before.args in
     c.letter.ensures ∙ sym (simp (not-true a.marks.in_use c.before.if1.true))
@@ -25,7 +25,7 @@ mark-requires : tie.Need-mark-requires
 mark-requires c κs = search rules
 
 returns-2 : tie.Need-returns-2
-unfolding dataService
+unfolding data_service
 returns-2 c =
     let a = c.before.before.before.before.args in
     c.mark.ensures ∙ sym (rw (not-false a.marks.in_use c.before.before.if1.false, c.before.if2.true) refl)
@@ -37,7 +37,7 @@ letter-requires-2 : tie.Need-letter-requires-2
 letter-requires-2 c κs = search rules
 
 returns-3 : tie.Need-returns-3
-unfolding dataService
+unfolding data_service
 returns-3 c =
     let a = c.before.before.before.before.args in
     c.letter2.ensures

@@ -7,9 +7,9 @@ use native.Mathlib.Omega.{arith}
 use lib.Bits.{bit_and, and_mask, mask_lt}
 use lib.ListN.{replicate}
 use Rattle.crc.specs.Bits.{Bits, binary, bits_of}
-use Rattle.crc.proofs.Rows.{binary-join, binary-mod}
-use Rattle.line.specs.Order.{version, endPayload}
-use Rattle.line.proofs.LastItem.{bitsOf-zeros}
+use Rattle.crc.proofs.Rows.{binary_join, binary-mod}
+use Rattle.line.specs.Order.{version, end_payload}
+use Rattle.line.proofs.LastItem.{bits_of-zeros}
 use Rattle.line.proofs.order.end_data.Statement.{statement}
 use Rattle.line.proofs.order.end_data.Tie as tie
 
@@ -41,25 +41,25 @@ array-write-payload-5 : tie.Need-array-write-payload-5
 array-write-payload-5 c = search rules
 
 -- the low byte of a number, as the code masks it
-binary-mask : (n : ℕ) → binary 8 (bit_and n 255) ≡ binary 8 n
-binary-mask n = ap (binary 8) (and_mask n 8) ∙ binary-mod 8 n
+binary_mask : (n : ℕ) → binary 8 (bit_and n 255) ≡ binary 8 n
+binary_mask n = ap (binary 8) (and_mask n 8) ∙ binary-mod 8 n
 
 -- a number's last eight bits behind the others
-binary-last : (w n : ℕ) → binary (w + 8) n ≡ binary w (n / 256) ++ binary 8 n
-binary-last w n =
+binary_last : (w n : ℕ) → binary (w + 8) n ≡ binary w (n / 256) ++ binary 8 n
+binary_last w n =
     let e : n ≡ n / 256 * 256 + n % 256 = omega arith in
-    ap (binary (w + 8)) e ∙ binary-join w 8 (n / 256) (n % 256) (omega arith)
+    ap (binary (w + 8)) e ∙ binary_join w 8 (n / 256) (n % 256) (omega arith)
     ∙ ap (λ (l : Bits). binary w (n / 256) ++ l) (binary-mod 8 n)
 
 four_bytes : (n : ℕ) → binary 32 n ≡ ((binary 8 (n / 16777216) ++ binary 8 (n / 65536)) ++ binary 8 (n / 256)) ++ binary 8 n
 four_bytes n =
     let e : n / 256 / 256 ≡ n / 65536 = omega arith in
     let f : n / 65536 / 256 ≡ n / 16777216 = omega arith in
-    binary-last 24 n
+    binary_last 24 n
     ∙ ap (λ (l : Bits). l ++ binary 8 n)
-    (binary-last 16 (n / 256) ∙ ap (λ (m : ℕ). binary 16 m ++ binary 8 (n / 256)) e
+    (binary_last 16 (n / 256) ∙ ap (λ (m : ℕ). binary 16 m ++ binary 8 (n / 256)) e
     ∙ ap (λ (l : Bits). l ++ binary 8 (n / 256))
-    (binary-last 8 (n / 65536) ∙ ap (λ (m : ℕ). binary 8 m ++ binary 8 (n / 65536)) f))
+    (binary_last 8 (n / 65536) ∙ ap (λ (m : ℕ). binary 8 m ++ binary 8 (n / 65536)) f))
 
 -- the first five bytes
 front : (n : ℕ) (rest : List ℕ)
@@ -69,19 +69,19 @@ front : (n : ℕ) (rest : List ℕ)
 unfolding bits_of
 front n rest =
     simp (
-      binary-mask (n / 16777216),
-      binary-mask (n / 65536),
-      binary-mask (n / 256),
-      binary-mask n,
+      binary_mask (n / 16777216),
+      binary_mask (n / 65536),
+      binary_mask (n / 256),
+      binary_mask n,
       four_bytes n,
       append_assoc,
     )
 
 returns : tie.Need-returns
-unfolding endPayload
+unfolding end_payload
 returns c =
     front c.args.bits (replicate 475 0)
-    ∙ ap (λ (l : Bits). (binary 8 version ++ binary 32 c.args.bits) ++ l) (bitsOf-zeros 475)
+    ∙ ap (λ (l : Bits). (binary 8 version ++ binary 32 c.args.bits) ++ l) (bits_of-zeros 475)
 
 pub end-data-spec : {M : Type 1} → statement M
 end-data-spec =

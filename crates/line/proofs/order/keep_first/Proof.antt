@@ -7,7 +7,7 @@ use lib.Bits.{bit_and}
 use lib.Dec.{eqb, eqb→eq}
 use lib.ListN.{take}
 use Rattle.crc.specs.Bits.{binary, number, zeros}
-use Rattle.line.proofs.Table.{at-cell}
+use Rattle.line.proofs.Table.{at_cell}
 use Rattle.line.proofs.order.keep_first.Statement.{statement}
 use Rattle.line.proofs.order.keep_first.Tie as tie
 
@@ -27,7 +27,7 @@ returns c =
     let x = c.args.x in
     let count = c.args.count in
     eqb→eq (bit_and x (255 - 255 / 2 ^ count)) (number (take 8 (take count (binary 8 x) ++ zeros 8)))
-    (at-cell right 256 8 tt x count c.ranges.x.fits (search rules))
+    (at_cell right 256 8 tt x count c.ranges.x.fits (search rules))
 
 pub keep-first-spec : {M : Type 1} → statement M
 keep-first-spec = tie.close (tie.spec cast-result shr-result returns)

@@ -7,36 +7,36 @@ use native.Mathlib.Omega.{arith}
 use lib.ListN.{length, get_or, set, take, drop, replicate, length-drop}
 use lib.Seq.{get_or-drop}
 use Rattle.crc.specs.Bits.{Bits, binary, bits_of, bytes_of, number, zeros}
-use Rattle.line.proofs.LastItem.{copied, written, packed-whole, packed-rest}
+use Rattle.line.proofs.LastItem.{copied, written, packed_whole, packed_rest}
 use Rattle.line.proofs.order.last_data.Statement.{statement}
 use Rattle.line.proofs.order.last_data.Tie as tie
 
-abbrev invariant-loop : tie.invariant-loop
-invariant-loop order bits start payload₀ whole j₀ payload j =
+abbrev invariant_loop : tie.invariant_loop
+invariant_loop order bits start payload₀ whole j₀ payload j =
     (j ≤ whole) × (payload ≡ take j (drop start order) ++ replicate (480 - j) 0)
 
-abbrev decreases-loop : tie.decreases-loop
-decreases-loop order bits start payload₀ whole j₀ payload j = whole - j
+abbrev decreases_loop : tie.decreases_loop
+decreases_loop order bits start payload₀ whole j₀ payload j = whole - j
 
-sub-whole : tie.Need-overflow-sub-whole invariant-loop decreases-loop
+sub-whole : tie.Need-overflow-sub-whole invariant_loop decreases_loop
 sub-whole c = search rules
 
-loop-holds : tie.Need-loop-init invariant-loop decreases-loop
+loop-holds : tie.Need-loop-init invariant_loop decreases_loop
 loop-holds c = (search rules, refl)
 
-add-payload : tie.Need-overflow-add-payload invariant-loop decreases-loop
+add-payload : tie.Need-overflow-add-payload invariant_loop decreases_loop
 add-payload c = search rules
 
-shared-slice-read-payload : tie.Need-shared-slice-read-payload invariant-loop decreases-loop
+shared-slice-read-payload : tie.Need-shared-slice-read-payload invariant_loop decreases_loop
 shared-slice-read-payload c = search rules
 
-array-write-payload : tie.Need-array-write-payload invariant-loop decreases-loop
+array-write-payload : tie.Need-array-write-payload invariant_loop decreases_loop
 array-write-payload c = search rules
 
-add-j : tie.Need-overflow-add-j invariant-loop decreases-loop
+add-j : tie.Need-overflow-add-j invariant_loop decreases_loop
 add-j c = search rules
 
-loop-less : tie.Need-loop-smaller invariant-loop decreases-loop
+loop-less : tie.Need-loop-smaller invariant_loop decreases_loop
 loop-less c = search rules
 
 -- one byte more
@@ -48,22 +48,22 @@ again order payload start j e h g =
     ∙ ap (λ (x : ℕ). set (take j (drop start order) ++ replicate (480 - j) 0) j x) (sym (get_or-drop start order j 0))
     ∙ copied j (drop start order) 480 (omega (arith, length-drop start order)) g
 
-loop-again : tie.Need-loop-preserved invariant-loop decreases-loop
+loop-again : tie.Need-loop-preserved invariant_loop decreases_loop
 loop-again c =
     let l = c.before.before.loop in
     let a = c.before.before.before.before.args in
     (search rules, again a.order.now l.payload a.start l.j l.invariant.1 (omega arith) (omega arith))
 
-add-keep-first : tie.Need-overflow-add-keep-first invariant-loop decreases-loop
+add-keep-first : tie.Need-overflow-add-keep-first invariant_loop decreases_loop
 add-keep-first c = search rules
 
-shared-slice-read-keep-first : tie.Need-shared-slice-read-keep-first invariant-loop decreases-loop
+shared-slice-read-keep-first : tie.Need-shared-slice-read-keep-first invariant_loop decreases_loop
 shared-slice-read-keep-first c = search rules
 
-keep-first-requires : tie.Need-keep-first-requires invariant-loop decreases-loop
+keep-first-requires : tie.Need-keep-first-requires invariant_loop decreases_loop
 keep-first-requires c κs = search rules
 
-array-write-payload-2 : tie.Need-array-write-payload-2 invariant-loop decreases-loop
+array-write-payload-2 : tie.Need-array-write-payload-2 invariant_loop decreases_loop
 array-write-payload-2 c = search rules
 
 module _ (order payload : List ℕ) (bits start j : ℕ) (bytes : (i : ℕ) → get_or order i 0 < 256) (from : 8 * start ≤ bits)
@@ -72,11 +72,11 @@ module _ (order payload : List ℕ) (bits start j : ℕ) (bytes : (i : ℕ) → 
   abbrev row : Bits
   row = drop (8 * start) (take bits (bits_of order))
 
-  no-rest : bits % 8 ≤ 0 → payload ≡ bytes_of 480 row
-  no-rest h =
+  no_rest : bits % 8 ≤ 0 → payload ≡ bytes_of 480 row
+  no_rest h =
       let n : bits / 8 - start + (480 - (bits / 8 - start)) ≡ 480 = omega arith in
       (e ∙ ap (λ (i : ℕ). take i (drop start order) ++ replicate (480 - i) 0) whole)
-      ∙ packed-whole order bytes bits start from lent (480 - (bits / 8 - start)) (omega arith)
+      ∙ packed_whole order bytes bits start from lent (480 - (bits / 8 - start)) (omega arith)
       ∙ ap (λ (i : ℕ). bytes_of i row) n
 
   some-rest : (v : ℕ) → 0 < bits % 8
@@ -88,9 +88,9 @@ module _ (order payload : List ℕ) (bits start j : ℕ) (bytes : (i : ℕ) → 
       ap (λ (l : List ℕ). set l w v) (e ∙ ap (λ (i : ℕ). take i (drop start order) ++ replicate (480 - i) 0) whole)
       ∙ written w (drop start order) 480 v (omega (arith, length-drop start order)) (omega arith)
       ∙ ap (λ (x : ℕ). take w (drop start order) ++ (x ∷ replicate (480 - (w + 1)) 0)) f
-      ∙ packed-rest order bytes bits start from lent (480 - (w + 1)) h ∙ ap (λ (i : ℕ). bytes_of i row) n
+      ∙ packed_rest order bytes bits start from lent (480 - (w + 1)) h ∙ ap (λ (i : ℕ). bytes_of i row) n
 
-returns : tie.Need-returns invariant-loop decreases-loop
+returns : tie.Need-returns invariant_loop decreases_loop
 returns c =
     let entry = c.before.before.before.before.before in
     let a = entry.before.args in
@@ -99,20 +99,20 @@ returns c =
     (omega arith) (omega arith) (omega arith) l.invariant.1 (omega arith) c.keep-first.result c.before.before.if1.true
     c.keep-first.ensures
 
-returns-2 : tie.Need-returns-2 invariant-loop decreases-loop
+returns-2 : tie.Need-returns-2 invariant_loop decreases_loop
 returns-2 c =
     let entry = c.before.before.before in
     let a = entry.before.args in
     let l = c.before.before.loop in
-    no-rest a.order.now l.payload a.bits a.start l.j (λ i. (entry.shared-slice-known.given i).fits)
+    no_rest a.order.now l.payload a.bits a.start l.j (λ i. (entry.shared-slice-known.given i).fits)
     (omega arith) (omega arith) (omega arith) l.invariant.1 (omega arith) c.if1.false
 
 pub last-data-spec : {M : Type 1} → statement M
 last-data-spec =
     tie.close
     (tie.spec
-    invariant-loop
-    decreases-loop
+    invariant_loop
+    decreases_loop
     sub-whole
     loop-holds
     add-payload

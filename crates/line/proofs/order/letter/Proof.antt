@@ -6,8 +6,8 @@ use Rattle.line.specs.Order.{letter}
 use Rattle.line.proofs.order.letter.Statement.{statement}
 use Rattle.line.proofs.order.letter.Tie as tie
 
-two-left : (r : ℕ) → r < 3 → (r ≡ 0 → ⊥) → (r ≡ 1 → ⊥) → r ≡ 2
-two-left r h a b = omega arith
+two_left : (r : ℕ) → r < 3 → (r ≡ 0 → ⊥) → (r ≡ 1 → ⊥) → r ≡ 2
+two_left r h a b = omega arith
 
 returns : tie.Need-returns
 unfolding letter
@@ -21,7 +21,7 @@ returns-3 : tie.Need-returns-3
 unfolding letter
 returns-3 c =
     let none = c.match.rest in
-    let two : c.before.args.i % 3 ≡ 2 = two-left (c.before.args.i % 3) (omega arith) none.0.1 none.1 in
+    let two : c.before.args.i % 3 ≡ 2 = two_left (c.before.args.i % 3) (omega arith) none.0.1 none.1 in
     rw two
 
 pub letter-spec : {M : Type 1} → statement M

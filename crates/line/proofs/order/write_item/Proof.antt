@@ -4,26 +4,26 @@ use mathlib.Core.Path.{ap, sym, ◌∙◌}
 use Prim.Native.Nat.{◌≤◌, ◌<◌}
 use native.Mathlib.Omega.{arith}
 use Rattle.crc.specs.Bits.{Bits}
-use Rattle.block.specs.Lengths.{blockBytes}
+use Rattle.block.specs.Lengths.{block_bytes}
 use Rattle.block.specs.Calls.{overwritten}
-use Rattle.block.proofs.Lengths.{length-facts}
-use Rattle.line.specs.Order.{itemCount, orderBits}
-use Rattle.line.proofs.ServiceBits.{service-lt16}
-use Rattle.line.proofs.Items.{valid-most, itemBits-end}
-use Rattle.line.proofs.ItemBlocks.{item-start, filled-item, unfilled-item, whole_item, last-item, data-item}
+use Rattle.block.proofs.Lengths.{length_facts}
+use Rattle.line.specs.Order.{item_count, order_bits}
+use Rattle.line.proofs.ServiceBits.{service_lt16}
+use Rattle.line.proofs.Items.{valid_most, item_bits_end}
+use Rattle.line.proofs.ItemBlocks.{item_start, filled_item, unfilled_item, whole_item, last_item, data_item}
 use Rattle.line.proofs.order.write_item.Statement.{statement}
 use Rattle.line.proofs.order.write_item.Tie as tie
 
 order-items-requires : tie.Need-order-items-requires
 order-items-requires c κs =
     let s = c.before.before in
-    let v = valid-most s.args.bits s.requires.1 in
+    let v = valid_most s.args.bits s.requires.1 in
     (s.requires.0, omega arith)
 
 write-end-requires : tie.Need-write-end-requires
 write-end-requires c κs =
     let s = c.before.before.before.before.before in
-    let v = valid-most s.args.bits s.requires.1 in
+    let v = valid_most s.args.bits s.requires.1 in
     (s.requires.0, omega arith, s.requires.3)
 
 same_length : tie.Need-same-length
@@ -33,10 +33,10 @@ returns : tie.Need-returns
 returns c =
     let e = c.before.before.before.before.before in
     let a = e.before.before.before.args in
-    let n : itemCount a.k a.bits ≤ a.i = omega (arith, e.order-items.ensures, c.before.before.before.before.if1.true) in
+    let n : item_count a.k a.bits ≤ a.i = omega (arith, e.order-items.ensures, c.before.before.before.before.if1.true) in
     c.before.before.write-end.ensures
-    ∙ ap (λ (b : Bits). overwritten (blockBytes a.k) b a.block.now)
-    (sym (itemBits-end a.marks a.k a.bits (orderBits a.bits a.order.now) a.i n))
+    ∙ ap (λ (b : Bits). overwritten (block_bytes a.k) b a.block.now)
+    (sym (item_bits_end a.marks a.k a.bits (order_bits a.bits a.order.now) a.i n))
 
 data-service-requires : tie.Need-data-service-requires
 data-service-requires c κs = search rules
@@ -44,7 +44,7 @@ data-service-requires c κs = search rules
 div-if2 : tie.Need-nonzero-div-if2
 div-if2 c =
     let s = c.before.before.before.before.before in
-    let f = length-facts s.args.k s.requires.0 in
+    let f = length_facts s.args.k s.requires.0 in
     search rules
 
 write-last-requires : tie.Need-write-last-requires
@@ -52,14 +52,14 @@ write-last-requires c κs =
     let d = c.before.before in
     let s = d.before.before.before.before.before in
     let a = s.args in
-    let f = length-facts a.k s.requires.0 in
+    let f = length_facts a.k s.requires.0 in
     let pos : 0 < a.k = omega arith in
-    let n : a.i < itemCount a.k a.bits =
+    let n : a.i < item_count a.k a.bits =
     omega (arith, d.before.before.order-items.ensures, d.before.if1.false)
     in
-    let from = item-start a.k a.bits a.i pos n in
-    let to = unfilled-item a.k a.bits a.i pos c.before.if2.true in
-    (s.requires.0, omega arith, omega arith, s.requires.2, s.requires.3, rw d.data-service.ensures (service-lt16 a.marks a.i))
+    let from = item_start a.k a.bits a.i pos n in
+    let to = unfilled_item a.k a.bits a.i pos c.before.if2.true in
+    (s.requires.0, omega arith, omega arith, s.requires.2, s.requires.3, rw d.data-service.ensures (service_lt16 a.marks a.i))
 
 same-length-2 : tie.Need-same-length-2
 same-length-2 c = search rules
@@ -71,22 +71,22 @@ returns-2 c =
     let e = d.before.before in
     let s = e.before.before.before in
     let a = s.args in
-    let f = length-facts a.k s.requires.0 in
+    let f = length_facts a.k s.requires.0 in
     let pos : 0 < a.k = omega arith in
-    let n : a.i < itemCount a.k a.bits = omega (arith, e.order-items.ensures, d.before.if1.false) in
-    let to = unfilled-item a.k a.bits a.i pos t.if2.true in
+    let n : a.i < item_count a.k a.bits = omega (arith, e.order-items.ensures, d.before.if1.false) in
+    let to = unfilled_item a.k a.bits a.i pos t.if2.true in
     c.before.before.write-last.ensures
-    ∙ ap (λ (b : Bits). overwritten (blockBytes a.k) b a.block.now)
-    (data-item a.marks a.k a.bits (orderBits a.bits a.order.now) _ a.i _ n d.data-service.ensures
-    (last-item a.k a.bits a.order.now pos s.requires.2 a.i n to))
+    ∙ ap (λ (b : Bits). overwritten (block_bytes a.k) b a.block.now)
+    (data_item a.marks a.k a.bits (order_bits a.bits a.order.now) _ a.i _ n d.data-service.ensures
+    (last_item a.k a.bits a.order.now pos s.requires.2 a.i n to))
 
 write-whole-requires : tie.Need-write-whole-requires
 write-whole-requires c κs =
     let d = c.before.before in
     let s = d.before.before.before.before.before in
     let a = s.args in
-    let w = filled-item a.k a.bits a.i c.before.if2.false in
-    (s.requires.0, omega (arith, s.requires.2), s.requires.3, rw d.data-service.ensures (service-lt16 a.marks a.i))
+    let w = filled_item a.k a.bits a.i c.before.if2.false in
+    (s.requires.0, omega (arith, s.requires.2), s.requires.3, rw d.data-service.ensures (service_lt16 a.marks a.i))
 
 same-length-3 : tie.Need-same-length-3
 same-length-3 c = search rules
@@ -98,13 +98,13 @@ returns-3 c =
     let e = d.before.before in
     let s = e.before.before.before in
     let a = s.args in
-    let f = length-facts a.k s.requires.0 in
+    let f = length_facts a.k s.requires.0 in
     let pos : 0 < a.k = omega arith in
-    let n : a.i < itemCount a.k a.bits = omega (arith, e.order-items.ensures, d.before.if1.false) in
-    let w = filled-item a.k a.bits a.i t.if2.false in
+    let n : a.i < item_count a.k a.bits = omega (arith, e.order-items.ensures, d.before.if1.false) in
+    let w = filled_item a.k a.bits a.i t.if2.false in
     c.before.before.write-whole.ensures
-    ∙ ap (λ (b : Bits). overwritten (blockBytes a.k) b a.block.now)
-    (data-item a.marks a.k a.bits (orderBits a.bits a.order.now) _ a.i _ n d.data-service.ensures
+    ∙ ap (λ (b : Bits). overwritten (block_bytes a.k) b a.block.now)
+    (data_item a.marks a.k a.bits (order_bits a.bits a.order.now) _ a.i _ n d.data-service.ensures
     (whole_item a.k a.bits a.order.now pos s.requires.2 a.i w))
 
 pub write-item-spec : {M : Type 1} → statement M

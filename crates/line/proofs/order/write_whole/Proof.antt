@@ -7,22 +7,22 @@ use native.Mathlib.Omega.{arith}
 use lib.ListN.{length, take, drop, length-drop}
 use lib.Seq.{length-take-le}
 use Rattle.crc.specs.Bits.{Bits, binary, bits_of}
-use Rattle.block.specs.Lengths.{blockBytes}
+use Rattle.block.specs.Lengths.{block_bytes}
 use Rattle.block.specs.Block.{block_bits}
 use Rattle.block.specs.Calls.{overwritten}
-use Rattle.block.proofs.Lengths.{length-facts}
-use Rattle.line.proofs.ItemBlocks.{built, item-byte, whole-data}
+use Rattle.block.proofs.Lengths.{length_facts}
+use Rattle.line.proofs.ItemBlocks.{built, item_byte, whole_data}
 use Rattle.line.proofs.order.write_whole.Statement.{statement}
 use Rattle.line.proofs.order.write_whole.Tie as tie
 
 mul-start : tie.Need-overflow-mul-start
-mul-start c = let a = c.before.before in let e = item-byte a.args.i a.args.k (length-facts a.args.k a.requires.0).0 in search rules
+mul-start c = let a = c.before.before in let e = item_byte a.args.i a.args.k (length_facts a.args.k a.requires.0).0 in search rules
 
 add-end : tie.Need-overflow-add-end
 add-end c =
     let a = c.before.before in
-    let e = item-byte a.args.i a.args.k (length-facts a.args.k a.requires.0).0 in
-    let f = length-facts a.args.k a.requires.0 in
+    let e = item_byte a.args.i a.args.k (length_facts a.args.k a.requires.0).0 in
+    let f = length_facts a.args.k a.requires.0 in
     search rules
 
 sub-build : tie.Need-overflow-sub-build
@@ -34,8 +34,8 @@ part-build-start c = search rules
 part-build-end : tie.Need-slice-bounds-build-end
 part-build-end c =
     let a = c.before.before in
-    let e = item-byte a.args.i a.args.k (length-facts a.args.k a.requires.0).0 in
-    let f = length-facts a.args.k a.requires.0 in
+    let e = item_byte a.args.i a.args.k (length_facts a.args.k a.requires.0).0 in
+    let f = length_facts a.args.k a.requires.0 in
     search rules
 
 build-requires : tie.Need-build-requires
@@ -49,8 +49,8 @@ returns c =
     let start = c.before.before.before.before.before.before.before in
     let a = start.args in
     let b = c.before.before.build in
-    let f = length-facts a.k start.requires.0 in
-    let g = item-byte a.i a.k f.0 in
+    let f = length_facts a.k start.requires.0 in
+    let g = item_byte a.i a.k f.0 in
     let m = a.k / 8 in
     let from = a.i * (a.k / 8) in
     let part : List ℕ = take (from + m - from) (drop from a.order.now) in
@@ -60,9 +60,9 @@ returns c =
     in
     built a.k a.block.now b.result b.new.1.1.1.0 f.0 start.requires.2 a.service part
     start.requires.3 (omega arith) b.ensures
-    ∙ ap (λ (p : Bits). overwritten (blockBytes a.k) (block_bits (binary 4 a.service) p) a.block.now)
+    ∙ ap (λ (p : Bits). overwritten (block_bytes a.k) (block_bits (binary 4 a.service) p) a.block.now)
     (ap (λ (j : ℕ). take a.k (bits_of (take j (drop from a.order.now)))) e
-    ∙ whole-data a.i a.k a.order.now f.0)
+    ∙ whole_data a.i a.k a.order.now f.0)
 
 pub write-whole-spec : {M : Type 1} → statement M
 write-whole-spec =

@@ -5,12 +5,12 @@ use native.Mathlib.Omega.{arith}
 use borrow.Author.Tests.{not-true, not-false}
 use lib.Dec.{eqb}
 use Rattle.line.specs.Order.{letter}
-use Rattle.line.specs.Receiving.{isMarked, is_of}
+use Rattle.line.specs.Receiving.{is_marked, is_of}
 use borrow.Author.Rules.{rules}
 use Rattle.line.proofs.rules.is_of.Statement.{statement}
 use Rattle.line.proofs.rules.is_of.Tie as tie
 
-later : (i service : ℕ) → (i ≡ 0 → ⊥) → isMarked i service ≡ eqb service (letter (i - 1))
+later : (i service : ℕ) → (i ≡ 0 → ⊥) → is_marked i service ≡ eqb service (letter (i - 1))
 later zero service n = absurd (n refl)
 later (suc i) service n = let e : i ≡ suc i - 1 = omega arith in ap (λ (j : ℕ). eqb service (letter j)) e
 

@@ -4,7 +4,7 @@ use Prim.Native.Nat.{◌/◌}
 use mir.Syntax.{w16}
 use mir.Val.{Fits}
 use Rattle.crc.specs.Bits.{number}
-use Rattle.line.proofs.BlockFields.{other-service, same-service}
+use Rattle.line.proofs.BlockFields.{other_service, same_service}
 use borrow.Author.Rules.{rules}
 use Rattle.line.proofs.rules.looks_sync.Statement.{statement}
 use Rattle.line.proofs.rules.looks_sync.Tie as tie
@@ -16,7 +16,7 @@ returns : tie.Need-returns
 unfolding number
 returns c =
     let a = c.before.before.before in
-    other-service a.args.k a.requires.0 a.args.row.now a.requires.1 (c.before.shared-slice-known2.given 0).fits c.if1.true
+    other_service a.args.k a.requires.0 a.args.row.now a.requires.1 (c.before.shared-slice-known2.given 0).fits c.if1.true
 
 shared-slice-read-received-check : tie.Need-shared-slice-read-received-check
 shared-slice-read-received-check c = search rules
@@ -41,7 +41,7 @@ unfolding number
 returns-2 c =
     let a = c.before.before.before.before.before.before.before in
     let w : Fits w16 c.received-check.result = search rules in
-    same-service a.args.k a.requires.0 a.args.row.now a.requires.1 (a.args.k / 8) c.received-check.result refl w.fits
+    same_service a.args.k a.requires.0 a.args.row.now a.requires.1 (a.args.k / 8) c.received-check.result refl w.fits
     c.received-check.ensures (c.before.shared-slice-known5.given 0).fits c.before.before.before.before.if1.false
 
 pub looks-sync-spec : {M : Type 1} → statement M

@@ -2,7 +2,7 @@
 use mathlib.Core.Path.{sym, ◌∙◌}
 use Prim.Native.Nat.{◌-◌, ◌/◌, ◌%◌, ◌^◌}
 use lib.ListN.{get_or}
-use Rattle.line.proofs.SearchWindow.{getD-bitsOf, masked-odd}
+use Rattle.line.proofs.SearchWindow.{get_d_bits_of, masked_odd}
 use borrow.Author.Rules.{rules}
 use Rattle.line.proofs.window.bit_at.Statement.{statement}
 use Rattle.line.proofs.window.bit_at.Tie as tie
@@ -22,7 +22,7 @@ shr-result c = search rules
 returns : tie.Need-returns
 returns c =
     let a = c.before.args in
-    masked-odd (get_or a.s.now (a.i / 8) 0 / 2 ^ (7 - a.i % 8)) ∙ sym (getD-bitsOf a.s.now a.i c.before.requires)
+    masked_odd (get_or a.s.now (a.i / 8) 0 / 2 ^ (7 - a.i % 8)) ∙ sym (get_d_bits_of a.s.now a.i c.before.requires)
 
 pub bit-at-spec : {M : Type 1} → statement M
 bit-at-spec = tie.close (tie.spec shared-slice-read-byte sub-result cast-result shr-result returns)

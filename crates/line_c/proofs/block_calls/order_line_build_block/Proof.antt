@@ -1,6 +1,6 @@
 -- `order_line_build_block` hands on what `build_block` answers. Assumes nothing.
 use mathlib.Core.Path.{sym, ap, ◌∙◌}
-use Rattle.block.specs.Calls.{builtAnswer}
+use Rattle.block.specs.Calls.{built_answer}
 use Rattle.line_c.specs.BlockCalls.{refusal}
 use borrow.Author.Rules.{rules}
 use Rattle.line_c.proofs.block_calls.order_line_build_block.Statement.{statement}
@@ -20,16 +20,16 @@ same_length c = search rules
 
 returns : tie.Need-returns
 returns c =
-    let built = c.before.before.before.before.build-block.ensures in
-    record { answers = ap refusal (ap builtAnswer (sym c.enum_told.given.1) ∙ built.answers); writes = built.writes }
+    let built = c.before.before.before.before.build_block_lem.ensures in
+    record { answers = ap refusal (ap built_answer (sym c.enum_told.given.1) ∙ built.answers); writes = built.writes }
 
 same-length-2 : tie.Need-same-length-2
 same-length-2 c = search rules
 
 returns-2 : tie.Need-returns-2
 returns-2 c =
-    let built = c.before.before.before.before.before.build-block.ensures in
-    record { answers = ap refusal (ap builtAnswer (sym c.before.number.given.1) ∙ built.answers); writes = built.writes }
+    let built = c.before.before.before.before.before.build_block_lem.ensures in
+    record { answers = ap refusal (ap built_answer (sym c.before.number.given.1) ∙ built.answers); writes = built.writes }
 
 pub order-line-build-block-spec : {M : Type 1} → statement M
 order-line-build-block-spec =

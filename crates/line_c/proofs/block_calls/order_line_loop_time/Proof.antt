@@ -1,6 +1,6 @@
 -- `order_line_loop_time` hands on what `loop_time` answers. Assumes nothing.
 use mathlib.Core.Path.{sym, ap, ◌∙◌}
-use Rattle.line.specs.LoopTime.{loopAnswer}
+use Rattle.line.specs.LoopTime.{loop_answer}
 use Rattle.line_c.specs.BlockCalls.{refusal}
 use borrow.Author.Rules.{rules}
 use Rattle.line_c.proofs.block_calls.order_line_loop_time.Statement.{statement}
@@ -17,13 +17,13 @@ enum-known-number c = search rules
 
 returns : tie.Need-returns
 returns c =
-    let tested = c.before.before.loop-time.ensures in
-    record { answers = ap refusal (ap loopAnswer (sym c.enum_told.given.1) ∙ tested.answers) }
+    let tested = c.before.before.loop_time_lem.ensures in
+    record { answers = ap refusal (ap loop_answer (sym c.enum_told.given.1) ∙ tested.answers) }
 
 returns-2 : tie.Need-returns-2
 returns-2 c =
-    let tested = c.before.before.before.loop-time.ensures in
-    record { answers = ap refusal (ap loopAnswer (sym c.before.number.given.1) ∙ tested.answers) }
+    let tested = c.before.before.before.loop_time_lem.ensures in
+    record { answers = ap refusal (ap loop_answer (sym c.before.number.given.1) ∙ tested.answers) }
 
 pub order-line-loop-time-spec : {M : Type 1} → statement M
 order-line-loop-time-spec =

@@ -2,9 +2,9 @@
 use mathlib.Core.Path.{◌≡◌, sym, ap, ◌∙◌}
 use mathlib.Core.List.{List}
 use Prim.Native.Nat.{ℕ}
-use Rattle.block.specs.Calls.{readAnswer, ReadBlock}
+use Rattle.block.specs.Calls.{read_answer, ReadBlock}
 use Rattle.block.specs.declared.Read.{Read}
-use Rattle.line_c.specs.BlockCalls.{readNumber, readRemainder, ReadBlockCall}
+use Rattle.line_c.specs.BlockCalls.{read_number, read_remainder, ReadBlockCall}
 use borrow.Author.Rules.{rules}
 use Rattle.line_c.proofs.block_calls.order_line_read_block.Statement.{statement}
 use Rattle.line_c.proofs.block_calls.order_line_read_block.Tie as tie
@@ -12,10 +12,10 @@ use Rattle.line_c.proofs.block_calls.order_line_read_block.Tie as tie
 -- what is handed on of an answer that is known
 known : (k : ℕ) (slice payload : List ℕ) (remainder : ℕ) (answer x : Read) (payload' : List ℕ) → ReadBlock k slice payload answer payload'
     → answer ≡ x
-    → ReadBlockCall k slice payload remainder (readNumber (readAnswer x)) payload' (readRemainder remainder (readAnswer x))
+    → ReadBlockCall k slice payload remainder (read_number (read_answer x)) payload' (read_remainder remainder (read_answer x))
 known k slice payload remainder answer x payload' found e =
-    let a = ap readAnswer (sym e) ∙ found.answers in
-    record { answers = ap readNumber a; writes = found.writes; fails = ap (readRemainder remainder) a }
+    let a = ap read_answer (sym e) ∙ found.answers in
+    record { answers = ap read_number a; writes = found.writes; fails = ap (read_remainder remainder) a }
 
 read-block-requires : tie.Need-read-block-requires
 read-block-requires c κs = search rules

@@ -30,10 +30,10 @@ shared-slice-read-if4 c = search rules
 returns-4 : tie.Need-returns-4
 unfolding holds
 returns-4 c =
-    let at-if2 = c.before.before.before.before in
+    let at_if2 = c.before.before.before.before in
     simp (
-      le-leb _ _ at-if2.before.before.if1.false,
-      le-leb _ _ at-if2.if2.false,
+      le-leb _ _ at_if2.before.before.if1.false,
+      le-leb _ _ at_if2.if2.false,
       le-leb _ _ c.before.before.if3.false,
       lt-leb _ _ c.if4.true,
     )
@@ -47,26 +47,26 @@ shared-slice-read-if5 c = search rules
 returns-5 : tie.Need-returns-5
 unfolding holds
 returns-5 c =
-    let at-if4 = c.before.before in
-    let at-if2 = at-if4.before.before.before.before in
+    let at_if4 = c.before.before in
+    let at_if2 = at_if4.before.before.before.before in
     simp (
-      le-leb _ _ at-if2.before.before.if1.false,
-      le-leb _ _ at-if2.if2.false,
-      le-leb _ _ at-if4.before.before.if3.false,
-      le-leb _ _ at-if4.if4.false,
+      le-leb _ _ at_if2.before.before.if1.false,
+      le-leb _ _ at_if2.if2.false,
+      le-leb _ _ at_if4.before.before.if3.false,
+      le-leb _ _ at_if4.if4.false,
       lt-leb _ _ c.if5.true,
     )
 
 returns-6 : tie.Need-returns-6
 unfolding holds
 returns-6 c =
-    let at-if4 = c.before.before in
-    let at-if2 = at-if4.before.before.before.before in
+    let at_if4 = c.before.before in
+    let at_if2 = at_if4.before.before.before.before in
     simp (
-      le-leb _ _ at-if2.before.before.if1.false,
-      le-leb _ _ at-if2.if2.false,
-      le-leb _ _ at-if4.before.before.if3.false,
-      le-leb _ _ at-if4.if4.false,
+      le-leb _ _ at_if2.before.before.if1.false,
+      le-leb _ _ at_if2.if2.false,
+      le-leb _ _ at_if4.before.before.if3.false,
+      le-leb _ _ at_if4.if4.false,
       le-leb _ _ c.if5.false,
     )
 

@@ -1,5 +1,5 @@
 -- `load_marks` reads the flag and the size. Assumes nothing.
-use Rattle.line_c.specs.State.{marksIn}
+use Rattle.line_c.specs.State.{marks_in}
 use borrow.Author.Rules.{rules}
 use Rattle.line_c.proofs.layout.load_marks.Statement.{statement}
 use Rattle.line_c.proofs.layout.load_marks.Tie as tie
@@ -14,7 +14,7 @@ shared-slice-read-t8 : tie.Need-shared-slice-read-t8
 shared-slice-read-t8 c = search rules
 
 returns : tie.Need-returns
-unfolding marksIn
+unfolding marks_in
 returns c = cc
 
 pub load-marks-spec : {M : Type 1} → statement M

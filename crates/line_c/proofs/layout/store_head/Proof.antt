@@ -5,16 +5,16 @@ use Prim.Native.Nat.{ℕ, ◌≤◌}
 use native.Mathlib.Omega.{arith}
 use lib.ListN.{length, drop, set, length-set}
 use lib.Seq.{sets, sets-eq}
-use Rattle.line_c.specs.State.{word_bytes, headSize, headBytes}
+use Rattle.line_c.specs.State.{word_bytes, head_size, head_bytes}
 use borrow.Author.Rules.{rules}
 use Rattle.line_c.proofs.layout.store_head.Statement.{statement}
 use Rattle.line_c.proofs.layout.store_head.Tie as tie
 
-stored : (s s₁ s₂ s₃ : List ℕ) (x y z d a b c : ℕ) → headSize ≤ length s → s₁ ≡ sets s 0 (word_bytes x)
+stored : (s s₁ s₂ s₃ : List ℕ) (x y z d a b c : ℕ) → head_size ≤ length s → s₁ ≡ sets s 0 (word_bytes x)
     → s₂ ≡ sets s₁ 4 (word_bytes y) → s₃ ≡ sets s₂ 8 (word_bytes z)
-    → set (set (set (set s₃ 12 d) 13 a) 14 b) 15 c ≡ headBytes x y z d a b c ++ drop headSize s
-unfolding word_bytes headBytes
-stored s s₁ s₂ s₃ x y z d a b c h e₁ e₂ e₃ = rw (e₃, e₂, e₁) (sets-eq (headBytes x y z d a b c) s 0 h)
+    → set (set (set (set s₃ 12 d) 13 a) 14 b) 15 c ≡ head_bytes x y z d a b c ++ drop head_size s
+unfolding word_bytes head_bytes
+stored s s₁ s₂ s₃ x y z d a b c h e₁ e₂ e₃ = rw (e₃, e₂, e₁) (sets-eq (head_bytes x y z d a b c) s 0 h)
 
 store-word-requires : tie.Need-store-word-requires
 store-word-requires c κs = search rules

@@ -2,8 +2,8 @@
 use native.Mathlib.Omega.{arith}
 use native.Mathlib.Numerals.{add-one}
 use lib.ListN.{length-set}
-use Rattle.line_c.specs.State.{marksBytes}
-use Rattle.line_c.proofs.Flags.{boolByte-flag}
+use Rattle.line_c.specs.State.{marks_bytes}
+use Rattle.line_c.proofs.Flags.{bool_byte_flag}
 use borrow.Author.Rules.{rules}
 use Rattle.line_c.proofs.layout.store_marks.Statement.{statement}
 use Rattle.line_c.proofs.layout.store_marks.Tie as tie
@@ -24,8 +24,8 @@ same_length : tie.Need-same-length
 same_length c = search rules
 
 returns : tie.Need-returns
-unfolding marksBytes
-returns c = rw (add-one, boolByte-flag)
+unfolding marks_bytes
+returns c = rw (add-one, bool_byte_flag)
 
 pub store-marks-spec : {M : Type 1} → statement M
 store-marks-spec =

@@ -3,7 +3,7 @@ use native.Mathlib.Omega.{arith}
 use native.Mathlib.Numerals.{add-one, add-two}
 use lib.ListN.{length-set}
 use Rattle.line_c.specs.State.{word_bytes}
-use Rattle.line_c.proofs.Places.{add-three}
+use Rattle.line_c.proofs.Places.{add_three}
 use borrow.Author.Rules.{rules}
 use Rattle.line_c.proofs.layout.store_word.Statement.{statement}
 use Rattle.line_c.proofs.layout.store_word.Tie as tie
@@ -46,7 +46,7 @@ same_length c = search rules
 
 returns : tie.Need-returns
 unfolding word_bytes
-returns c = rw (add-one, add-two, add-three)
+returns c = rw (add-one, add-two, add_three)
 
 pub store-word-spec : {M : Type 1} → statement M
 store-word-spec =

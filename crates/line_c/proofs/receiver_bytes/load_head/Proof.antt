@@ -1,5 +1,5 @@
 -- `load_head` reads each field at its place. Assumes nothing.
-use Rattle.line_c.specs.State.{receiverIn}
+use Rattle.line_c.specs.State.{receiver_in}
 use borrow.Author.Rules.{rules}
 use Rattle.line_c.proofs.receiver_bytes.load_head.Statement.{statement}
 use Rattle.line_c.proofs.receiver_bytes.load_head.Tie as tie
@@ -35,7 +35,7 @@ phase-of-requires : tie.Need-phase-of-requires
 phase-of-requires c κs = search rules
 
 returns : tie.Need-returns
-unfolding receiverIn
+unfolding receiver_in
 returns c = cc
 
 pub load-head-spec : {M : Type 1} → statement M

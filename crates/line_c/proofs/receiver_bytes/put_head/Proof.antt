@@ -1,6 +1,6 @@
 -- `put_head` hands the fields to `store_head`. Assumes nothing.
 use mathlib.Core.Path.{◌∙◌}
-use Rattle.line_c.proofs.Flags.{boolByte-flag}
+use Rattle.line_c.proofs.Flags.{bool_byte_flag}
 use borrow.Author.Rules.{rules}
 use Rattle.line_c.proofs.receiver_bytes.put_head.Statement.{statement}
 use Rattle.line_c.proofs.receiver_bytes.put_head.Tie as tie
@@ -26,7 +26,7 @@ same_length c = search rules
 returns : tie.Need-returns
 returns c =
     let head = c.before.before in
-    head.store-head.ensures ∙ simp (head.before.before.phase-byte.ensures, boolByte-flag)
+    head.store-head.ensures ∙ simp (head.before.before.phase-byte.ensures, bool_byte_flag)
 
 pub put-head-spec : {M : Type 1} → statement M
 put-head-spec =

@@ -21,50 +21,50 @@ whole : (d b l : List ℕ) (i : ℕ) → i ≡ 483 → length b ≡ 483 → l �
     → l ≡ take 16 d ++ b ++ drop 499 d
 whole d b l i h g e = rw (h, take_all 483 b (omega arith)) at e
 
-abbrev invariant-loop : tie.invariant-loop
-invariant-loop s₀ bits i₀ s i = (i ≤ 483) × (length bits ≡ 483) × (s ≡ paste s₀ 16 bits i)
+abbrev invariant_loop : tie.invariant_loop
+invariant_loop s₀ bits i₀ s i = (i ≤ 483) × (length bits ≡ 483) × (s ≡ paste s₀ 16 bits i)
 
-abbrev decreases-loop : tie.decreases-loop
-decreases-loop s₀ bits i₀ s i = 483 - i
+abbrev decreases_loop : tie.decreases_loop
+decreases_loop s₀ bits i₀ s i = 483 - i
 
-loop-holds : tie.Need-loop-init invariant-loop decreases-loop
+loop-holds : tie.Need-loop-init invariant_loop decreases_loop
 loop-holds c = (search rules, search rules, paste-zero c.args.s.now 16 c.args.t1)
 
-array-read-s : tie.Need-array-read-s invariant-loop decreases-loop
+array-read-s : tie.Need-array-read-s invariant_loop decreases_loop
 array-read-s c = omega arith
 
-add-s : tie.Need-overflow-add-s invariant-loop decreases-loop
+add-s : tie.Need-overflow-add-s invariant_loop decreases_loop
 add-s c = omega arith
 
-slice-write-s : tie.Need-slice-write-s invariant-loop decreases-loop
+slice-write-s : tie.Need-slice-write-s invariant_loop decreases_loop
 slice-write-s c =
     let e = same c.before.before.args.s.now c.before.before.args.t1 c.before.loop.s c.before.loop.i (omega arith) (omega arith) c.before.loop.invariant.2 in
     omega arith
 
-add-i : tie.Need-overflow-add-i invariant-loop decreases-loop
+add-i : tie.Need-overflow-add-i invariant_loop decreases_loop
 add-i c = omega arith
 
-loop-less : tie.Need-loop-smaller invariant-loop decreases-loop
+loop-less : tie.Need-loop-smaller invariant_loop decreases_loop
 loop-less c = omega arith
 
-loop-again : tie.Need-loop-preserved invariant-loop decreases-loop
+loop-again : tie.Need-loop-preserved invariant_loop decreases_loop
 loop-again c =
-    let at-loop = c.before.loop in
-    (omega arith, at-loop.invariant.1, turn c.before.before.args.s.now c.before.before.args.t1 at-loop.s at-loop.i (omega arith) (omega arith) at-loop.invariant.2)
+    let at_loop = c.before.loop in
+    (omega arith, at_loop.invariant.1, turn c.before.before.args.s.now c.before.before.args.t1 at_loop.s at_loop.i (omega arith) (omega arith) at_loop.invariant.2)
 
-same_length : tie.Need-same-length invariant-loop decreases-loop
+same_length : tie.Need-same-length invariant_loop decreases_loop
 same_length c =
     same c.before.before.args.s.now c.before.before.args.t1 c.before.loop.s c.before.loop.i (omega arith) (omega arith) c.before.loop.invariant.2
 
-returns : tie.Need-returns invariant-loop decreases-loop
+returns : tie.Need-returns invariant_loop decreases_loop
 returns c = whole c.before.before.args.s.now c.before.before.args.t1 c.before.loop.s c.before.loop.i (omega arith) c.before.loop.invariant.1 c.before.loop.invariant.2
 
 pub store-bits-spec : {M : Type 1} → statement M
 store-bits-spec =
     tie.close
     (tie.spec
-    invariant-loop
-    decreases-loop
+    invariant_loop
+    decreases_loop
     loop-holds
     array-read-s
     add-s

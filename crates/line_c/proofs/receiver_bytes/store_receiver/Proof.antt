@@ -5,43 +5,43 @@ use Prim.Native.Nat.{ℕ, ◌≤◌}
 use native.Mathlib.Omega.{arith}
 use lib.ListN.{length, take, drop, length-append, length-drop}
 use lib.Seq.{sets, drop-drop}
-use Rattle.line.specs.Receiving.{arrayBytes}
-use Rattle.line.specs.ReceivingInPlace.{withArray}
+use Rattle.line.specs.Receiving.{array_bytes}
+use Rattle.line.specs.ReceivingInPlace.{with_array}
 use Rattle.line.specs.declared.head.Head.{Head}
 use Rattle.line.specs.declared.receiver.Receiver.{Receiver}
-use Rattle.line_c.specs.State.{word_bytes, headSize, headBytes, marksSize, marksBytes, arrayEnd, receiverSize, receiverHead, receiverBytes}
-use Rattle.line_c.proofs.Places.{length-head, marks-stored}
+use Rattle.line_c.specs.State.{word_bytes, head_size, head_bytes, marks_size, marks_bytes, array_end, receiver_size, receiver_head, receiver_bytes}
+use Rattle.line_c.proofs.Places.{length_head, marks_stored}
 use borrow.Author.Rules.{rules}
 use Rattle.line_c.proofs.receiver_bytes.store_receiver.Statement.{statement}
 use Rattle.line_c.proofs.receiver_bytes.store_receiver.Tie as tie
 
 -- the array over what stands behind the head
-with-bits : (h : Head) (receiver : Receiver) (s s₁ s₂ : List ℕ) → withArray h receiver.bits ≡ receiver
-    → s₁ ≡ receiverHead (withArray h []) ++ drop headSize s
-    → s₂ ≡ take headSize s₁ ++ receiver.bits ++ drop arrayEnd s₁ → s₂ ≡ receiverHead receiver ++ receiver.bits ++ drop arrayEnd s
-unfolding headBytes word_bytes
-with-bits h receiver s s₁ s₂ e e₁ e₂ =
-    let f : take headSize s₁ ++ receiver.bits ++ drop arrayEnd s₁ ≡ receiverHead (withArray h []) ++ receiver.bits ++ drop arrayEnd s =
+with_bits : (h : Head) (receiver : Receiver) (s s₁ s₂ : List ℕ) → with_array h receiver.bits ≡ receiver
+    → s₁ ≡ receiver_head (with_array h []) ++ drop head_size s
+    → s₂ ≡ take head_size s₁ ++ receiver.bits ++ drop array_end s₁ → s₂ ≡ receiver_head receiver ++ receiver.bits ++ drop array_end s
+unfolding head_bytes word_bytes
+with_bits h receiver s s₁ s₂ e e₁ e₂ =
+    let f : take head_size s₁ ++ receiver.bits ++ drop array_end s₁ ≡ receiver_head (with_array h []) ++ receiver.bits ++ drop array_end s =
     rw (e₁, drop-drop 483 16 s) in
-    e₂ ∙ f ∙ ap (λ (r : Receiver). receiverHead r ++ receiver.bits ++ drop arrayEnd s) e
+    e₂ ∙ f ∙ ap (λ (r : Receiver). receiver_head r ++ receiver.bits ++ drop array_end s) e
 
 -- and the marks behind it
-with-marks : (receiver : Receiver) (s s₂ s₃ : List ℕ) → receiverSize ≤ length s → length receiver.bits ≡ arrayBytes
-    → s₂ ≡ receiverHead receiver ++ receiver.bits ++ drop arrayEnd s
-    → s₃ ≡ sets s₂ arrayEnd (marksBytes receiver.setup.marks) → s₃ ≡ receiverBytes receiver ++ drop receiverSize s
-unfolding receiverBytes
-with-marks receiver s s₂ s₃ n w e₂ e₃ =
+with_marks : (receiver : Receiver) (s s₂ s₃ : List ℕ) → receiver_size ≤ length s → length receiver.bits ≡ array_bytes
+    → s₂ ≡ receiver_head receiver ++ receiver.bits ++ drop array_end s
+    → s₃ ≡ sets s₂ array_end (marks_bytes receiver.setup.marks) → s₃ ≡ receiver_bytes receiver ++ drop receiver_size s
+unfolding receiver_bytes
+with_marks receiver s s₂ s₃ n w e₂ e₃ =
     let m = receiver.setup.marks in
-    let front : length (receiverHead receiver ++ receiver.bits) ≡ arrayEnd = simp (length-append, length-head, w) in
-    let room : marksSize ≤ length (drop arrayEnd s) = simp length-drop (omega arith) in
-    e₃ ∙ ap (λ (l : List ℕ). sets l arrayEnd (marksBytes m)) e₂
-    ∙ marks-stored (receiverHead receiver ++ receiver.bits) (drop arrayEnd s) m arrayEnd front room
-    ∙ rw (drop-drop marksSize arrayEnd s) (simp append_assoc)
+    let front : length (receiver_head receiver ++ receiver.bits) ≡ array_end = simp (length-append, length_head, w) in
+    let room : marks_size ≤ length (drop array_end s) = simp length-drop (omega arith) in
+    e₃ ∙ ap (λ (l : List ℕ). sets l array_end (marks_bytes m)) e₂
+    ∙ marks_stored (receiver_head receiver ++ receiver.bits) (drop array_end s) m array_end front room
+    ∙ rw (drop-drop marks_size array_end s) (simp append_assoc)
 
-enough : (c : tie.Start) → receiverSize ≤ length c.args.s.now
+enough : (c : tie.Start) → receiver_size ≤ length c.args.s.now
 enough c = search rules
 
-whole : (c : tie.Start) → length c.args.receiver.bits ≡ arrayBytes
+whole : (c : tie.Start) → length c.args.receiver.bits ≡ array_bytes
 whole c = search rules
 
 head-requires : tie.Need-head-requires
@@ -67,8 +67,8 @@ returns c =
     let head = put.before.before in
     let start = head.before.before.before.before in
     let a = start.args in
-    with-marks a.receiver a.s.now _ _ (enough start) (whole start)
-    (with-bits _ a.receiver a.s.now _ _ head.head.ensures put.put-head.ensures bits.store-bits.ensures)
+    with_marks a.receiver a.s.now _ _ (enough start) (whole start)
+    (with_bits _ a.receiver a.s.now _ _ head.head.ensures put.put-head.ensures bits.store-bits.ensures)
     marks.store-marks.ensures
 
 pub store-receiver-spec : {M : Type 1} → statement M

@@ -10,145 +10,145 @@ use lib.ListN.{length, take, drop, length-append, length-drop, take-append-drop}
 use lib.Seq.{length-take-le, drop_at, drop-drop}
 use Rattle.block.specs.Answer as A
 use Rattle.block.specs.Answer.{Answer, refused, done}
-use Rattle.line.specs.Receiving.{arrayBytes, Reception, Report, reported, receive, receiveState, receivedAnswer, Receive}
-use Rattle.line.specs.ReceivingInPlace.{withArray, ReceiveInPlace}
-use Rattle.line.specs.Code.ReceiveSteps.{stepWith}
+use Rattle.line.specs.Receiving.{array_bytes, Reception, Report, reported, receive, receive_state, received_answer, Receive}
+use Rattle.line.specs.ReceivingInPlace.{with_array, ReceiveInPlace}
+use Rattle.line.specs.Code.ReceiveSteps.{step_with}
 use Rattle.line.specs.declared.head.Head.{Head}
 use Rattle.line.specs.declared.head.HeadStep.{HeadStep}
 use Rattle.line.specs.declared.receiver.Receiver.{Receiver}
 use Rattle.line.specs.declared.receiving.Setup.{Setup}
 use Rattle.line.specs.declared.receiving.Event.{Event}
 use Rattle.line.proofs.InPlace.{by_value}
-use Rattle.line.proofs.KeptSetup.{received-setup}
-use Rattle.line_c.specs.State.{headSize, marksBytes, arrayEnd, receiverSize, holdsReceiver, receiverIn, receiverOf, receiverHead, receiverBytes}
-use Rattle.line_c.specs.ReceiverCalls.{receiverOver, eventNumber, eventLength, eventRemainder, reportNumber, reportUsed, reportLength, reportRemainder, receivedState, ReceiveCall}
-use Rattle.line_c.proofs.RoundTrip.{held, marks-written-back}
+use Rattle.line.proofs.KeptSetup.{received_setup}
+use Rattle.line_c.specs.State.{head_size, marks_bytes, array_end, receiver_size, holds_receiver, receiver_in, receiver_of, receiver_head, receiver_bytes}
+use Rattle.line_c.specs.ReceiverCalls.{receiver_over, event_number, event_length, event_remainder, report_number, report_used, report_length, report_remainder, received_state, ReceiveCall}
+use Rattle.line_c.proofs.RoundTrip.{held, marks_written_back}
 use borrow.Author.Rules.{rules}
 use Rattle.line_c.proofs.receiver_calls.order_line_receive.Statement.{statement}
 use Rattle.line_c.proofs.receiver_calls.order_line_receive.Tie as tie
 
 -- the state's bytes, by what the call came to
-kept-refused : (state : List ℕ) (s : Receiver) (a : Answer Reception) (n : ℕ) → reported a ≡ refused n
-    → (receivedState state a ≡ state) × (receiveState s a ≡ s)
-kept-refused state s (refused m) n r = (refl, refl)
-kept-refused state s (done x) n r = absurd (let z : ◌≡◌ {A = ℕ} 0 1 = cc in omega arith)
+kept_refused : (state : List ℕ) (s : Receiver) (a : Answer Reception) (n : ℕ) → reported a ≡ refused n
+    → (received_state state a ≡ state) × (receive_state s a ≡ s)
+kept_refused state s (refused m) n r = (refl, refl)
+kept_refused state s (done x) n r = absurd (let z : ◌≡◌ {A = ℕ} 0 1 = cc in omega arith)
 
-kept-setup : (s : Receiver) (line : List ℕ) (count : ℕ) (ready : Bool) (store : List ℕ) (a : Answer Reception) → receive s line count ready store ≡ a
-    → (r : Report) → reported a ≡ done r → (receiveState s a).setup ≡ s.setup
-kept-setup s line count ready store (refused m) e r z = absurd (let z : ◌≡◌ {A = ℕ} 0 1 = cc in omega arith)
-kept-setup s line count ready store (done x) e r z = received-setup s line count ready store x e
+kept_setup : (s : Receiver) (line : List ℕ) (count : ℕ) (ready : Bool) (store : List ℕ) (a : Answer Reception) → receive s line count ready store ≡ a
+    → (r : Report) → reported a ≡ done r → (receive_state s a).setup ≡ s.setup
+kept_setup s line count ready store (refused m) e r z = absurd (let z : ◌≡◌ {A = ℕ} 0 1 = cc in omega arith)
+kept_setup s line count ready store (done x) e r z = received_setup s line count ready store x e
 
-kept-done : (state : List ℕ) (s : Receiver) (a : Answer Reception) (r : Report) → reported a ≡ done r
-    → receiverOver state (receiveState s a) ≡ receivedState state a
-kept-done state s (refused m) r e = absurd (let z : ◌≡◌ {A = ℕ} 0 1 = cc in omega arith)
-kept-done state s (done x) r e = refl
+kept_done : (state : List ℕ) (s : Receiver) (a : Answer Reception) (r : Report) → reported a ≡ done r
+    → receiver_over state (receive_state s a) ≡ received_state state a
+kept_done state s (refused m) r e = absurd (let z : ◌≡◌ {A = ℕ} 0 1 = cc in omega arith)
+kept_done state s (done x) r e = refl
 
 module _ (state : List ℕ) where
   abbrev array : List ℕ
-  array = take arrayBytes (drop headSize state)
+  array = take array_bytes (drop head_size state)
 
   -- the state's bytes with another array
-  abbrev with_array : List ℕ → List ℕ
-  with_array array' = take headSize state ++ (array' ++ drop arrayBytes (drop headSize state))
+  abbrev with_array_in_state : List ℕ → List ℕ
+  with_array_in_state array' = take head_size state ++ (array' ++ drop array_bytes (drop head_size state))
 
-  same-array : (array' : List ℕ) → array' ≡ array → with_array array' ≡ state
-  same-array array' e =
-      ap with_array e ∙ ap (λ (l : List ℕ). take headSize state ++ l) (take-append-drop arrayBytes (drop headSize state))
-      ∙ take-append-drop headSize state
+  same_array : (array' : List ℕ) → array' ≡ array → with_array_in_state array' ≡ state
+  same_array array' e =
+      ap with_array_in_state e ∙ ap (λ (l : List ℕ). take head_size state ++ l) (take-append-drop array_bytes (drop head_size state))
+      ∙ take-append-drop head_size state
 
-  module _ (h : receiverSize ≤ length state) where
-    length-array : length array ≡ arrayBytes
-    length-array = length-take-le arrayBytes (drop headSize state) (omega (arith, length-drop headSize state))
+  module _ (h : receiver_size ≤ length state) where
+    length_array : length array ≡ array_bytes
+    length_array = length-take-le array_bytes (drop head_size state) (omega (arith, length-drop head_size state))
 
-    head-room : (array' : List ℕ) → headSize ≤ length (with_array array')
-    head-room array' =
-        let n : length (take headSize state) ≡ headSize = length-take-le headSize state (omega arith) in
+    head_room : (array' : List ℕ) → head_size ≤ length (with_array_in_state array')
+    head_room array' =
+        let n : length (take head_size state) ≡ head_size = length-take-le head_size state (omega arith) in
         simp length-append (omega arith)
 
     -- and another head whose marks stand behind the array
-    head-over : (head : Head) (array' state' : List ℕ) → marksBytes head.setup.marks ++ drop receiverSize state ≡ drop arrayEnd state
-        → state' ≡ receiverHead (withArray head []) ++ drop headSize (with_array array') → state' ≡ receiverOver state (withArray head array')
-    unfolding receiverBytes
-    head-over head array' state' m e =
-        let n : length (take headSize state) ≡ headSize = length-take-le headSize state (omega arith) in
+    head_over : (head : Head) (array' state' : List ℕ) → marks_bytes head.setup.marks ++ drop receiver_size state ≡ drop array_end state
+        → state' ≡ receiver_head (with_array head []) ++ drop head_size (with_array_in_state array') → state' ≡ receiver_over state (with_array head array')
+    unfolding receiver_bytes
+    head_over head array' state' m e =
+        let n : length (take head_size state) ≡ head_size = length-take-le head_size state (omega arith) in
         e
-        ∙ ap (λ (l : List ℕ). receiverHead (withArray head []) ++ l)
-        (drop_at (take headSize state) (array' ++ drop arrayBytes (drop headSize state)) headSize n
-        ∙ ap (λ (l : List ℕ). array' ++ l) (drop-drop arrayBytes headSize state ∙ sym m))
+        ∙ ap (λ (l : List ℕ). receiver_head (with_array head []) ++ l)
+        (drop_at (take head_size state) (array' ++ drop array_bytes (drop head_size state)) head_size n
+        ∙ ap (λ (l : List ℕ). array' ++ l) (drop-drop array_bytes head_size state ∙ sym m))
         ∙ simp append_assoc
 
 module _ (state line : List ℕ) (count : ℕ) (ready : Bool) (store : List ℕ) (used len remainder : ℕ) where
-  unheld : holdsReceiver state ≡ false
+  unheld : holds_receiver state ≡ false
       → ReceiveCall state line count ready store used len remainder A.spoiled state store used len remainder
-  unfolding receiverOf
+  unfolding receiver_of
   unheld h = record { answers = rw h; keeps = rw h; writes = rw h; uses = rw h; ends = rw h; fails = rw h }
 
-  module _ (h : holdsReceiver state ≡ true) (head : Head) (e : withArray head (array state) ≡ receiverIn state) where
+  module _ (h : holds_receiver state ≡ true) (head : Head) (e : with_array head (array state) ≡ receiver_in state) where
     abbrev s : Receiver
-    s = withArray head (array state)
+    s = with_array head (array state)
 
-    receiver-held : receiverOf state ≡ done s
-    unfolding receiverOf
-    receiver-held = rw (h, e)
+    receiver_held : receiver_of state ≡ done s
+    unfolding receiver_of
+    receiver_held = rw (h, e)
 
-    enough : receiverSize ≤ length state
-    enough = (held receiverSize 1 1 3 state h).enough
+    enough : receiver_size ≤ length state
+    enough = (held receiver_size 1 1 3 state h).enough
 
     -- a head with this setup has the marks that stand in the bytes
-    marks-kept : {setup : Setup} → setup ≡ s.setup → marksBytes setup.marks ++ drop receiverSize state ≡ drop arrayEnd state
-    unfolding receiverIn
-    marks-kept k =
-        ap (λ (x : Setup). marksBytes x.marks ++ drop receiverSize state) (k ∙ ap (λ (r : Receiver). r.setup) e)
-        ∙ marks-written-back state arrayEnd enough (held receiverSize 1 1 3 state h).marks
+    marks_kept : {setup : Setup} → setup ≡ s.setup → marks_bytes setup.marks ++ drop receiver_size state ≡ drop array_end state
+    unfolding receiver_in
+    marks_kept k =
+        ap (λ (x : Setup). marks_bytes x.marks ++ drop receiver_size state) (k ∙ ap (λ (r : Receiver). r.setup) e)
+        ∙ marks_written_back state array_end enough (held receiver_size 1 1 3 state h).marks
 
     module _ (result : HeadStep) (array' store' : List ℕ) (q : ReceiveInPlace head (array state) line count ready store result array' store') where
-      call : Receive s line count ready store (stepWith result array') store'
-      call = by_value head (array state) line count ready store (length-array state enough) result array' store' q
+      call : Receive s line count ready store (step_with result array') store'
+      call = by_value head (array state) line count ready store (length_array state enough) result array' store' q
 
-      turned : (n : ℕ) → receivedAnswer result.answer ≡ refused n
-          → ReceiveCall state line count ready store used len remainder n (with_array state array') store' used len remainder
+      turned : (n : ℕ) → received_answer result.answer ≡ refused n
+          → ReceiveCall state line count ready store used len remainder n (with_array_in_state state array') store' used len remainder
       turned n a =
           let r : reported (receive s line count ready store) ≡ refused n = sym call.answers ∙ a in
-          let k = kept-refused state s (receive s line count ready store) n r in
+          let k = kept_refused state s (receive s line count ready store) n r in
           let w : array' ≡ array state = ap (λ (x : Receiver). x.bits) (call.state ∙ k.1) in
           record {
-            answers = rw receiver-held (sym (ap reportNumber r));
-            keeps = rw receiver-held (same-array state array' w ∙ sym k.0);
-            writes = rw receiver-held call.writes;
-            uses = rw receiver-held (sym (ap (reportUsed used) r));
-            ends = rw receiver-held (sym (ap (reportLength len) r));
-            fails = rw receiver-held (sym (ap (reportRemainder remainder) r));
+            answers = rw receiver_held (sym (ap report_number r));
+            keeps = rw receiver_held (same_array state array' w ∙ sym k.0);
+            writes = rw receiver_held call.writes;
+            uses = rw receiver_held (sym (ap (report_used used) r));
+            ends = rw receiver_held (sym (ap (report_length len) r));
+            fails = rw receiver_held (sym (ap (report_remainder remainder) r));
           }
 
-      heard : (event : Event) (bits : ℕ) → receivedAnswer result.answer ≡ done (record { event = event; used = bits })
-          → (number : ℕ) (state' : List ℕ) (len' remainder' : ℕ) → number ≡ eventNumber event
-          → state' ≡ receiverHead (withArray result.head []) ++ drop headSize (with_array state array')
-          → len' ≡ eventLength len event → remainder' ≡ eventRemainder remainder event
+      heard : (event : Event) (bits : ℕ) → received_answer result.answer ≡ done (record { event = event; used = bits })
+          → (number : ℕ) (state' : List ℕ) (len' remainder' : ℕ) → number ≡ event_number event
+          → state' ≡ receiver_head (with_array result.head []) ++ drop head_size (with_array_in_state state array')
+          → len' ≡ event_length len event → remainder' ≡ event_remainder remainder event
           → ReceiveCall state line count ready store used len remainder number state' store' bits len' remainder'
       heard event bits a number state' len' remainder' n w l f =
           let r = sym call.answers ∙ a in
           let k : result.head.setup ≡ s.setup =
-          ap (λ (x : Receiver). x.setup) call.state ∙ kept-setup s line count ready store (receive s line count ready store) refl _ r in
+          ap (λ (x : Receiver). x.setup) call.state ∙ kept_setup s line count ready store (receive s line count ready store) refl _ r in
           record {
-            answers = rw receiver-held (n ∙ sym (ap reportNumber r));
-            keeps = rw receiver-held
-                (head-over state enough result.head array' state' (marks-kept k) w ∙ ap (receiverOver state) call.state
-                ∙ kept-done state s (receive s line count ready store) _ r);
-            writes = rw receiver-held call.writes;
-            uses = rw receiver-held (sym (ap (reportUsed used) r));
-            ends = rw receiver-held (l ∙ sym (ap (reportLength len) r));
-            fails = rw receiver-held (f ∙ sym (ap (reportRemainder remainder) r));
+            answers = rw receiver_held (n ∙ sym (ap report_number r));
+            keeps = rw receiver_held
+                (head_over state enough result.head array' state' (marks_kept k) w ∙ ap (receiver_over state) call.state
+                ∙ kept_done state s (receive s line count ready store) _ r);
+            writes = rw receiver_held call.writes;
+            uses = rw receiver_held (sym (ap (report_used used) r));
+            ends = rw receiver_held (l ∙ sym (ap (report_length len) r));
+            fails = rw receiver_held (f ∙ sym (ap (report_remainder remainder) r));
           }
 
 -- the places where the test was passed and where the function began
 abbrev start : tie.Else1 → tie.Start
 start c = c.before.before.before.before.before.before
 
-bytes-held : (c : tie.Else1) → holdsReceiver (start c).args.state.now ≡ true
+bytes-held : (c : tie.Else1) → holds_receiver (start c).args.state.now ≡ true
 bytes-held c = sym c.before.holds-receiver.ensures ∙ not-false _ c.if1.false
 
-size-held : (c : tie.Else1) → receiverSize ≤ length (start c).args.state.now
-size-held c = (held receiverSize 1 1 3 (start c).args.state.now (bytes-held c)).enough
+size-held : (c : tie.Else1) → receiver_size ≤ length (start c).args.state.now
+size-held c = (held receiver_size 1 1 3 (start c).args.state.now (bytes-held c)).enough
 
 holds-receiver-requires : tie.Need-holds-receiver-requires
 holds-receiver-requires c κs = search rules
@@ -184,7 +184,7 @@ put-head-requires : tie.Need-put-head-requires
 put-head-requires c κs =
     let receive = c.before.before.before.before.before.before.before.before.before in
     let tested = receive.before.before.before.before.before in
-    head-room (start tested).args.state.now (size-held tested) receive.receive.new.1.0
+    head_room (start tested).args.state.now (size-held tested) receive.receive.new.1.0
 
 report-requires : tie.Need-report-requires
 report-requires c κs = search rules
@@ -200,7 +200,7 @@ returns-2 c =
     let receive = c.before.before.before.before.before.before.before.before in
     let loaded = receive.before.before.before in
     turned _ _ _ _ _ _ _ _ (bytes-held loaded.before.before) _ loaded.load-head.ensures _ _ _ receive.receive.ensures _
-    (ap receivedAnswer c.before.answer.given.1)
+    (ap received_answer c.before.answer.given.1)
 
 same-length-4 : tie.Need-same-length-4
 same-length-4 c = search rules
@@ -215,7 +215,7 @@ returns-3 c =
     let receive = answered.before.before.before.before.before.before.before in
     let loaded = receive.before.before.before in
     heard _ _ _ _ _ _ _ _ (bytes-held loaded.before.before) _ loaded.load-head.ensures _ _ _ receive.receive.ensures _ _
-    (ap receivedAnswer answered.answer2.given.1) _ _ _ _ c.report.ensures.0 put.put-head.ensures c.report.ensures.1
+    (ap received_answer answered.answer2.given.1) _ _ _ _ c.report.ensures.0 put.put-head.ensures c.report.ensures.1
     c.report.ensures.2
 
 pub order-line-receive-spec : {M : Type 1} → statement M

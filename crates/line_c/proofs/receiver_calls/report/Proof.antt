@@ -7,14 +7,14 @@ use types.Run.{OneOf, miss}
 use Rattle.line.specs.declared.receiving.Event.{Event}
 use Rattle.line.specs.declared.receiving.Event.TheVariants as E
 use Rattle.line.specs.contracts.receiving.Event.{the_type}
-use Rattle.line_c.specs.ReceiverCalls.{eventNumber, eventLength, eventRemainder}
+use Rattle.line_c.specs.ReceiverCalls.{event_number, event_length, event_remainder}
 use borrow.Author.Rules.{rules}
 use Rattle.line_c.proofs.receiver_calls.report.Statement.{statement}
 use Rattle.line_c.proofs.receiver_calls.report.Tie as tie
 
 -- every other event
 neither : (len remainder : ℕ) (e : Event) → OneOf (0 ∷ 1 ∷ 3 ∷ 4 ∷ 5 ∷ 6 ∷ 8 ∷ []) (tag_of the_type e)
-    → (len ≡ eventLength len e) × (remainder ≡ eventRemainder remainder e)
+    → (len ≡ event_length len e) × (remainder ≡ event_remainder remainder e)
 neither len remainder E.None t = (refl, refl)
 neither len remainder E.Sync t = (refl, refl)
 neither len remainder (E.Bad r) t = absurd (miss (0 ∷ 1 ∷ 3 ∷ 4 ∷ 5 ∷ 6 ∷ 8 ∷ []) 2 tt t)
@@ -27,8 +27,8 @@ neither len remainder E.Wait t = (refl, refl)
 
 -- what is reported of an event that is known
 known : (len remainder : ℕ) (e x : Event) → e ≡ x
-    → (eventNumber x ≡ eventNumber e) × (eventLength len x ≡ eventLength len e) × (eventRemainder remainder x ≡ eventRemainder remainder e)
-known len remainder e x p = (sym (ap eventNumber p), sym (ap (eventLength len) p), sym (ap (eventRemainder remainder) p))
+    → (event_number x ≡ event_number e) × (event_length len x ≡ event_length len e) × (event_remainder remainder x ≡ event_remainder remainder e)
+known len remainder e x p = (sym (ap event_number p), sym (ap (event_length len) p), sym (ap (event_remainder remainder) p))
 
 enum-known-event : tie.Need-enum-known-event
 enum-known-event c = search rules

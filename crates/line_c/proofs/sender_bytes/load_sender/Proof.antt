@@ -1,4 +1,4 @@
-use Rattle.line_c.specs.State.{senderIn}
+use Rattle.line_c.specs.State.{sender_in}
 use borrow.Author.Rules.{rules}
 use Rattle.line_c.proofs.sender_bytes.load_sender.Statement.{statement}
 use Rattle.line_c.proofs.sender_bytes.load_sender.Tie as tie
@@ -34,7 +34,7 @@ shared-slice-read-t17 : tie.Need-shared-slice-read-t17
 shared-slice-read-t17 c = search rules
 
 returns : tie.Need-returns
-unfolding senderIn
+unfolding sender_in
 returns c = cc
 
 pub load-sender-spec : {M : Type 1} → statement M

@@ -6,22 +6,22 @@ use native.Mathlib.Omega.{arith}
 use lib.ListN.{length, drop, length-drop}
 use lib.Seq.{drop-drop, sets}
 use Rattle.line.specs.declared.sender.Sender.{Sender}
-use Rattle.line_c.specs.State.{headSize, marksSize, marksBytes, senderSize, senderHead, senderBytes}
-use Rattle.line_c.proofs.Flags.{boolByte-flag}
-use Rattle.line_c.proofs.Places.{length-head, marks-stored}
+use Rattle.line_c.specs.State.{head_size, marks_size, marks_bytes, sender_size, sender_head, sender_bytes}
+use Rattle.line_c.proofs.Flags.{bool_byte_flag}
+use Rattle.line_c.proofs.Places.{length_head, marks_stored}
 use borrow.Author.Rules.{rules}
 use Rattle.line_c.proofs.sender_bytes.store_sender.Statement.{statement}
 use Rattle.line_c.proofs.sender_bytes.store_sender.Tie as tie
 
 -- the marks behind the head
-joined : (sender : Sender) (s s₁ s₂ : List ℕ) → senderSize ≤ length s → s₁ ≡ senderHead sender ++ drop headSize s
-    → s₂ ≡ sets s₁ headSize (marksBytes sender.setup.marks) → s₂ ≡ senderBytes sender ++ drop senderSize s
-unfolding senderBytes
+joined : (sender : Sender) (s s₁ s₂ : List ℕ) → sender_size ≤ length s → s₁ ≡ sender_head sender ++ drop head_size s
+    → s₂ ≡ sets s₁ head_size (marks_bytes sender.setup.marks) → s₂ ≡ sender_bytes sender ++ drop sender_size s
+unfolding sender_bytes
 joined sender s s₁ s₂ h e₁ e₂ =
     let m = sender.setup.marks in
-    e₂ ∙ ap (λ (l : List ℕ). sets l headSize (marksBytes m)) e₁
-    ∙ marks-stored (senderHead sender) (drop headSize s) m headSize (length-head _ _ _ _ _ _ _) (simp length-drop (omega arith))
-    ∙ rw (drop-drop marksSize headSize s) (sym (append_assoc (senderHead sender) (marksBytes m) (drop senderSize s)))
+    e₂ ∙ ap (λ (l : List ℕ). sets l head_size (marks_bytes m)) e₁
+    ∙ marks_stored (sender_head sender) (drop head_size s) m head_size (length_head _ _ _ _ _ _ _) (simp length-drop (omega arith))
+    ∙ rw (drop-drop marks_size head_size s) (sym (append_assoc (sender_head sender) (marks_bytes m) (drop sender_size s)))
 
 cast-store-head : tie.Need-overflow-cast-store-head
 cast-store-head c = search rules
@@ -44,7 +44,7 @@ store-marks-requires c κs = search rules
 same_length : tie.Need-same-length
 same_length c = search rules
 
-enough : (c : tie.Start) → senderSize ≤ length c.args.s.now
+enough : (c : tie.Start) → sender_size ≤ length c.args.s.now
 enough c = search rules
 
 returns : tie.Need-returns
@@ -54,7 +54,7 @@ returns c =
     let next = head.before.before.before in
     let start = next.before.before.before.before.before in
     joined start.args.sender start.args.s.now _ _ (enough start)
-    (head.store-head.ensures ∙ simp (next.next-byte.ensures, boolByte-flag)) marks.store-marks.ensures
+    (head.store-head.ensures ∙ simp (next.next_byte_lem.ensures, bool_byte_flag)) marks.store-marks.ensures
 
 pub store-sender-spec : {M : Type 1} → statement M
 store-sender-spec =

@@ -7,42 +7,42 @@ use lib.ListN.{length}
 use borrow.Author.Tests.{not-true, not-false}
 use Rattle.block.specs.Answer as A
 use Rattle.block.specs.Answer.{refused, done}
-use Rattle.line.specs.Sending.{Block, synchronising, send, sendState, sentAnswer, Send}
+use Rattle.line.specs.Sending.{Block, synchronising, send, send_state, sent_answer, Send}
 use Rattle.line.specs.declared.sender.Sender.{Sender}
 use Rattle.line.specs.declared.sender.Step.{Step}
-use Rattle.line_c.specs.State.{senderSize, holdsSender, senderIn, senderOf}
-use Rattle.line_c.specs.SenderCalls.{senderOver, sentWord, SendCall}
+use Rattle.line_c.specs.State.{sender_size, holds_sender, sender_in, sender_of}
+use Rattle.line_c.specs.SenderCalls.{sender_over, sent_word, SendCall}
 use Rattle.line_c.proofs.RoundTrip.{held}
-use Rattle.line_c.proofs.Ranges.{item-fits}
+use Rattle.line_c.proofs.Ranges.{item_fits}
 use borrow.Author.Rules.{rules}
 use Rattle.line_c.proofs.sender_calls.order_line_send.Statement.{statement}
 use Rattle.line_c.proofs.sender_calls.order_line_send.Tie as tie
 
 module _ (state order : List ℕ) (reading : Bool) (slice : List ℕ) where
-  unheld : holdsSender state ≡ false → SendCall state order reading slice A.spoiled state slice
-  unfolding senderOf
+  unheld : holds_sender state ≡ false → SendCall state order reading slice A.spoiled state slice
+  unfolding sender_of
   unheld h = record { answers = rw h; keeps = rw h; writes = rw h }
 
-  module _ (s : Sender) (h : holdsSender state ≡ true) (e : s ≡ senderIn state) where
-    sender-held : senderOf state ≡ done s
-    unfolding senderOf
-    sender-held = rw (h, e)
+  module _ (s : Sender) (h : holds_sender state ≡ true) (e : s ≡ sender_in state) where
+    sender_held : sender_of state ≡ done s
+    unfolding sender_of
+    sender_held = rw (h, e)
 
     module _ (result : Step) (slice' : List ℕ) (p : Send s order reading slice result slice') where
-      turned : (n : ℕ) → sentAnswer result.answer ≡ refused n → SendCall state order reading slice n state slice'
+      turned : (n : ℕ) → sent_answer result.answer ≡ refused n → SendCall state order reading slice n state slice'
       turned n a =
           let r : send s order reading slice ≡ refused n = sym p.answers ∙ a in
-          record { answers = rw (sender-held, r); keeps = rw (sender-held, r); writes = rw sender-held p.writes }
+          record { answers = rw (sender_held, r); keeps = rw (sender_held, r); writes = rw sender_held p.writes }
 
-      sent : (b : Block) (state' : List ℕ) → sentAnswer result.answer ≡ done b → state' ≡ senderOver state result.state
-          → SendCall state order reading slice (sentWord (done b)) state' slice'
+      sent : (b : Block) (state' : List ℕ) → sent_answer result.answer ≡ done b → state' ≡ sender_over state result.state
+          → SendCall state order reading slice (sent_word (done b)) state' slice'
       sent b state' a w =
           let r : send s order reading slice ≡ done b = sym p.answers ∙ a in
-          let n : result.state ≡ sendState s reading (done b) = rw r at p.state in
+          let n : result.state ≡ send_state s reading (done b) = rw r at p.state in
           record {
-            answers = rw (sender-held, r);
-            keeps = rw (sender-held, r, ← n) w;
-            writes = rw sender-held p.writes;
+            answers = rw (sender_held, r);
+            keeps = rw (sender_held, r, ← n) w;
+            writes = rw sender_held p.writes;
           }
 
 -- the places where the test was passed and where the function began
@@ -52,11 +52,11 @@ tested c = c.before.before.before.before.before.before.before
 abbrev start : tie.Else1 → tie.Start
 start c = c.before.before.before.before.before.before
 
-bytes-held : (c : tie.Else1) → holdsSender (start c).args.state.now ≡ true
+bytes-held : (c : tie.Else1) → holds_sender (start c).args.state.now ≡ true
 bytes-held c = sym c.before.holds-sender.ensures ∙ not-false _ c.if1.false
 
-enough : (c : tie.Else1) → senderSize ≤ length (start c).args.state.now
-enough c = (held senderSize 1 2 1 (start c).args.state.now (bytes-held c)).enough
+enough : (c : tie.Else1) → sender_size ≤ length (start c).args.state.now
+enough c = (held sender_size 1 2 1 (start c).args.state.now (bytes-held c)).enough
 
 holds-sender-requires : tie.Need-holds-sender-requires
 holds-sender-requires c κs = search rules
@@ -98,7 +98,7 @@ item-word-requires : tie.Need-item-word-requires
 item-word-requires c κs =
     let answer = c.before.before.before.before.before in
     let call = answer.before.before.before.before.before.send in
-    item-fits _ _ _ _ _ _ _ _ (sym call.ensures.answers ∙ ap sentAnswer answer.answer2.given.1)
+    item_fits _ _ _ _ _ _ _ _ (sym call.ensures.answers ∙ ap sent_answer answer.answer2.given.1)
 
 same-length-2 : tie.Need-same-length-2
 same-length-2 c = search rules
@@ -111,7 +111,7 @@ returns-2 c =
     let next = c.before.before.before in
     let call = next.before.before.before in
     turned _ _ _ _ _ (bytes-held (tested next)) call.before.before.load-sender.ensures _ _ call.send.ensures _
-    (ap sentAnswer c.before.answer.given.1)
+    (ap sent_answer c.before.answer.given.1)
 
 same-length-4 : tie.Need-same-length-4
 same-length-4 c = search rules
@@ -125,7 +125,7 @@ returns-3 c =
     let next = told.before.before in
     let call = next.before.before.before in
     sent _ _ _ _ _ (bytes-held (tested next)) call.before.before.load-sender.ensures _ _ call.send.ensures synchronising _
-    (ap sentAnswer told.enum_told.given.1) c.before.before.store-sender.ensures
+    (ap sent_answer told.enum_told.given.1) c.before.before.store-sender.ensures
 
 same-length-6 : tie.Need-same-length-6
 same-length-6 c = search rules
@@ -138,9 +138,9 @@ returns-4 c =
     let answer = c.before.before.before.before.before.before in
     let next = answer.before.before in
     let call = next.before.before.before in
-    rw c.item-word.ensures
+    rw c.item_word_lem.ensures
     (sent _ _ _ _ _ (bytes-held (tested next)) call.before.before.load-sender.ensures _ _ call.send.ensures _ _
-    (ap sentAnswer answer.answer2.given.1) c.before.before.before.store-sender2.ensures)
+    (ap sent_answer answer.answer2.given.1) c.before.before.before.store-sender2.ensures)
 
 pub order-line-send-spec : {M : Type 1} → statement M
 order-line-send-spec =

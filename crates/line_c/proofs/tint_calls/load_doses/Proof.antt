@@ -7,45 +7,45 @@ use native.Mathlib.Omega.{arith}
 use Prim.Native.Nat.{ℕ, suc, ◌+◌, ◌-◌, ◌*◌, ◌≤◌, ◌<◌}
 use lib.ListN.{length, get_or, take, drop}
 use Rattle.tint.specs.Format.{Dose}
-use Rattle.tint.specs.Calls.{filledUp, canistersOf, steps_of}
+use Rattle.tint.specs.Calls.{filled_up, canisters_of, steps_of}
 use Rattle.tint.proofs.Entries.{length-map}
-use Rattle.tint.proofs.Arrays.{Filled, filled_more, filled-all}
-use Rattle.line_c.specs.TintCalls.{dosesOfNumbers, dosesHeld}
-use Rattle.line_c.proofs.DoseNumbers.{dose-first, length-dosesHeld}
+use Rattle.tint.proofs.Arrays.{Filled, filled_more, filled_all}
+use Rattle.line_c.specs.TintCalls.{doses_of_numbers, doses_held}
+use Rattle.line_c.proofs.DoseNumbers.{dose_first, length-doses_held}
 use Rattle.line_c.proofs.tint_calls.load_doses.Statement.{statement}
 use Rattle.line_c.proofs.tint_calls.load_doses.Tie as tie
 
 -- the doses to come from place i on
-abbrev toCome : ℕ → List ℕ → ℕ → List Dose
-toCome count s i = take (count - i) (dosesOfNumbers (drop (i * 2) s))
+abbrev to_come : ℕ → List ℕ → ℕ → List Dose
+to_come count s i = take (count - i) (doses_of_numbers (drop (i * 2) s))
 
-abbrev invariant-loop : tie.invariant-loop
-invariant-loop count numbers canisters₀ steps₀ i₀ canisters steps i =
+abbrev invariant_loop : tie.invariant_loop
+invariant_loop count numbers canisters₀ steps₀ i₀ canisters steps i =
     (i ≤ count) × (count ≤ 12) × (count * 2 ≤ length numbers)
-    × Filled (canistersOf (dosesHeld numbers count)) (canistersOf (toCome count numbers i)) canisters i
-    × Filled (steps_of (dosesHeld numbers count)) (steps_of (toCome count numbers i)) steps i
+    × Filled (canisters_of (doses_held numbers count)) (canisters_of (to_come count numbers i)) canisters i
+    × Filled (steps_of (doses_held numbers count)) (steps_of (to_come count numbers i)) steps i
 
-abbrev decreases-loop : tie.decreases-loop
-decreases-loop count numbers canisters₀ steps₀ i₀ canisters steps i = count - i
+abbrev decreases_loop : tie.decreases_loop
+decreases_loop count numbers canisters₀ steps₀ i₀ canisters steps i = count - i
 
-start : (f : Dose → ℕ) (count : ℕ) (s : List ℕ) → map f (toCome count s 0) ≡ map f (dosesHeld s count)
-start f count s = ap (λ (n : ℕ). map f (dosesHeld s n)) (sub-zero count)
+start : (f : Dose → ℕ) (count : ℕ) (s : List ℕ) → map f (to_come count s 0) ≡ map f (doses_held s count)
+start f count s = ap (λ (n : ℕ). map f (doses_held s n)) (sub-zero count)
 
 first : (count i : ℕ) (s : List ℕ) → i < count → count * 2 ≤ length s
-    → toCome count s i ≡ record { canister = get_or s (i * 2) 0; steps = get_or s (i * 2 + 1) 0 } ∷ toCome count s (i + 1)
+    → to_come count s i ≡ record { canister = get_or s (i * 2) 0; steps = get_or s (i * 2 + 1) 0 } ∷ to_come count s (i + 1)
 first count i s m h =
     let n : count - i ≡ suc (count - (i + 1)) = omega arith in
-    ap₂ (λ (k : ℕ) (ds : List Dose). take k ds) n (dose-first s i (omega arith))
+    ap₂ (λ (k : ℕ) (ds : List Dose). take k ds) n (dose_first s i (omega arith))
 
-all-loaded : (f : Dose → ℕ) (count i : ℕ) (s array : List ℕ) → i ≡ count → count * 2 ≤ length s
-    → Filled (map f (dosesHeld s count)) (map f (toCome count s i)) array i → array ≡ filledUp (map f (dosesHeld s count))
-all-loaded f count i s array e h =
+all_loaded : (f : Dose → ℕ) (count i : ℕ) (s array : List ℕ) → i ≡ count → count * 2 ≤ length s
+    → Filled (map f (doses_held s count)) (map f (to_come count s i)) array i → array ≡ filled_up (map f (doses_held s count))
+all_loaded f count i s array e h =
     let n : count - i ≡ 0 = omega arith in
-    filled-all (map f (dosesHeld s count)) (map f (toCome count s i)) array i
-    (ap (λ (k : ℕ). map f (take k (dosesOfNumbers (drop (i * 2) s)))) n)
-    (length-map f (dosesHeld s count) ∙ length-dosesHeld s count h ∙ sym e)
+    filled_all (map f (doses_held s count)) (map f (to_come count s i)) array i
+    (ap (λ (k : ℕ). map f (take k (doses_of_numbers (drop (i * 2) s)))) n)
+    (length-map f (doses_held s count) ∙ length-doses_held s count h ∙ sym e)
 
-loop-holds : tie.Need-loop-init invariant-loop decreases-loop
+loop-holds : tie.Need-loop-init invariant_loop decreases_loop
 loop-holds c =
     let a = c.args in (
       search rules,
@@ -55,43 +55,43 @@ loop-holds c =
       (refl, start (λ d. d.steps) a.count a.numbers.now, refl),
     )
 
-mul_at : tie.Need-overflow-mul-at invariant-loop decreases-loop
+mul_at : tie.Need-overflow-mul-at invariant_loop decreases_loop
 mul_at c = omega arith
 
-mul-canisters : tie.Need-overflow-mul-canisters invariant-loop decreases-loop
+mul-canisters : tie.Need-overflow-mul-canisters invariant_loop decreases_loop
 mul-canisters c = omega arith
 
-shared-slice-read-canisters : tie.Need-shared-slice-read-canisters invariant-loop decreases-loop
+shared-slice-read-canisters : tie.Need-shared-slice-read-canisters invariant_loop decreases_loop
 shared-slice-read-canisters c = omega arith
 
-mul-canisters-2 : tie.Need-overflow-mul-canisters-2 invariant-loop decreases-loop
+mul-canisters-2 : tie.Need-overflow-mul-canisters-2 invariant_loop decreases_loop
 mul-canisters-2 c = omega arith
 
-array-write-canisters : tie.Need-array-write-canisters invariant-loop decreases-loop
+array-write-canisters : tie.Need-array-write-canisters invariant_loop decreases_loop
 array-write-canisters c = omega arith
 
-add-steps : tie.Need-overflow-add-steps invariant-loop decreases-loop
+add-steps : tie.Need-overflow-add-steps invariant_loop decreases_loop
 add-steps c = omega arith
 
-mul-steps : tie.Need-overflow-mul-steps invariant-loop decreases-loop
+mul-steps : tie.Need-overflow-mul-steps invariant_loop decreases_loop
 mul-steps c = omega arith
 
-shared-slice-read-steps : tie.Need-shared-slice-read-steps invariant-loop decreases-loop
+shared-slice-read-steps : tie.Need-shared-slice-read-steps invariant_loop decreases_loop
 shared-slice-read-steps c = omega arith
 
-mul-steps-2 : tie.Need-overflow-mul-steps-2 invariant-loop decreases-loop
+mul-steps-2 : tie.Need-overflow-mul-steps-2 invariant_loop decreases_loop
 mul-steps-2 c = omega arith
 
-array-write-steps : tie.Need-array-write-steps invariant-loop decreases-loop
+array-write-steps : tie.Need-array-write-steps invariant_loop decreases_loop
 array-write-steps c = omega arith
 
-add-i : tie.Need-overflow-add-i invariant-loop decreases-loop
+add-i : tie.Need-overflow-add-i invariant_loop decreases_loop
 add-i c = omega arith
 
-loop-less : tie.Need-loop-smaller invariant-loop decreases-loop
+loop-less : tie.Need-loop-smaller invariant_loop decreases_loop
 loop-less c = omega arith
 
-loop-again : tie.Need-loop-preserved invariant-loop decreases-loop
+loop-again : tie.Need-loop-preserved invariant_loop decreases_loop
 loop-again c =
     let l = c.before.before.before.loop in
     let a = c.before.before.before.before.args in
@@ -99,26 +99,26 @@ loop-again c =
       omega arith,
       l.invariant.1,
       l.invariant.2,
-      filled_more _ _ _ l.canisters l.i _ (omega arith) (ap canistersOf e) l.invariant.3,
+      filled_more _ _ _ l.canisters l.i _ (omega arith) (ap canisters_of e) l.invariant.3,
       filled_more _ _ _ l.steps l.i _ (omega arith) (ap steps_of e) l.invariant.4,
     )
 
-returns : tie.Need-returns invariant-loop decreases-loop
+returns : tie.Need-returns invariant_loop decreases_loop
 returns c =
     let l = c.before.loop in
     let a = c.before.before.args in
     let s = a.numbers.now in
-    ap (λ (k : ℕ). record { count = k; canisters = l.canisters; steps = l.steps }) (sym (length-dosesHeld s a.count (omega arith)))
-    ∙ ap₂ (λ (p q : List ℕ). record { count = length (dosesHeld s a.count); canisters = p; steps = q })
-    (all-loaded (λ d. d.canister) a.count l.i s l.canisters (omega arith) (omega arith) l.invariant.3)
-    (all-loaded (λ d. d.steps) a.count l.i s l.steps (omega arith) (omega arith) l.invariant.4)
+    ap (λ (k : ℕ). record { count = k; canisters = l.canisters; steps = l.steps }) (sym (length-doses_held s a.count (omega arith)))
+    ∙ ap₂ (λ (p q : List ℕ). record { count = length (doses_held s a.count); canisters = p; steps = q })
+    (all_loaded (λ d. d.canister) a.count l.i s l.canisters (omega arith) (omega arith) l.invariant.3)
+    (all_loaded (λ d. d.steps) a.count l.i s l.steps (omega arith) (omega arith) l.invariant.4)
 
 pub load-doses-spec : {M : Type 1} → statement M
 load-doses-spec =
     tie.close
     (tie.spec
-    invariant-loop
-    decreases-loop
+    invariant_loop
+    decreases_loop
     loop-holds
     mul_at
     mul-canisters

@@ -1,14 +1,14 @@
 -- `order_line_write_tint`: too many doses, a slice too short for them, and then what the crate `tint` answers. Assumes nothing.
 use borrow.Author.Rules.{rules}
 use native.Mathlib.Omega.{arith}
-use Rattle.line_c.proofs.HeldDoses.{write-many, write-short, write-refused, write_done}
+use Rattle.line_c.proofs.HeldDoses.{write_many, write-short, write_refused, write_done}
 use Rattle.line_c.proofs.tint_calls.order_line_write_tint.Statement.{statement}
 use Rattle.line_c.proofs.tint_calls.order_line_write_tint.Tie as tie
 
 returns : tie.Need-returns
 returns c =
     let a = c.before.before.before.args in
-    write-many a.doses.now a.count a.order.now a.bytes.now c.if1.true
+    write_many a.doses.now a.count a.order.now a.bytes.now c.if1.true
 
 refuse-short-requires : tie.Need-refuse-short-requires
 refuse-short-requires c κs = search rules
@@ -39,7 +39,7 @@ returns-3 c =
     let w = c.before.before.before.before.before in
     let l = w.before.before in
     let a = l.before.before.before.before.before.args in
-    write-refused a.doses.now a.count a.order.now a.bytes.now (omega arith) _ l.load-doses.ensures _ _ w.write.ensures _
+    write_refused a.doses.now a.count a.order.now a.bytes.now (omega arith) _ l.load-doses.ensures _ _ w.write.ensures _
     c.before.number.given.1
 
 same-length-2 : tie.Need-same-length-2

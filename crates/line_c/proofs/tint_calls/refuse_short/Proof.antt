@@ -1,9 +1,9 @@
 -- `refuse_short`: no dose, or the doses that are there, judged. Assumes nothing.
 use borrow.Author.Rules.{rules}
 use mathlib.Core.Path.{sym, ap, ◌∙◌}
-use Rattle.tint.specs.Calls.{judgedAnswer}
+use Rattle.tint.specs.Calls.{judged_answer}
 use Rattle.tint.proofs.Entries.{positive}
-use Rattle.line_c.proofs.HeldDoses.{held_none, held-refused, held-good}
+use Rattle.line_c.proofs.HeldDoses.{held_none, held_refused, held_good}
 use Rattle.line_c.proofs.tint_calls.refuse_short.Statement.{statement}
 use Rattle.line_c.proofs.tint_calls.refuse_short.Tie as tie
 
@@ -27,16 +27,16 @@ returns-2 c =
     let j = c.before.before.before in
     let e = j.before.before in
     let start = e.before.before in
-    held-refused start.args.numbers.now (positive _ e.if1.false) start.requires _ j.before.load-doses.ensures _
-    (ap judgedAnswer (sym c.before.number.given.1) ∙ j.judge.ensures.answers)
+    held_refused start.args.numbers.now (positive _ e.if1.false) start.requires _ j.before.load-doses.ensures _
+    (ap judged_answer (sym c.before.number.given.1) ∙ j.judge.ensures.answers)
 
 returns-3 : tie.Need-returns-3
 returns-3 c =
     let j = c.before.before in
     let e = j.before.before in
     let start = e.before.before in
-    held-good start.args.numbers.now (positive _ e.if1.false) start.requires _ j.before.load-doses.ensures
-    (ap judgedAnswer (sym c.enum_told.given.1) ∙ j.judge.ensures.answers)
+    held_good start.args.numbers.now (positive _ e.if1.false) start.requires _ j.before.load-doses.ensures
+    (ap judged_answer (sym c.enum_told.given.1) ∙ j.judge.ensures.answers)
 
 pub refuse-short-spec : {M : Type 1} → statement M
 refuse-short-spec =

@@ -1,6 +1,6 @@
 -- `Generator::choose` keeps its promise: a draw, and what its low two bits choose. Assumes nothing.
 use Rattle.std.proofs.Common.{refl, rules, eq-eqb, ne_eqb}
-use Rattle.noise.proofs.Loads.{chooses_span, chooses-whole}
+use Rattle.noise.proofs.Loads.{chooses_span, chooses_whole}
 use Rattle.noise.proofs.Generator.choose.Statement.{statement}
 use Rattle.noise.proofs.Generator.choose.Tie as tie
 
@@ -25,7 +25,7 @@ returns-2 : tie.Need-returns-2
 returns-2 c =
     let d = c.before.before.before in
     let s = d.before.before in
-    chooses-whole s.args.k s.args.self s.args.block.now _ d.draw.ensures.draws (ne_eqb _ 2 c.if1.false) _ _ d.draw.ensures.updates refl
+    chooses_whole s.args.k s.args.self s.args.block.now _ d.draw.ensures.draws (ne_eqb _ 2 c.if1.false) _ _ d.draw.ensures.updates refl
     s.requires.1 (λ i. (d.before.slice-known.given i).fits)
 
 pub choose_spec : {M : Type 1} → statement M

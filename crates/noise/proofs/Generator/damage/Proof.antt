@@ -1,6 +1,6 @@
 -- `Generator::damage` keeps its promise: a second draw, its pattern laid over the block. Assumes nothing.
 use Rattle.std.proofs.Common.{◌/◌, arith, rules}
-use Rattle.block.proofs.Lengths.{length-facts}
+use Rattle.block.proofs.Lengths.{length_facts}
 use Rattle.noise.proofs.Loads.{holds, place-room, damaged}
 use Rattle.noise.proofs.Generator.damage.Statement.{statement}
 use Rattle.noise.proofs.Generator.damage.Tie as tie
@@ -14,7 +14,7 @@ cast-pattern c = search rules
 add-n : tie.Need-overflow-add-n
 add-n c =
     let s = c.before.before.before in
-    let f = length-facts s.args.k s.requires.0 in
+    let f = length_facts s.args.k s.requires.0 in
     search rules
 
 cast-lay : tie.Need-overflow-cast-lay
@@ -33,7 +33,7 @@ lay-requires : tie.Need-lay-requires
 lay-requires c κs =
     let s = c.before.before.before.before in
     let k = s.args.k in
-    let f = length-facts k s.requires.0 in
+    let f = length_facts k s.requires.0 in
     let h = holds k s.args.block.now s.requires.1 in
     let p = place-room k (c.before.before.draw.result.number / 65536) in
     omega arith

@@ -1,11 +1,11 @@
 -- `Generator::draw` keeps its promise: both words updated, and their sum. Assumes nothing.
 use Rattle.std.proofs.Common.{◌≡◌, ℕ, ◌+◌, ◌∙◌, ap₂, rules}
-use Rattle.noise.specs.Generator.{kept, nextFirst, nextSecond, next, drawn, Draw}
+use Rattle.noise.specs.Generator.{kept, next_first, next_second, next, drawn, Draw}
 use Rattle.noise.specs.declared.Generator.{Generator}
 use Rattle.noise.proofs.Generator.draw.Statement.{statement}
 use Rattle.noise.proofs.Generator.draw.Tie as tie
 
-draws : (g : Generator) (first second number : ℕ) → first ≡ nextFirst g.first → second ≡ nextSecond g.second
+draws : (g : Generator) (first second number : ℕ) → first ≡ next_first g.first → second ≡ next_second g.second
     → number ≡ kept (first + second)
     → Draw g (record { generator = record { first = first; second = second }; number = number })
 unfolding next drawn

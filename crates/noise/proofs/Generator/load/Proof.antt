@@ -1,17 +1,17 @@
 -- `Generator::load` keeps its promise: the refusals in their order, then what a draw chooses. Assumes nothing.
 use Rattle.std.proofs.Common.{◌≡◌, true, false, sym, ◌∙◌, subst, rules, eq-eqb, ne_eqb}
 use borrow.Author.Tests.{not-true, not-false}
-use Rattle.block.specs.Lengths.{isLength, blockLength}
-use Rattle.block.specs.Calls.{tooShort}
-use Rattle.block.proofs.Lengths.{length-facts}
+use Rattle.block.specs.Lengths.{is_length, block_length}
+use Rattle.block.specs.Calls.{too_short}
+use Rattle.block.proofs.Lengths.{length_facts}
 use Rattle.noise.specs.Load.{LoadBlock}
 use Rattle.noise.specs.declared.Loaded.{Loaded}
-use Rattle.noise.proofs.Loads.{refuses-length, refuses-generator, refuses-slice, loads}
+use Rattle.noise.proofs.Loads.{refuses_length, refuses_generator, refuses_slice, loads}
 use Rattle.noise.proofs.Generator.load.Statement.{statement}
 use Rattle.noise.proofs.Generator.load.Tie as tie
 
 -- the length is known
-known : (c : tie.Else1) → isLength c.before.before.before.args.k ≡ true
+known : (c : tie.Else1) → is_length c.before.before.before.args.k ≡ true
 known c = sym c.before.known-length.ensures ∙ not-false _ c.if1.false
 
 known-length-requires : tie.Need-known-length-requires
@@ -25,7 +25,7 @@ returns c =
     let t = c.before in
     let a = t.before.before.before.args in
     subst (λ (r : Loaded). LoadBlock a.k a.self a.block.now r a.block.now) (sym c.refused.ensures)
-    (refuses-length a.k a.self a.block.now (sym t.before.known-length.ensures ∙ not-true _ t.if1.true))
+    (refuses_length a.k a.self a.block.now (sym t.before.known-length.ensures ∙ not-true _ t.if1.true))
 
 refused-requires-2 : tie.Need-refused-requires-2
 refused-requires-2 c κs = search rules
@@ -36,12 +36,12 @@ returns-2 c =
     let e = t.before.before in
     let a = e.before.before.before.args in
     subst (λ (r : Loaded). LoadBlock a.k a.self a.block.now r a.block.now) (sym c.refused2.ensures)
-    (refuses-generator a.k a.self a.block.now (known e) (eq-eqb _ 0 t.if2.true))
+    (refuses_generator a.k a.self a.block.now (known e) (eq-eqb _ 0 t.if2.true))
 
 add-too-short : tie.Need-overflow-add-too-short
 add-too-short c =
     let e = c.before.before.before in
-    let f = length-facts e.before.before.before.args.k (known e) in
+    let f = length_facts e.before.before.before.args.k (known e) in
     search rules
 
 too-short-requires : tie.Need-too-short-requires
@@ -60,12 +60,12 @@ returns-3 c =
     let e = n.before.before in
     let a = e.before.before.before.args in
     subst (λ (r : Loaded). LoadBlock a.k a.self a.block.now r a.block.now) (sym c.refused3.ensures)
-    (refuses-slice a.k a.self a.block.now (known e) (ne_eqb _ 0 n.if2.false) (sym t.before.too_short.ensures ∙ t.if3.true))
+    (refuses_slice a.k a.self a.block.now (known e) (ne_eqb _ 0 n.if2.false) (sym t.before.too_short.ensures ∙ t.if3.true))
 
 -- the slice holds the block
 held : (c : tie.Else3)
-    → tooShort c.before.before.before.before.before.before.before.before.args.block.now
-    (blockLength c.before.before.before.before.before.before.before.before.args.k)
+    → too_short c.before.before.before.before.before.before.before.before.args.block.now
+    (block_length c.before.before.before.before.before.before.before.before.args.k)
     ≡ false
 held c = sym c.before.too_short.ensures ∙ c.if3.false
 

@@ -1,7 +1,7 @@
 -- `hex_value` meets its contract: a range for each return. Assumes nothing.
 use native.Mathlib.Omega.{arith}
 use Rattle.session.proofs.Ranges.{within, below, above}
-use Rattle.session.specs.LineOne.{hexValue}
+use Rattle.session.specs.LineOne.{hex_value}
 use borrow.Author.Rules.{rules}
 use Rattle.session.proofs.line_one.hex_value.Statement.{statement}
 use Rattle.session.proofs.line_one.hex_value.Tie as tie
@@ -13,31 +13,31 @@ sub-result-2 : tie.Need-overflow-sub-result-2
 sub-result-2 c = search rules
 
 returns : tie.Need-returns
-unfolding hexValue
+unfolding hex_value
 returns c = rw (within 48 57 c.before.before.args.c (omega arith) (omega arith))
 
 returns-2 : tie.Need-returns-2
-unfolding hexValue
+unfolding hex_value
 returns-2 c = rw (above 48 57 c.before.before.before.before.args.c (omega arith), within 65 70 c.before.before.before.before.args.c (omega arith) (omega arith))
 
 returns-3 : tie.Need-returns-3
-unfolding hexValue
+unfolding hex_value
 returns-3 c = rw (above 48 57 c.before.before.before.before.before.before.args.c (omega arith), above 65 70 c.before.before.before.before.before.before.args.c (omega arith), within 97 102 c.before.before.before.before.before.before.args.c (omega arith) (omega arith))
 
 returns-4 : tie.Need-returns-4
-unfolding hexValue
+unfolding hex_value
 returns-4 c = rw (below 48 57 c.before.args.c (omega arith), below 65 70 c.before.args.c (omega arith), below 97 102 c.before.args.c (omega arith))
 
 returns-5 : tie.Need-returns-5
-unfolding hexValue
+unfolding hex_value
 returns-5 c = rw (above 48 57 c.before.before.before.args.c (omega arith), below 65 70 c.before.before.before.args.c (omega arith), below 97 102 c.before.before.before.args.c (omega arith))
 
 returns-6 : tie.Need-returns-6
-unfolding hexValue
+unfolding hex_value
 returns-6 c = rw (above 48 57 c.before.before.before.before.before.args.c (omega arith), above 65 70 c.before.before.before.before.before.args.c (omega arith), below 97 102 c.before.before.before.before.before.args.c (omega arith))
 
 returns-7 : tie.Need-returns-7
-unfolding hexValue
+unfolding hex_value
 returns-7 c = rw (above 48 57 c.before.before.before.before.before.before.args.c (omega arith), above 65 70 c.before.before.before.before.before.before.args.c (omega arith), above 97 102 c.before.before.before.before.before.before.args.c (omega arith))
 
 pub hex-value-spec : {M : Type 1} → statement M

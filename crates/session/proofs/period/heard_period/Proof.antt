@@ -3,8 +3,8 @@ use mathlib.Core.Path.{ap}
 use native.Mathlib.Omega.{arith}
 use lib.ListN.{length, take}
 use Rattle.crc.specs.Bits.{bits_of}
-use Rattle.crc.proofs.Bytes.{length-bytesOf}
-use Rattle.session.specs.Period.{lineBytes}
+use Rattle.crc.proofs.Bytes.{length-bytes_of}
+use Rattle.session.specs.Period.{line_bytes}
 use Rattle.session.proofs.ReceivingCalls.{arrives}
 use borrow.Author.Rules.{rules}
 use Rattle.session.proofs.period.heard_period.Statement.{statement}
@@ -13,7 +13,7 @@ use Rattle.session.proofs.period.heard_period.Tie as tie
 disturb-requires : tie.Need-disturb-requires
 disturb-requires c κs =
     let l = c.before.before.before.requires in
-    rw (ap length l.0.1, length-bytesOf lineBytes (take c.before.before.before.args.count (bits_of c.before.before.before.args.line.now))) (omega arith)
+    rw (ap length l.0.1, length-bytes_of line_bytes (take c.before.before.before.args.count (bits_of c.before.before.before.args.line.now))) (omega arith)
 
 hear-requires : tie.Need-hear-requires
 hear-requires c κs =

@@ -7,12 +7,12 @@ use native.Mathlib.Numerals.{add-one}
 use native.Mathlib.Omega.{arith}
 use lib.ListN.{length, take, drop, get_or, take-append-drop, drop_of_length-le}
 use lib.Seq.{paste, length-paste, take-paste, drop-paste, take_all, drop-cons, drop-drop, length-take-le}
-use Rattle.session.specs.Program.{keeping, yieldText, numberAfter, byteTaken, afterByte, afterBytes, bytesText, Puts, laid}
+use Rattle.session.specs.Program.{keeping, yield_text, number_after, byte_taken, after_byte, after_bytes, bytes_text, Puts, laid}
 use Rattle.session.specs.Session.{Take}
 use Rattle.session.specs.Text.{room}
 use Rattle.session.specs.declared.program.Program.{Program}
 use Rattle.session.specs.declared.script.Taken.{Taken}
-use Rattle.session.proofs.Outputs.{as-paste}
+use Rattle.session.proofs.Outputs.{as_paste}
 use Rattle.session.proofs.program.read_bytes.Statement.{statement}
 use Rattle.session.proofs.program.read_bytes.Tie as tie
 
@@ -22,8 +22,8 @@ record Going (p₀ : Program) (part output₀ : List ℕ) (p : Program) (output 
   fits : room * length part ≤ length output₀
   short : len ≤ room * i
   same : length output ≡ length output₀
-  program : afterBytes p (drop i part) ≡ afterBytes p₀ part
-  text : take len output ++ bytesText p (drop i part) ≡ bytesText p₀ part
+  program : after_bytes p (drop i part) ≡ after_bytes p₀ part
+  text : take len output ++ bytes_text p (drop i part) ≡ bytes_text p₀ part
   rest : drop len output ≡ drop len output₀
 
 begins : (p : Program) (part output : List ℕ) → room * length part ≤ length output → Going p part output p output 0 0
@@ -31,18 +31,18 @@ begins p part output h =
     record { within = omega arith; fits = h; short = omega arith; same = refl; program = refl; text = refl; rest = refl }
 
 taken : (p : Program) (c : ℕ) (w : Taken) (order store : List ℕ) → Take p.session c p.order p.store w order store
-    → keeping w.session (numberAfter p.number w.yielded) order store ≡ afterByte p c
+    → keeping w.session (number_after p.number w.yielded) order store ≡ after_byte p c
 taken p c w order store t = rw (t.answers, t.keeps, t.stores)
 
 -- the first byte still to come
-next-program : (p : Program) (c : ℕ) (cs : List ℕ) → afterBytes p (c ∷ cs) ≡ afterBytes (afterByte p c) cs
-unfolding afterBytes
-next-program p c cs = refl
+next_program : (p : Program) (c : ℕ) (cs : List ℕ) → after_bytes p (c ∷ cs) ≡ after_bytes (after_byte p c) cs
+unfolding after_bytes
+next_program p c cs = refl
 
-next-text : (p : Program) (c : ℕ) (cs : List ℕ)
-    → bytesText p (c ∷ cs) ≡ yieldText p.number (byteTaken p c).yielded ++ bytesText (afterByte p c) cs
-unfolding bytesText
-next-text p c cs = refl
+next_text : (p : Program) (c : ℕ) (cs : List ℕ)
+    → bytes_text p (c ∷ cs) ≡ yield_text p.number (byte_taken p c).yielded ++ bytes_text (after_byte p c) cs
+unfolding bytes_text
+next_text p c cs = refl
 
 module _ (p₀ : Program) (part output₀ : List ℕ) (p : Program) (output : List ℕ) (len i : ℕ) (g : Going p₀ part output₀ p output len i)
   where
@@ -51,29 +51,29 @@ module _ (p₀ : Program) (part output₀ : List ℕ) (p : Program) (output : Li
 
     -- one byte more
     further : i < length part → (w : Taken) (number : ℕ) (order store output' : List ℕ) (len' : ℕ)
-        → Take p.session byte p.order p.store w order store → number ≡ numberAfter p.number w.yielded
-        → Puts (yieldText p.number w.yielded) output len len' output'
+        → Take p.session byte p.order p.store w order store → number ≡ number_after p.number w.yielded
+        → Puts (yield_text p.number w.yielded) output len len' output'
         → Going p₀ part output₀ (keeping w.session number order store) output' len' (i + 1)
     further hi w number order store output' len' t e u =
-        let s : List ℕ = yieldText p.number w.yielded in
+        let s : List ℕ = yield_text p.number w.yielded in
         let d : drop i part ≡ byte ∷ drop (i + 1) part = rw add-one (drop-cons part i 0 hi) in
-        let q : keeping w.session number order store ≡ afterByte p byte = rw e (taken p byte w order store t) in
+        let q : keeping w.session number order store ≡ after_byte p byte = rw e (taken p byte w order store t) in
         let hl : len ≤ length output = omega (arith, g.short, g.same, g.fits) in
         let hs : length s ≤ length s = omega arith in
-        let o : output' ≡ paste output len s (length s) = as-paste u in
-        let x : take len output ++ take (length s) s ≡ take len output ++ yieldText p.number (byteTaken p byte).yielded =
+        let o : output' ≡ paste output len s (length s) = as_paste u in
+        let x : take len output ++ take (length s) s ≡ take len output ++ yield_text p.number (byte_taken p byte).yielded =
         ap (λ (v : List ℕ). take len output ++ v)
-        (take_all (length s) s hs ∙ ap (λ (v : Taken). yieldText p.number v.yielded) t.answers) in
+        (take_all (length s) s hs ∙ ap (λ (v : Taken). yield_text p.number v.yielded) t.answers) in
         record {
           within = omega arith;
           fits = g.fits;
           short = omega (arith, g.short, u.fits, u.ends);
           same = rw o (length-paste output len s (length s) (omega (arith, g.short, g.same, g.fits, u.fits)) hs) ∙ g.same;
-          program = rw q (sym (next-program p byte (drop (i + 1) part)) ∙ rw d at g.program);
+          program = rw q (sym (next_program p byte (drop (i + 1) part)) ∙ rw d at g.program);
           text =
               rw (q, o, u.ends, take-paste output len s (length s) hl hs, x)
-              (append_assoc (take len output) (yieldText p.number (byteTaken p byte).yielded) (bytesText (afterByte p byte) (drop (i + 1) part))
-              ∙ ap (λ (v : List ℕ). take len output ++ v) (sym (next-text p byte (drop (i + 1) part)))
+              (append_assoc (take len output) (yield_text p.number (byte_taken p byte).yielded) (bytes_text (after_byte p byte) (drop (i + 1) part))
+              ∙ ap (λ (v : List ℕ). take len output ++ v) (sym (next_text p byte (drop (i + 1) part)))
               ∙ rw d at g.text);
           rest =
               rw (o, u.ends, drop-paste output len s (length s) hl hs)
@@ -85,57 +85,57 @@ module _ (p₀ : Program) (part output₀ : List ℕ) (p : Program) (output : Li
       none_left : drop i part ≡ []
       none_left = drop_of_length-le part hi
 
-      end-program : p ≡ afterBytes p₀ part
-      unfolding afterBytes
-      end-program = rw none_left at g.program
+      end_program : p ≡ after_bytes p₀ part
+      unfolding after_bytes
+      end_program = rw none_left at g.program
 
-      end-text : take len output ≡ bytesText p₀ part
-      unfolding bytesText
-      end-text = sym (append-nil (take len output)) ∙ (rw none_left at g.text)
+      end_text_lem : take len output ≡ bytes_text p₀ part
+      unfolding bytes_text
+      end_text_lem = sym (append-nil (take len output)) ∙ (rw none_left at g.text)
 
-      end-len : len ≡ length (bytesText p₀ part)
-      end-len = sym (length-take-le len output (omega (arith, g.short, g.same, g.fits, g.within))) ∙ ap length end-text
+      end_len : len ≡ length (bytes_text p₀ part)
+      end_len = sym (length-take-le len output (omega (arith, g.short, g.same, g.fits, g.within))) ∙ ap length end_text_lem
 
-      end-output : output ≡ laid (bytesText p₀ part) output₀
-      end-output =
-          sym (take-append-drop len output) ∙ rw (end-text, g.rest) (ap (λ (n : ℕ). bytesText p₀ part ++ drop n output₀) end-len)
+      end_output : output ≡ laid (bytes_text p₀ part) output₀
+      end_output =
+          sym (take-append-drop len output) ∙ rw (end_text_lem, g.rest) (ap (λ (n : ℕ). bytes_text p₀ part ++ drop n output₀) end_len)
 
-abbrev invariant-loop : tie.invariant-loop
-invariant-loop first part order₀ store₀ output₀ next₀ number₀ len₀ i₀ order store output next number len i =
+abbrev invariant_loop : tie.invariant_loop
+invariant_loop first part order₀ store₀ output₀ next₀ number₀ len₀ i₀ order store output next number len i =
     (length order ≡ length order₀) × (length store ≡ length store₀)
     × Going (keeping next₀ number₀ order₀ store₀) part output₀ (keeping next number order store) output len i
 
-abbrev decreases-loop : tie.decreases-loop
-decreases-loop first part order₀ store₀ output₀ next₀ number₀ len₀ i₀ order store output next number len i = length part - i
+abbrev decreases_loop : tie.decreases_loop
+decreases_loop first part order₀ store₀ output₀ next₀ number₀ len₀ i₀ order store output next number len i = length part - i
 
-loop-holds : tie.Need-loop-init invariant-loop decreases-loop
+loop-holds : tie.Need-loop-init invariant_loop decreases_loop
 loop-holds c =
     let a = c.before.before.before.before.args in
     (refl, refl, begins (keeping a.session a.first a.order.now a.store.now) a.part.now a.output.now (search rules))
 
-shared-slice-read-read : tie.Need-shared-slice-read-read invariant-loop decreases-loop
+shared-slice-read-read : tie.Need-shared-slice-read-read invariant_loop decreases_loop
 shared-slice-read-read c = omega arith
 
-read-requires : tie.Need-read-requires invariant-loop decreases-loop
+read-requires : tie.Need-read-requires invariant_loop decreases_loop
 read-requires c κs = search rules
 
-put-yield-requires : tie.Need-put-yield-requires invariant-loop decreases-loop
+put-yield-requires : tie.Need-put-yield-requires invariant_loop decreases_loop
 put-yield-requires c κs =
     let g = c.before.before.before.before.before.before.before.before.before.before.loop.invariant.2 in
     omega (arith, g.short, g.same, g.fits)
 
-number-after-requires : tie.Need-number-after-requires invariant-loop decreases-loop
+number-after-requires : tie.Need-number-after-requires invariant_loop decreases_loop
 number-after-requires c κs = search rules
 
-add-i : tie.Need-overflow-add-i invariant-loop decreases-loop
+add-i : tie.Need-overflow-add-i invariant_loop decreases_loop
 add-i c =
     let g = c.before.before.before.before.before.before.before.before.before.before.before.before.before.before.before.before.before.before.before.before.well-formed in
     omega (arith, c.before.before.before.before.before.before.before.before.before.before.before.before.before.before.loop-test.true)
 
-loop-less : tie.Need-loop-smaller invariant-loop decreases-loop
+loop-less : tie.Need-loop-smaller invariant_loop decreases_loop
 loop-less c = omega arith
 
-loop-again : tie.Need-loop-preserved invariant-loop decreases-loop
+loop-again : tie.Need-loop-preserved invariant_loop decreases_loop
 loop-again c =
     let l = c.before.before.before.before.before.before.before.before.before.before.before.before.before.before.before.loop in
     let a = c.before.before.before.before.before.before.before.before.before.before.before.before.before.before.before.before.before.before.before.before.args in
@@ -149,16 +149,16 @@ loop-again c =
           c.before.number-after.ensures u.ensures,
     )
 
-same_length : tie.Need-same-length invariant-loop decreases-loop
+same_length : tie.Need-same-length invariant_loop decreases_loop
 same_length c = c.before.loop.invariant.0
 
-same-length-2 : tie.Need-same-length-2 invariant-loop decreases-loop
+same-length-2 : tie.Need-same-length-2 invariant_loop decreases_loop
 same-length-2 c = c.before.loop.invariant.1
 
-same-length-3 : tie.Need-same-length-3 invariant-loop decreases-loop
+same-length-3 : tie.Need-same-length-3 invariant_loop decreases_loop
 same-length-3 c = c.before.loop.invariant.2.same
 
-returns : tie.Need-returns invariant-loop decreases-loop
+returns : tie.Need-returns invariant_loop decreases_loop
 returns c =
     let l = c.before.loop in
     let a = c.before.before.before.before.before.before.args in
@@ -166,17 +166,17 @@ returns c =
     let p : Program = keeping l.next l.number l.order l.store in
     let hi = c.loop-test.false in
     record {
-      reaches = end-program p₀ a.part.now a.output.now p l.output l.len l.i l.invariant.2 hi;
-      counts = end-len p₀ a.part.now a.output.now p l.output l.len l.i l.invariant.2 hi;
-      writes = end-output p₀ a.part.now a.output.now p l.output l.len l.i l.invariant.2 hi;
+      reaches = end_program p₀ a.part.now a.output.now p l.output l.len l.i l.invariant.2 hi;
+      counts = end_len p₀ a.part.now a.output.now p l.output l.len l.i l.invariant.2 hi;
+      writes = end_output p₀ a.part.now a.output.now p l.output l.len l.i l.invariant.2 hi;
     }
 
 pub read-bytes-spec : {M : Type 1} → statement M
 read-bytes-spec =
     tie.close
     (tie.spec
-    invariant-loop
-    decreases-loop
+    invariant_loop
+    decreases_loop
     loop-holds
     shared-slice-read-read
     read-requires

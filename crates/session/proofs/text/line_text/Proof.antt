@@ -3,9 +3,9 @@ use native.Mathlib.Omega.{arith}
 use mathlib.Core.Path.{◌≡◌, ap}
 use mathlib.Core.List.{◌++◌}
 use Prim.Native.Nat.{◌≤◌}
-use Rattle.session.specs.Text.{Appends, emptyText, ascii, decimal, blockText, lineText}
+use Rattle.session.specs.Text.{Appends, empty_text, ascii, decimal, block_text, line_text}
 use Rattle.session.specs.declared.text.Text.{Text}
-use Rattle.session.proofs.Appending.{appends-all, appends-next}
+use Rattle.session.proofs.Appending.{appends_all, appends_next}
 use Rattle.session.proofs.Decimal.{length-decimal, length-bit}
 use borrow.Author.Rules.{rules}
 use Rattle.session.proofs.text.line_text.Statement.{statement}
@@ -71,17 +71,17 @@ byte-requires-5 c κs =
     )
 
 returns : tie.Need-returns
-unfolding lineText
+unfolding line_text
 returns c =
     let l = c.before.before.before.before.before.before.before.before.before.before.before.args.line in
-    let period : Appends emptyText (decimal c.before.before.before.before.before.before.before.before.before.before.before.args.period) c.before.before.before.before.before.before.before.before.before.decimal.result =
+    let period : Appends empty_text (decimal c.before.before.before.before.before.before.before.before.before.before.before.args.period) c.before.before.before.before.before.before.before.before.before.decimal.result =
     rw c.before.before.before.before.before.before.before.before.before.before.new.ensures at c.before.before.before.before.before.before.before.before.before.decimal.ensures in
-    let sent : Appends emptyText (decimal c.before.before.before.before.before.before.before.before.before.before.before.args.period ++ ascii " " ++ blockText l.block) c.before.before.before.before.before.before.before.block.result =
-    appends-next _ _ _ _ (appends-next _ _ _ _ period c.before.before.before.before.before.before.before.before.byte.ensures) c.before.before.before.before.before.before.before.block.ensures.0 in
-    let read = appends-next _ _ _ _ (appends-next _ _ _ _ sent c.before.before.before.before.before.before.byte2.ensures) c.before.before.before.before.before.reading.ensures.0 in
-    let heard = appends-next _ _ _ _ (appends-next _ _ _ _ read c.before.before.before.before.byte3.ensures) c.before.before.before.event.ensures.0 in
-    appends-all (lineText c.before.before.before.before.before.before.before.before.before.before.before.args.period l) c.byte5.result
-    (appends-next _ _ _ _ (appends-next _ _ _ _ (appends-next _ _ _ _ heard c.before.before.byte4.ensures) c.before.bit.ensures) c.byte5.ensures)
+    let sent : Appends empty_text (decimal c.before.before.before.before.before.before.before.before.before.before.before.args.period ++ ascii " " ++ block_text l.block) c.before.before.before.before.before.before.before.block.result =
+    appends_next _ _ _ _ (appends_next _ _ _ _ period c.before.before.before.before.before.before.before.before.byte.ensures) c.before.before.before.before.before.before.before.block.ensures.0 in
+    let read = appends_next _ _ _ _ (appends_next _ _ _ _ sent c.before.before.before.before.before.before.byte2.ensures) c.before.before.before.before.before.reading.ensures.0 in
+    let heard = appends_next _ _ _ _ (appends_next _ _ _ _ read c.before.before.before.before.byte3.ensures) c.before.before.before.event.ensures.0 in
+    appends_all (line_text c.before.before.before.before.before.before.before.before.before.before.before.args.period l) c.byte5.result
+    (appends_next _ _ _ _ (appends_next _ _ _ _ (appends_next _ _ _ _ heard c.before.before.byte4.ensures) c.before.bit.ensures) c.byte5.ensures)
 
 pub line-text-spec : {M : Type 1} → statement M
 line-text-spec =

@@ -2,9 +2,9 @@
 use native.Mathlib.Omega.{arith}
 use mathlib.Core.Path.{◌≡◌, ap, ◌∙◌}
 use Prim.Native.Nat.{◌+◌}
-use Rattle.session.specs.Text.{Appends, emptyText, ascii, refusedText}
+use Rattle.session.specs.Text.{Appends, empty_text, ascii, refused_text}
 use Rattle.session.specs.declared.text.Text.{Text}
-use Rattle.session.proofs.Appending.{appends-all, appends-next}
+use Rattle.session.proofs.Appending.{appends_all, appends_next}
 use Rattle.session.proofs.Decimal.{length-decimal}
 use borrow.Author.Rules.{rules}
 use Rattle.session.proofs.text.refused_text.Statement.{statement}
@@ -37,12 +37,12 @@ byte-requires c κs =
     )
 
 returns : tie.Need-returns
-unfolding refusedText
+unfolding refused_text
 returns c =
-    let w : Appends emptyText (ascii "refused ") c.before.before.word.result =
+    let w : Appends empty_text (ascii "refused ") c.before.before.word.result =
     rw c.before.before.before.before.new.ensures at c.before.before.word.ensures in
-    appends-all (refusedText c.before.before.before.before.before.args.number) c.byte.result
-    (appends-next _ _ _ _ (appends-next _ _ _ _ w c.before.decimal.ensures) c.byte.ensures)
+    appends_all (refused_text c.before.before.before.before.before.args.number) c.byte.result
+    (appends_next _ _ _ _ (appends_next _ _ _ _ w c.before.decimal.ensures) c.byte.ensures)
 
 pub refused-text-spec : {M : Type 1} → statement M
 refused-text-spec =

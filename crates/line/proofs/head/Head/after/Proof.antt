@@ -2,7 +2,7 @@
 use mathlib.Core.Path.{ap}
 use mathlib.Core.List.{List}
 use Prim.Native.Nat.{ℕ}
-use Rattle.line.specs.ReceivingInPlace.{withArray}
+use Rattle.line.specs.ReceivingInPlace.{with_array}
 use Rattle.line.specs.Code.ReceiveSteps.{stepped}
 use borrow.Author.Rules.{rules}
 use Rattle.line.proofs.head.Head.after.Statement.{statement}
@@ -17,7 +17,7 @@ same_length c = search rules
 returns : tie.Need-returns
 returns c =
     let a = c.before.before.before.before.before.args in
-    ap (λ (l : List ℕ). stepped (withArray a.self l) a.event a.used) c.before.before.clear.ensures
+    ap (λ (l : List ℕ). stepped (with_array a.self l) a.event a.used) c.before.before.clear.ensures
 
 pub after-spec : {M : Type 1} → statement M
 after-spec = tie.close (tie.spec clear-requires same_length returns)

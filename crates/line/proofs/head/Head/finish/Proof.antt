@@ -6,24 +6,24 @@ use Prim.Native.Nat.{ℕ}
 use native.Mathlib.Omega.{arith}
 use lib.ListN.{length, take}
 use Rattle.crc.specs.Bits.{Bits, bits_of, bytes_of}
-use Rattle.block.specs.Lengths.{blockLength}
-use Rattle.block.proofs.Lengths.{length-facts}
-use Rattle.line.specs.Receiving.{arrayBytes, overwrite}
-use Rattle.line.specs.ReceivingInPlace.{withArray}
-use Rattle.line.specs.Code.ReceiveSteps.{stepWith, judged, Handed}
+use Rattle.block.specs.Lengths.{block_length}
+use Rattle.block.proofs.Lengths.{length_facts}
+use Rattle.line.specs.Receiving.{array_bytes, overwrite}
+use Rattle.line.specs.ReceivingInPlace.{with_array}
+use Rattle.line.specs.Code.ReceiveSteps.{step_with, judged, Handed}
 use Rattle.line.specs.declared.head.Head.{Head}
 use Rattle.line.specs.declared.head.HeadStep.{HeadStep}
-use Rattle.line.proofs.InStepBits.{finished-in-line, finished-in-array}
+use Rattle.line.proofs.InStepBits.{finished_in_line, finished_in_array}
 use borrow.Author.Rules.{rules}
 use Rattle.line.proofs.head.Head.finish.Statement.{statement}
 use Rattle.line.proofs.head.Head.finish.Tie as tie
 
 -- the same row, judged
 by_row : (h : Head) (array store : List ℕ) (used : ℕ) (ready : Bool) (row row' : Bits) (r : HeadStep) (array' store' : List ℕ) → row ≡ row'
-    → Handed (withArray h array) store (judged (withArray h array) row ready used) (stepWith r array') store'
-    → Handed (withArray h array) store (judged (withArray h array) row' ready used) (stepWith r array') store'
+    → Handed (with_array h array) store (judged (with_array h array) row ready used) (step_with r array') store'
+    → Handed (with_array h array) store (judged (with_array h array) row' ready used) (step_with r array') store'
 by_row h array store used ready row row' r array' store' e =
-    subst (λ (x : Bits). Handed (withArray h array) store (judged (withArray h array) x ready used) (stepWith r array') store') e
+    subst (λ (x : Bits). Handed (with_array h array) store (judged (with_array h array) x ready used) (step_with r array') store') e
 
 judge-requires : tie.Need-judge-requires
 judge-requires c κs =
@@ -39,7 +39,7 @@ same-length-2 c = search rules
 returns : tie.Need-returns
 returns c =
     let a = c.before.before.before.before.before.before.before.before.before.before.before.before in
-    by_row _ _ _ _ _ _ _ _ _ _ (finished-in-line (withArray a.args.self a.args.array.now) a.args.line.now a.args.missing a.requires.1 c.before.before.before.before.before.before.before.if1.true)
+    by_row _ _ _ _ _ _ _ _ _ _ (finished_in_line (with_array a.args.self a.args.array.now) a.args.line.now a.args.missing a.requires.1 c.before.before.before.before.before.before.before.if1.true)
     c.before.before.before.before.judge.ensures
 
 copied-requires : tie.Need-copied-requires
@@ -51,7 +51,7 @@ slice-aggregate-put-bits c = search rules
 put-bits-requires : tie.Need-put-bits-requires
 put-bits-requires c κs =
     let a = c.before.before.before.before.before.before.before.before in
-    let f = length-facts a.args.self.setup.k a.requires.0.known in
+    let f = length_facts a.args.self.setup.k a.requires.0.known in
     let n : length c.before.copied.result ≡ 483 = search rules in
     (n, omega arith, omega arith)
 
@@ -61,7 +61,7 @@ slice-aggregate-judge c = search rules
 judge-requires-2 : tie.Need-judge-requires-2
 judge-requires-2 c κs =
     let a = c.before.before.before.before.before.before.before.before.before.before.before.before.before in
-    let f = length-facts a.args.self.setup.k a.requires.0.known in
+    let f = length_facts a.args.self.setup.k a.requires.0.known in
     let n : length c.before.before.before.before.put-bits.new.0 ≡ 483 = search rules in
     record { range = a.requires.0; held = omega arith }
 
@@ -74,15 +74,15 @@ same-length-4 c = search rules
 returns-2 : tie.Need-returns-2
 returns-2 c =
     let a = c.before.before.before.before.before.before.before.before.before.before.before.before.before.before.before.before.before.before in
-    let f = length-facts a.args.self.setup.k a.requires.0.known in
-    let n : ℕ = blockLength a.args.self.setup.k in
+    let f = length_facts a.args.self.setup.k a.requires.0.known in
+    let n : ℕ = block_length a.args.self.setup.k in
     let new : Bits = take a.args.missing (bits_of a.args.line.now) in
-    let put : c.before.before.before.before.before.before.before.before.before.put-bits.new.0 ≡ bytes_of arrayBytes (overwrite a.args.self.held new (bits_of a.args.array.now)) =
+    let put : c.before.before.before.before.before.before.before.before.before.put-bits.new.0 ≡ bytes_of array_bytes (overwrite a.args.self.held new (bits_of a.args.array.now)) =
     c.before.before.before.before.before.before.before.before.before.put-bits.ensures
-    ∙ ap (λ (x : List ℕ). bytes_of arrayBytes (overwrite a.args.self.held new (bits_of x))) c.before.before.before.before.before.before.before.before.before.before.before.copied.ensures in
+    ∙ ap (λ (x : List ℕ). bytes_of array_bytes (overwrite a.args.self.held new (bits_of x))) c.before.before.before.before.before.before.before.before.before.before.before.copied.ensures in
     by_row _ _ _ _ _ _ _ _ _ _
     (ap (λ (x : List ℕ). take n (bits_of x)) put
-    ∙ finished-in-array (withArray a.args.self a.args.array.now) a.args.line.now a.args.missing a.requires.1 a.requires.2 a.requires.0.array-length (omega arith))
+    ∙ finished_in_array (with_array a.args.self a.args.array.now) a.args.line.now a.args.missing a.requires.1 a.requires.2 a.requires.0.array_length (omega arith))
     c.before.before.before.before.judge2.ensures
 
 pub finish_spec : {M : Type 1} → statement M

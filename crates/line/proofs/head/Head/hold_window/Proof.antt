@@ -7,9 +7,9 @@ use native.Mathlib.Omega.{arith}
 use lib.ListN.{length, drop, set}
 use Rattle.crc.specs.Bits.{bytes_of}
 use Rattle.crc.proofs.Rows.{length-binary}
-use Rattle.line.specs.Code.ReceiveSteps.{windowBits, stepped}
+use Rattle.line.specs.Code.ReceiveSteps.{window_bits, stepped}
 use Rattle.line.specs.declared.receiving.Event.TheVariants as E
-use Rattle.line.proofs.LineSearch.{window-stored}
+use Rattle.line.proofs.LineSearch.{window_stored}
 use borrow.Author.Rules.{rules}
 use Rattle.line.proofs.head.Head.hold_window.Statement.{statement}
 use Rattle.line.proofs.head.Head.hold_window.Tie as tie
@@ -32,8 +32,8 @@ returns c =
     let p = c.before.before.before.requires in
     let r = c.before.store in
     let array : List ℕ = a.array.now in
-    let b : set (set array 0 r.result.0) 1 r.result.1 ≡ bytes_of 2 (windowBits a.window) ++ drop 2 array =
-    window-stored array r.result.0 r.result.1 (omega arith) ∙ ap (λ (l : List ℕ). l ++ drop 2 array) r.ensures in
+    let b : set (set array 0 r.result.0) 1 r.result.1 ≡ bytes_of 2 (window_bits a.window) ++ drop 2 array =
+    window_stored array r.result.0 r.result.1 (omega arith) ∙ ap (λ (l : List ℕ). l ++ drop 2 array) r.ensures in
     ap₂ (λ (l : List ℕ) (n : ℕ). stepped (record { setup = a.self.setup; bits = l; held = n; bad_row = a.self.bad_row; back = true; taken = a.self.taken; ended = a.self.ended; phase = a.self.phase }) E.None a.used)
     b (sym (length-binary a.window.held a.window.number))
 

@@ -5,7 +5,7 @@ use mathlib.Core.Logic.{⊎_elim}
 use native.Mathlib.Omega.{arith}
 use types.Run.{OneOf}
 use denote.Enum.Declared.{tag_of}
-use Rattle.line.specs.Receiving.{unfinished, idleRule}
+use Rattle.line.specs.Receiving.{unfinished, idle_rule}
 use Rattle.line.specs.declared.receiving.Phase.{Phase}
 use Rattle.line.specs.declared.receiving.Phase.TheVariants.{Search, InStep, SequenceAlarm, LengthAlarm}
 use Rattle.line.specs.contracts.receiving.Phase.{the_type}
@@ -13,7 +13,7 @@ use borrow.Author.Rules.{rules}
 use Rattle.line.proofs.head.Head.idle.Statement.{statement}
 use Rattle.line.proofs.head.Head.idle.Tie as tie
 
-calm : (p : Phase) → OneOf (0 ∷ 1 ∷ []) (tag_of the_type p) → idleRule p ≡ unfinished
+calm : (p : Phase) → OneOf (0 ∷ 1 ∷ []) (tag_of the_type p) → idle_rule p ≡ unfinished
 calm Search h = refl
 calm InStep h = refl
 calm SequenceAlarm h = ⊎_elim (λ z. absurd (omega arith)) (λ z. absurd (omega arith)) h

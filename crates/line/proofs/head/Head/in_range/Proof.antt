@@ -9,12 +9,12 @@ use borrow.Author.Tests.{not-true, not-false, le-ltb, lt-ltb, le-leb, lt-leb}
 use lib.Dec.{ltb}
 use types.Run.{OneOf}
 use denote.Enum.Declared.{tag_of}
-use Rattle.block.specs.Lengths.{isLength, blockLength}
-use Rattle.block.proofs.Lengths.{length-facts}
-use Rattle.line.specs.Marks.{marksInRange}
-use Rattle.line.specs.Order.{mostItems}
-use Rattle.line.specs.Receiving.{lastBad, heldInRange, receiverInRange}
-use Rattle.line.specs.ReceivingInPlace.{withArray}
+use Rattle.block.specs.Lengths.{is_length, block_length}
+use Rattle.block.proofs.Lengths.{length_facts}
+use Rattle.line.specs.Marks.{marks_in_range}
+use Rattle.line.specs.Order.{most_items}
+use Rattle.line.specs.Receiving.{last_bad, held_in_range, receiver_in_range}
+use Rattle.line.specs.ReceivingInPlace.{with_array}
 use Rattle.line.specs.declared.receiver.Receiver.{Receiver}
 use Rattle.line.specs.declared.receiving.Phase.{Phase}
 use Rattle.line.specs.declared.receiving.Phase.TheVariants.{Search, InStep, SequenceAlarm, LengthAlarm}
@@ -23,48 +23,48 @@ use borrow.Author.Rules.{rules}
 use Rattle.line.proofs.head.Head.in_range.Statement.{statement}
 use Rattle.line.proofs.head.Head.in_range.Tie as tie
 
-known : (c : tie.Else1) → isLength c.before.before.args.self.setup.k ≡ true
+known : (c : tie.Else1) → is_length c.before.before.args.self.setup.k ≡ true
 known c = sym c.before.known-length.ensures ∙ not-false _ c.if1.false
 
-other-phase : (p : Phase) (n held : ℕ) → OneOf (1 ∷ 2 ∷ 3 ∷ []) (tag_of the_type p) → heldInRange p n held ≡ ltb held n
-other-phase Search n held h = ⊎_elim (λ z. absurd (omega arith)) (λ h. ⊎_elim (λ z. absurd (omega arith)) (λ z. absurd (omega arith)) h) h
-other-phase InStep n held h = refl
-other-phase SequenceAlarm n held h = refl
-other-phase LengthAlarm n held h = refl
+other_phase : (p : Phase) (n held : ℕ) → OneOf (1 ∷ 2 ∷ 3 ∷ []) (tag_of the_type p) → held_in_range p n held ≡ ltb held n
+other_phase Search n held h = ⊎_elim (λ z. absurd (omega arith)) (λ h. ⊎_elim (λ z. absurd (omega arith)) (λ z. absurd (omega arith)) h) h
+other_phase InStep n held h = refl
+other_phase SequenceAlarm n held h = refl
+other_phase LengthAlarm n held h = refl
 
 -- the last test decides once the others have passed
-last-test : (s : Receiver) → isLength s.setup.k ≡ true → marksInRange s.setup.marks ≡ true
-    → s.bad_row < lastBad → s.taken ≤ mostItems
-    → receiverInRange s ≡ heldInRange s.phase (blockLength s.setup.k) s.held
-unfolding receiverInRange
-last-test s a m b t = simp (a, m, lt-ltb s.bad_row lastBad b, le-leb s.taken mostItems t)
+last_test : (s : Receiver) → is_length s.setup.k ≡ true → marks_in_range s.setup.marks ≡ true
+    → s.bad_row < last_bad → s.taken ≤ most_items
+    → receiver_in_range s ≡ held_in_range s.phase (block_length s.setup.k) s.held
+unfolding receiver_in_range
+last_test s a m b t = simp (a, m, lt-ltb s.bad_row last_bad b, le-leb s.taken most_items t)
 
 known-length-requires : tie.Need-known-length-requires
 known-length-requires c κs = search rules
 
 returns : tie.Need-returns
-unfolding receiverInRange
+unfolding receiver_in_range
 returns c = λ array. sym (simp (sym c.before.known-length.ensures ∙ not-true _ c.if1.true))
 
 in-range-requires : tie.Need-in-range-requires
 in-range-requires c κs = search rules
 
 returns-2 : tie.Need-returns-2
-unfolding receiverInRange
+unfolding receiver_in_range
 returns-2 c =
-    λ array. sym (simp (known c.before.before, sym c.before.in-range.ensures ∙ not-true _ c.if2.true))
+    λ array. sym (simp (known c.before.before, sym c.before.in_range.ensures ∙ not-true _ c.if2.true))
 
-sized : (c : tie.Else2) → marksInRange c.before.before.before.before.args.self.setup.marks ≡ true
-sized c = sym c.before.in-range.ensures ∙ not-false _ c.if2.false
+sized : (c : tie.Else2) → marks_in_range c.before.before.before.before.args.self.setup.marks ≡ true
+sized c = sym c.before.in_range.ensures ∙ not-false _ c.if2.false
 
 returns-3 : tie.Need-returns-3
-unfolding receiverInRange
+unfolding receiver_in_range
 returns-3 c =
     let e = c.before.before in
     λ array. sym (simp (known e.before.before, sized e, le-ltb _ _ c.if3.true))
 
 returns-4 : tie.Need-returns-4
-unfolding receiverInRange
+unfolding receiver_in_range
 returns-4 c =
     let r = c.before.before in
     let e = r.before.before in
@@ -75,7 +75,7 @@ enum_told c = search rules
 
 add-result : tie.Need-overflow-add-result
 add-result c =
-    let f = length-facts _ (known c.before.before.before.before.before.before.before) in
+    let f = length_facts _ (known c.before.before.before.before.before.before.before) in
     omega arith
 
 returns-5 : tie.Need-returns-5
@@ -84,8 +84,8 @@ returns-5 c =
     let r = t.before.before in
     let e = r.before.before in
     let s = e.before.before.before.before.args.self in
-    λ array. sym (last-test (withArray s array) (known e.before.before) (sized e) r.if3.false t.if4.false
-    ∙ ap (λ (p : Phase). heldInRange p (blockLength s.setup.k) s.held) c.before.enum_told.given.1)
+    λ array. sym (last_test (with_array s array) (known e.before.before) (sized e) r.if3.false t.if4.false
+    ∙ ap (λ (p : Phase). held_in_range p (block_length s.setup.k) s.held) c.before.enum_told.given.1)
 
 returns-6 : tie.Need-returns-6
 returns-6 c =
@@ -93,8 +93,8 @@ returns-6 c =
     let r = t.before.before in
     let e = r.before.before in
     let s = e.before.before.before.before.args.self in
-    λ array. sym (last-test (withArray s array) (known e.before.before) (sized e) r.if3.false t.if4.false
-    ∙ other-phase s.phase (blockLength s.setup.k) s.held c.before.match.keys2)
+    λ array. sym (last_test (with_array s array) (known e.before.before) (sized e) r.if3.false t.if4.false
+    ∙ other_phase s.phase (block_length s.setup.k) s.held c.before.match.keys2)
 
 pub in-range-spec : {M : Type 1} → statement M
 in-range-spec =

@@ -4,10 +4,10 @@ use native.Mathlib.Omega.{arith}
 use lib.ListN.{take}
 use lib.Seq.{length-take-le}
 use Rattle.crc.specs.Bits.{bits_of}
-use Rattle.crc.proofs.Bytes.{length-bitsOf}
-use Rattle.line.specs.Receiving.{heldBits}
-use Rattle.line.specs.ReceivingInPlace.{withArray}
-use Rattle.line.proofs.ReceivingCall.{in-range, held-search, held-step, handed-idle, handed-by, handed-search, handed-under-alarm}
+use Rattle.crc.proofs.Bytes.{length-bits_of}
+use Rattle.line.specs.Receiving.{held_bits}
+use Rattle.line.specs.ReceivingInPlace.{with_array}
+use Rattle.line.proofs.ReceivingCall.{in_range, held_search, held_step, handed_idle, handed_by, handed_search, handed_under_alarm}
 use borrow.Author.Rules.{rules}
 use Rattle.line.proofs.head.Head.read.Statement.{statement}
 use Rattle.line.proofs.head.Head.read.Tie as tie
@@ -18,7 +18,7 @@ idle-requires c κs = search rules
 returns : tie.Need-returns
 returns c =
     let a = c.before.before.before.before.before.args in
-    handed-idle (withArray a.self a.array.now) a.store.now (take a.bits (bits_of a.line.now)) a.bits a.ready c.before.if1.true _ (c.idle.ensures a.array.now)
+    handed_idle (with_array a.self a.array.now) a.store.now (take a.bits (bits_of a.line.now)) a.bits a.ready c.before.if1.true _ (c.idle.ensures a.array.now)
 
 enum_told : tie.Need-enum-told
 enum_told c = search rules
@@ -26,8 +26,8 @@ enum_told c = search rules
 search-requires : tie.Need-search-requires
 search-requires c κs =
     let a = c.before.before.before.before.before.before.before in
-    let s = withArray a.args.self a.args.array.now in
-    (a.requires.0, held-search s (in-range s a.requires.1) c.before.enum_told.given.1, a.requires.2)
+    let s = with_array a.args.self a.args.array.now in
+    (a.requires.0, held_search s (in_range s a.requires.1) c.before.enum_told.given.1, a.requires.2)
 
 enum-told-2 : tie.Need-enum-told-2
 enum-told-2 c = search rules
@@ -35,9 +35,9 @@ enum-told-2 c = search rules
 in-step-requires : tie.Need-in-step-requires
 in-step-requires c κs =
     let a = c.before.before.before.before.before.before.before.before in
-    let s = withArray a.args.self a.args.array.now in
-    let r = in-range s a.requires.1 in
-    (record { array-length = a.requires.0; known = r.known; bad-row = r.bad-row; items = r.taken }, held-step s r c.before.before.enum-told2.given.1, a.requires.2)
+    let s = with_array a.args.self a.args.array.now in
+    let r = in_range s a.requires.1 in
+    (record { array_length = a.requires.0; known = r.known; bad_row = r.bad_row; items = r.taken }, held_step s r c.before.before.enum-told2.given.1, a.requires.2)
 
 enum-told-3 : tie.Need-enum-told-3
 enum-told-3 c = search rules
@@ -57,10 +57,10 @@ same_length c = search rules
 returns-2 : tie.Need-returns-2
 returns-2 c =
     let a = c.before.before.before.before.before.before.before.before.before.before.args in
-    let s = withArray a.self a.array.now in
+    let s = with_array a.self a.array.now in
     let new = take a.bits (bits_of a.line.now) in
-    handed-by s a.store.now new a.bits a.ready c.before.before.before.before.before.before.if1.false _ c.before.before.before.before.enum_told.given.1 _ _
-    (handed-search s a.store.now (heldBits s) new 0 _ c.before.before.search.ensures)
+    handed_by s a.store.now new a.bits a.ready c.before.before.before.before.before.before.if1.false _ c.before.before.before.before.enum_told.given.1 _ _
+    (handed_search s a.store.now (held_bits s) new 0 _ c.before.before.search.ensures)
 
 same-length-2 : tie.Need-same-length-2
 same-length-2 c = search rules
@@ -71,22 +71,22 @@ same-length-3 c = search rules
 returns-3 : tie.Need-returns-3
 returns-3 c =
     let a = c.before.before.before.before.before.before.before.before.before.before.before.before.before.args in
-    handed-by (withArray a.self a.array.now) a.store.now (take a.bits (bits_of a.line.now)) a.bits a.ready c.before.before.before.before.before.before.before.before.before.if1.false
+    handed_by (with_array a.self a.array.now) a.store.now (take a.bits (bits_of a.line.now)) a.bits a.ready c.before.before.before.before.before.before.before.before.before.if1.false
     _ c.before.before.before.before.before.before.before.enum-told2.given.1 _ _ c.before.before.before.before.in_step.ensures
 
 returns-4 : tie.Need-returns-4
 returns-4 c =
     let a = c.before.before.before.before.before.before.before in
-    let n = length-take-le a.args.bits (bits_of a.args.line.now) (omega (arith, length-bitsOf a.args.line.now)) in
-    handed-by (withArray a.args.self a.args.array.now) a.args.store.now (take a.args.bits (bits_of a.args.line.now)) a.args.bits a.args.ready c.before.before.before.if1.false
-    _ c.before.enum-told3.given.1 _ _ (handed-under-alarm _ _ _ _ _ (sym n) _ (c.under-alarm.ensures a.args.array.now))
+    let n = length-take-le a.args.bits (bits_of a.args.line.now) (omega (arith, length-bits_of a.args.line.now)) in
+    handed_by (with_array a.args.self a.args.array.now) a.args.store.now (take a.args.bits (bits_of a.args.line.now)) a.args.bits a.args.ready c.before.before.before.if1.false
+    _ c.before.enum-told3.given.1 _ _ (handed_under_alarm _ _ _ _ _ (sym n) _ (c.under_alarm_lem.ensures a.args.array.now))
 
 returns-5 : tie.Need-returns-5
 returns-5 c =
     let a = c.before.before.before.before.before.before.before in
-    let n = length-take-le a.args.bits (bits_of a.args.line.now) (omega (arith, length-bitsOf a.args.line.now)) in
-    handed-by (withArray a.args.self a.args.array.now) a.args.store.now (take a.args.bits (bits_of a.args.line.now)) a.args.bits a.args.ready c.before.before.before.if1.false
-    _ c.before.enum-told4.given.1 _ _ (handed-under-alarm _ _ _ _ _ (sym n) _ (c.under-alarm2.ensures a.args.array.now))
+    let n = length-take-le a.args.bits (bits_of a.args.line.now) (omega (arith, length-bits_of a.args.line.now)) in
+    handed_by (with_array a.args.self a.args.array.now) a.args.store.now (take a.args.bits (bits_of a.args.line.now)) a.args.bits a.args.ready c.before.before.before.if1.false
+    _ c.before.enum-told4.given.1 _ _ (handed_under_alarm _ _ _ _ _ (sym n) _ (c.under-alarm2.ensures a.args.array.now))
 
 pub read_spec : {M : Type 1} → statement M
 read_spec =

@@ -6,15 +6,15 @@ use Rattle.line.specs.declared.head.Head.{Head}
 use Rattle.line.specs.declared.receiver.Step.{Step}
 use Rattle.line.specs.declared.rules.Rule as D
 use Rattle.line.specs.Receiving.{stops}
-use Rattle.line.specs.ReceivingInPlace.{withArray}
-use Rattle.line.specs.Code.ReceiveSteps.{ruleOf, handedBack}
+use Rattle.line.specs.ReceivingInPlace.{with_array}
+use Rattle.line.specs.Code.ReceiveSteps.{rule_of, handed_back}
 use borrow.Author.Rules.{rules}
 use Rattle.line.proofs.head.Head.stop.Statement.{statement}
 use Rattle.line.proofs.head.Head.stop.Tie as tie
 
-by-rule : (h : Head) (array : List ℕ) (used : ℕ) (r q : D.Rule) (x : Step)
-    → x ≡ handedBack (stops (withArray h array) (ruleOf q) [] used) → r ≡ q → x ≡ handedBack (stops (withArray h array) (ruleOf r) [] used)
-by-rule h array used r q x e t = e ∙ sym (ap (λ (y : D.Rule). handedBack (stops (withArray h array) (ruleOf y) [] used)) t)
+by_rule : (h : Head) (array : List ℕ) (used : ℕ) (r q : D.Rule) (x : Step)
+    → x ≡ handed_back (stops (with_array h array) (rule_of q) [] used) → r ≡ q → x ≡ handed_back (stops (with_array h array) (rule_of r) [] used)
+by_rule h array used r q x e t = e ∙ sym (ap (λ (y : D.Rule). handed_back (stops (with_array h array) (rule_of y) [] used)) t)
 
 enum_told : tie.Need-enum-told
 enum_told c = search rules
@@ -71,49 +71,49 @@ same_length : tie.Need-same-length
 same_length c = search rules
 
 returns : tie.Need-returns
-returns c = by-rule _ _ _ _ _ _ c.before.before.after-good.ensures c.before.before.before.before.enum_told.given.1
+returns c = by_rule _ _ _ _ _ _ c.before.before.after_good_lem.ensures c.before.before.before.before.enum_told.given.1
 
 same-length-2 : tie.Need-same-length-2
 same-length-2 c = search rules
 
 returns-2 : tie.Need-returns-2
-returns-2 c = by-rule _ _ _ _ _ _ c.before.before.after-good2.ensures c.before.before.before.before.enum-told2.given.1
+returns-2 c = by_rule _ _ _ _ _ _ c.before.before.after-good2.ensures c.before.before.before.before.enum-told2.given.1
 
 same-length-3 : tie.Need-same-length-3
 same-length-3 c = search rules
 
 returns-3 : tie.Need-returns-3
-returns-3 c = by-rule _ _ _ _ _ _ c.before.before.return-one.ensures c.before.before.before.before.enum-told3.given.1
+returns-3 c = by_rule _ _ _ _ _ _ c.before.before.return-one.ensures c.before.before.before.before.enum-told3.given.1
 
 same-length-4 : tie.Need-same-length-4
 same-length-4 c = search rules
 
 returns-4 : tie.Need-returns-4
-returns-4 c = by-rule _ _ _ _ _ _ c.before.before.after-good3.ensures c.before.before.before.before.before.rule.given.1
+returns-4 c = by_rule _ _ _ _ _ _ c.before.before.after-good3.ensures c.before.before.before.before.before.rule.given.1
 
 same-length-5 : tie.Need-same-length-5
 same-length-5 c = search rules
 
 returns-5 : tie.Need-returns-5
-returns-5 c = by-rule _ _ _ _ _ _ c.before.before.return-one2.ensures c.before.before.before.before.enum-told4.given.1
+returns-5 c = by_rule _ _ _ _ _ _ c.before.before.return-one2.ensures c.before.before.before.before.enum-told4.given.1
 
 same-length-6 : tie.Need-same-length-6
 same-length-6 c = search rules
 
 returns-6 : tie.Need-returns-6
-returns-6 c = by-rule _ _ _ _ _ _ c.before.before.after-good4.ensures c.before.before.before.before.enum-told5.given.1
+returns-6 c = by_rule _ _ _ _ _ _ c.before.before.after-good4.ensures c.before.before.before.before.enum-told5.given.1
 
 same-length-7 : tie.Need-same-length-7
 same-length-7 c = search rules
 
 returns-7 : tie.Need-returns-7
-returns-7 c = by-rule _ _ _ _ _ _ c.before.before.after-bad.ensures c.before.before.before.before.enum-told6.given.1
+returns-7 c = by_rule _ _ _ _ _ _ c.before.before.after-bad.ensures c.before.before.before.before.enum-told6.given.1
 
 same-length-8 : tie.Need-same-length-8
 same-length-8 c = search rules
 
 returns-8 : tie.Need-returns-8
-returns-8 c = by-rule _ _ _ _ _ _ c.before.before.return-one3.ensures c.before.before.before.before.enum-told7.given.1
+returns-8 c = by_rule _ _ _ _ _ _ c.before.before.return-one3.ensures c.before.before.before.before.enum-told7.given.1
 
 pub stop-spec : {M : Type 1} → statement M
 stop-spec =

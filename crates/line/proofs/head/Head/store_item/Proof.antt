@@ -7,25 +7,25 @@ use native.Mathlib.Omega.{arith}
 use lib.ListN.{length, take, drop, get_or, length-drop}
 use lib.Seq.{take_all, length-take-le}
 use Rattle.crc.specs.Bits.{Bits, bits_of, bytes_of}
-use Rattle.block.specs.Lengths.{isLength, blockLength}
-use Rattle.block.specs.Block.{payloadOf}
-use Rattle.block.specs.Calls.{tooShort, MoveData}
+use Rattle.block.specs.Lengths.{is_length, block_length}
+use Rattle.block.specs.Block.{payload_of}
+use Rattle.block.specs.Calls.{too_short, MoveData}
 use Rattle.block.specs.declared.Built.{Built}
-use Rattle.block.proofs.Lengths.{length-facts, length-bytes}
+use Rattle.block.proofs.Lengths.{length_facts, length_bytes}
 use Rattle.line.specs.Receiving.{accepts, stops}
-use Rattle.line.specs.ReceivingInPlace.{withArray}
-use Rattle.line.specs.Code.ReceiveSteps.{handedBack, Handed}
+use Rattle.line.specs.ReceivingInPlace.{with_array}
+use Rattle.line.specs.Code.ReceiveSteps.{handed_back, Handed}
 use Rattle.line.specs.declared.receiver.Receiver.{Receiver}
 use Rattle.line.specs.declared.receiver.Step.{Step}
-use Rattle.line.proofs.StorePlace.{start-lt, room, put_back, accepted-store}
-use Rattle.line.proofs.BlockFinished.{handed-stored, length-data, data-moved}
+use Rattle.line.proofs.StorePlace.{start-lt, room, put_back, accepted_store}
+use Rattle.line.proofs.BlockFinished.{handed_stored, length_data, data_moved}
 use borrow.Author.Rules.{rules}
 use Rattle.line.proofs.head.Head.store_item.Statement.{statement}
 use Rattle.line.proofs.head.Head.store_item.Tie as tie
 
-module _ (s : Receiver) (known : isLength s.setup.k ≡ true) (slice store : List ℕ) (used : ℕ)
-    (h : blockLength s.setup.k ≤ 8 * length slice) (bytes : (i : ℕ) → get_or store i 0 < 256)
-    (held : tooShort store (s.taken * s.setup.k + s.setup.k) ≡ false) where
+module _ (s : Receiver) (known : is_length s.setup.k ≡ true) (slice store : List ℕ) (used : ℕ)
+    (h : block_length s.setup.k ≤ 8 * length slice) (bytes : (i : ℕ) → get_or store i 0 < 256)
+    (held : too_short store (s.taken * s.setup.k + s.setup.k) ≡ false) where
   abbrev k : ℕ
   k = s.setup.k
 
@@ -36,7 +36,7 @@ module _ (s : Receiver) (known : isLength s.setup.k ≡ true) (slice store : Lis
   fits = room k s.taken known store held
 
   abbrev row : Bits
-  row = take (blockLength k) (bits_of slice)
+  row = take (block_length k) (bits_of slice)
 
   -- the place lent, and its length
   abbrev n : ℕ
@@ -51,16 +51,16 @@ module _ (s : Receiver) (known : isLength s.setup.k ≡ true) (slice store : Lis
   wide : k / 8 ≤ length lent
   wide = omega (arith, same, fits, length-take-le n (drop start store) (omega (arith, same, fits, length-drop start store)))
 
-  all-data : take (8 * (k / 8)) (payloadOf k row) ≡ payloadOf k row
-  all-data = take_all (8 * (k / 8)) (payloadOf k row) (omega (arith, length-bytes k known, length-data k slice h))
+  all_data : take (8 * (k / 8)) (payload_of k row) ≡ payload_of k row
+  all_data = take_all (8 * (k / 8)) (payload_of k row) (omega (arith, length_bytes k known, length_data k slice h))
 
-  stored : (answer : Built) (part : List ℕ) → MoveData (k / 8) slice lent answer part → (r : Step) → r ≡ handedBack (stops s accepts [] used)
+  stored : (answer : Built) (part : List ℕ) → MoveData (k / 8) slice lent answer part → (r : Step) → r ≡ handed_back (stops s accepts [] used)
       → Handed s store (stops s accepts row used) r (put_back k s.taken known store n part)
   stored answer part p r e =
-      handed-stored s row used store r _ held
-      (accepted-store k s.taken known store n part _ same (length-data k slice h) fits bytes
-      (data-moved k slice h (k / 8) (omega (arith, length-bytes k known)) lent wide answer part p
-      ∙ ap (λ (d : Bits). bytes_of (k / 8) d ++ drop (k / 8) lent) all-data))
+      handed_stored s row used store r _ held
+      (accepted_store k s.taken known store n part _ same (length_data k slice h) fits bytes
+      (data_moved k slice h (k / 8) (omega (arith, length_bytes k known)) lent wide answer part p
+      ∙ ap (λ (d : Bits). bytes_of (k / 8) d ++ drop (k / 8) lent) all_data))
       e
 
 mul-start : tie.Need-overflow-mul-start
@@ -73,7 +73,7 @@ add-move-data : tie.Need-overflow-add-move-data
 add-move-data c =
     let a = c.before.before.before.before.before in
     let h = start-lt a.args.self.setup.k a.args.self.taken a.requires.0.range.known a.requires.0.range.items in
-    let f = length-facts a.args.self.setup.k a.requires.0.range.known in
+    let f = length_facts a.args.self.setup.k a.requires.0.range.known in
     omega arith
 
 sub-move-data : tie.Need-overflow-sub-move-data
@@ -104,7 +104,7 @@ returns c =
     let m = c.before.before.before.before.before.before in
     let l = m.before.before in
     let a = l.before.before.before.before.before in
-    stored (withArray a.args.self a.args.array.now) a.requires.0.range.known a.args.row.now a.args.store.now a.args.used a.requires.0.held
+    stored (with_array a.args.self a.args.array.now) a.requires.0.range.known a.args.row.now a.args.store.now a.args.used a.requires.0.held
     (λ i. (l.before.before.slice-known2.given i).fits) a.requires.1 _ _ m.move-data.ensures _ c.before.before.stop.ensures
 
 pub store-item-spec : {M : Type 1} → statement M

@@ -1,11 +1,11 @@
 -- `Receiver::fresh` is the definition's fresh receiver. Assumes nothing.
 use mathlib.Core.Path.{refl}
-use Rattle.line.specs.Receiving.{freshReceiver, zeroArray}
+use Rattle.line.specs.Receiving.{fresh_receiver, zero_array}
 use Rattle.line.proofs.receiver.Receiver.fresh.Statement.{statement}
 use Rattle.line.proofs.receiver.Receiver.fresh.Tie as tie
 
 returns : tie.Need-returns
-unfolding freshReceiver zeroArray
+unfolding fresh_receiver zero_array
 returns c = refl
 
 pub fresh-spec : {M : Type 1} → statement M

@@ -4,8 +4,8 @@ use mathlib.Core.Bool.{Bool, false}
 use mathlib.Core.List.{[], ◌∷◌}
 use denote.Enum.Declared.{tag_of}
 use types.Run.{OneOf, miss}
-use Rattle.line.specs.Receiving.{Rule, waits, orWait}
-use Rattle.line.specs.Code.ReceiveSteps.{ruleOf}
+use Rattle.line.specs.Receiving.{Rule, waits, or_wait}
+use Rattle.line.specs.Code.ReceiveSteps.{rule_of}
 use Rattle.line.specs.declared.rules.Rule as D
 use Rattle.line.specs.declared.rules.Rule.TheVariants as C
 use Rattle.line.specs.contracts.rules.Rule as code
@@ -14,7 +14,7 @@ use Rattle.line.proofs.rules.Rule.or_wait.Statement.{statement}
 use Rattle.line.proofs.rules.Rule.or_wait.Tie as tie
 
 -- rule 3, and rule 6's end
-takes : (r : D.Rule) → OneOf (0 ∷ 3 ∷ []) (tag_of code.the_type r) → waits ≡ orWait false (ruleOf r)
+takes : (r : D.Rule) → OneOf (0 ∷ 3 ∷ []) (tag_of code.the_type r) → waits ≡ or_wait false (rule_of r)
 takes C.Accepts h = refl
 takes C.Previous h = absurd (miss (0 ∷ 3 ∷ []) 1 tt h)
 takes C.OutOfSequence h = absurd (miss (0 ∷ 3 ∷ []) 2 tt h)
@@ -25,7 +25,7 @@ takes C.AnythingElse h = absurd (miss (0 ∷ 3 ∷ []) 6 tt h)
 takes C.Waits h = refl
 
 -- every other rule
-others : (r : D.Rule) → OneOf (1 ∷ 2 ∷ 4 ∷ 5 ∷ 6 ∷ 7 ∷ []) (tag_of code.the_type r) → ruleOf r ≡ orWait false (ruleOf r)
+others : (r : D.Rule) → OneOf (1 ∷ 2 ∷ 4 ∷ 5 ∷ 6 ∷ 7 ∷ []) (tag_of code.the_type r) → rule_of r ≡ or_wait false (rule_of r)
 others C.Accepts h = absurd (miss (1 ∷ 2 ∷ 4 ∷ 5 ∷ 6 ∷ 7 ∷ []) 0 tt h)
 others C.Previous h = refl
 others C.OutOfSequence h = refl
@@ -35,23 +35,23 @@ others C.EndsAgain h = refl
 others C.AnythingElse h = refl
 others C.Waits h = refl
 
-not-ready : (ready : Bool) (rule : Rule) → ready ≡ false → orWait false rule ≡ orWait ready rule
-not-ready ready rule e = ap (λ (b : Bool). orWait b rule) (sym e)
+not-ready : (ready : Bool) (rule : Rule) → ready ≡ false → or_wait false rule ≡ or_wait ready rule
+not-ready ready rule e = ap (λ (b : Bool). or_wait b rule) (sym e)
 
 returns : tie.Need-returns
 returns c =
     let a = c.before.args in
-    sym (ap (λ (b : Bool). orWait b (ruleOf a.self)) c.if1.true ∙ at_ready (ruleOf a.self))
+    sym (ap (λ (b : Bool). or_wait b (rule_of a.self)) c.if1.true ∙ at_ready (rule_of a.self))
 
 returns-2 : tie.Need-returns-2
 returns-2 c =
     let a = c.before.before.args in
-    takes a.self c.match.keys1 ∙ not-ready a.ready (ruleOf a.self) c.before.if1.false
+    takes a.self c.match.keys1 ∙ not-ready a.ready (rule_of a.self) c.before.if1.false
 
 returns-3 : tie.Need-returns-3
 returns-3 c =
     let a = c.before.before.args in
-    others a.self c.match.keys2 ∙ not-ready a.ready (ruleOf a.self) c.before.if1.false
+    others a.self c.match.keys2 ∙ not-ready a.ready (rule_of a.self) c.before.if1.false
 
 pub or-wait-spec : {M : Type 1} → statement M
 or-wait-spec = tie.close (tie.spec returns returns-2 returns-3)

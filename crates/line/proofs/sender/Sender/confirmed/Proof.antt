@@ -4,31 +4,31 @@ use mathlib.Core.Path.{◌≡◌}
 use mathlib.Core.Bool.{true, false}
 use Prim.Native.Nat.{ℕ, ◌+◌}
 use native.Mathlib.Omega.{arith}
-use Rattle.line.specs.Sending.{senderItems, atLast}
+use Rattle.line.specs.Sending.{sender_items, at_last}
 use Rattle.line.specs.declared.sender.Sender.{Sender}
-use Rattle.line.proofs.Items.{valid-most, itemCount-fits}
-use Rattle.line.proofs.SenderRange.{in-range}
+use Rattle.line.proofs.Items.{valid_most, item_count_fits}
+use Rattle.line.proofs.SenderRange.{in_range}
 use Rattle.line.proofs.sender.Sender.confirmed.Statement.{statement}
 use Rattle.line.proofs.sender.Sender.confirmed.Tie as tie
 
 order-items-requires : tie.Need-order-items-requires
 order-items-requires c κs =
-    let r = in-range c.before.args.self c.before.requires.range in
-    (r.known, valid-most _ r.valid)
+    let r = in_range c.before.args.self c.before.requires.range in
+    (r.known, valid_most _ r.valid)
 
 add-if1 : tie.Need-overflow-add-if1
 add-if1 c =
     let s = c.before.before in
-    let r = in-range s.args.self s.requires.range in
-    let f = itemCount-fits _ _ r.known r.valid in
+    let r = in_range s.args.self s.requires.range in
+    let f = item_count_fits _ _ r.known r.valid in
     omega (arith, c.order-items.ensures)
 
 -- the newer item is the last, or not
-last : (s : Sender) (n : ℕ) → n ≡ senderItems s → s.newer ≡ n + 1 → atLast s ≡ true
-last s n e h = eq-eqb s.newer (senderItems s + 1) (omega arith)
+last : (s : Sender) (n : ℕ) → n ≡ sender_items s → s.newer ≡ n + 1 → at_last s ≡ true
+last s n e h = eq-eqb s.newer (sender_items s + 1) (omega arith)
 
-not_last : (s : Sender) (n : ℕ) → n ≡ senderItems s → (s.newer ≡ n + 1 → ⊥) → atLast s ≡ false
-not_last s n e h = ne_eqb s.newer (senderItems s + 1) (λ d. h (omega arith))
+not_last : (s : Sender) (n : ℕ) → n ≡ sender_items s → (s.newer ≡ n + 1 → ⊥) → at_last s ≡ false
+not_last s n e h = ne_eqb s.newer (sender_items s + 1) (λ d. h (omega arith))
 
 returns : tie.Need-returns
 returns c =
@@ -38,8 +38,8 @@ returns c =
 add-t3 : tie.Need-overflow-add-t3
 add-t3 c =
     let s = c.before.before.before.before.before in
-    let r = in-range s.args.self s.requires.range in
-    let f = itemCount-fits _ _ r.known r.valid in
+    let r = in_range s.args.self s.requires.range in
+    let f = item_count_fits _ _ r.known r.valid in
     omega (arith, r.last)
 
 returns-2 : tie.Need-returns-2

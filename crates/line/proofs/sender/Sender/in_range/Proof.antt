@@ -6,48 +6,48 @@ use mathlib.Core.Bool.{true, false}
 use Prim.Native.Nat.{◌+◌, ◌≤◌, ◌<◌}
 use native.Mathlib.Omega.{arith}
 use lib.Dec.{leb}
-use Rattle.block.specs.Lengths.{isLength}
-use Rattle.line.specs.Marks.{marksInRange}
-use Rattle.line.specs.Order.{validLength}
-use Rattle.line.specs.Sending.{senderItems, lastRun, senderInRange}
+use Rattle.block.specs.Lengths.{is_length}
+use Rattle.line.specs.Marks.{marks_in_range}
+use Rattle.line.specs.Order.{valid_length}
+use Rattle.line.specs.Sending.{sender_items, last_run, sender_in_range}
 use Rattle.line.specs.declared.sender.Sender.{Sender}
-use Rattle.line.proofs.Items.{long-invalid, empty-invalid, other-valid, itemCount-fits}
+use Rattle.line.proofs.Items.{long_invalid, empty_invalid, other_valid, item_count_fits}
 use Rattle.line.proofs.sender.Sender.in_range.Statement.{statement}
 use Rattle.line.proofs.sender.Sender.in_range.Tie as tie
 
 -- the tests one after the other
 module _ (s : Sender) where
-  unknown : isLength s.setup.k ≡ false → false ≡ senderInRange s
-  unfolding senderInRange
+  unknown : is_length s.setup.k ≡ false → false ≡ sender_in_range s
+  unfolding sender_in_range
   unknown a = simp a
 
-  module _ (a : isLength s.setup.k ≡ true) where
-    invalid : validLength s.setup.length ≡ false → false ≡ senderInRange s
-    unfolding senderInRange
+  module _ (a : is_length s.setup.k ≡ true) where
+    invalid : valid_length s.setup.length ≡ false → false ≡ sender_in_range s
+    unfolding sender_in_range
     invalid b = simp (a, b)
 
-    module _ (b : validLength s.setup.length ≡ true) where
-      wrong_size : marksInRange s.setup.marks ≡ false → false ≡ senderInRange s
-      unfolding senderInRange
+    module _ (b : valid_length s.setup.length ≡ true) where
+      wrong_size : marks_in_range s.setup.marks ≡ false → false ≡ sender_in_range s
+      unfolding sender_in_range
       wrong_size m = simp (a, b, m)
 
-      module _ (m : marksInRange s.setup.marks ≡ true) where
-        first : s.newer ≡ 0 → false ≡ senderInRange s
-        unfolding senderInRange
+      module _ (m : marks_in_range s.setup.marks ≡ true) where
+        first : s.newer ≡ 0 → false ≡ sender_in_range s
+        unfolding sender_in_range
         first n = simp (a, b, m, lt-leb 1 s.newer (omega arith))
 
         module _ (c : s.newer ≡ 0 → ⊥) where
-          last : senderItems s + 1 < s.newer → false ≡ senderInRange s
-          unfolding senderInRange
+          last : sender_items s + 1 < s.newer → false ≡ sender_in_range s
+          unfolding sender_in_range
           last n =
               let one : 1 ≤ s.newer = omega arith in
-              simp (a, b, m, le-leb 1 s.newer one, lt-leb s.newer (senderItems s + 1) n)
+              simp (a, b, m, le-leb 1 s.newer one, lt-leb s.newer (sender_items s + 1) n)
 
-          run : s.newer ≤ senderItems s + 1 → leb s.run lastRun ≡ senderInRange s
-          unfolding senderInRange
+          run : s.newer ≤ sender_items s + 1 → leb s.run last_run ≡ sender_in_range s
+          unfolding sender_in_range
           run n =
               let one : 1 ≤ s.newer = omega arith in
-              simp (a, b, m, le-leb 1 s.newer one, le-leb s.newer (senderItems s + 1) n)
+              simp (a, b, m, le-leb 1 s.newer one, le-leb s.newer (sender_items s + 1) n)
 
 known-length-requires : tie.Need-known-length-requires
 known-length-requires c κs = search rules
@@ -56,17 +56,17 @@ returns : tie.Need-returns
 returns c = unknown _ (sym c.before.known-length.ensures ∙ not-true _ c.if1.true)
 
 -- what the tests before have shown
-known : (c : tie.Else1) → isLength c.before.before.before.args.self.setup.k ≡ true
+known : (c : tie.Else1) → is_length c.before.before.before.args.self.setup.k ≡ true
 known c = sym c.before.known-length.ensures ∙ not-false _ c.if1.false
 
-right : (c : tie.Else3) → validLength c.before.before.before.before.before.args.self.setup.length ≡ true
-right c = other-valid _ c.before.if2.false c.if3.false
+right : (c : tie.Else3) → valid_length c.before.before.before.before.before.args.self.setup.length ≡ true
+right c = other_valid _ c.before.if2.false c.if3.false
 
 returns-2 : tie.Need-returns-2
-returns-2 c = invalid _ (known c.before) (empty-invalid _ c.if2.true)
+returns-2 c = invalid _ (known c.before) (empty_invalid _ c.if2.true)
 
 returns-3 : tie.Need-returns-3
-returns-3 c = invalid _ (known c.before.before) (long-invalid _ c.if3.true)
+returns-3 c = invalid _ (known c.before.before) (long_invalid _ c.if3.true)
 
 in-range-requires : tie.Need-in-range-requires
 in-range-requires c κs = search rules
@@ -74,10 +74,10 @@ in-range-requires c κs = search rules
 returns-4 : tie.Need-returns-4
 returns-4 c =
     let e = c.before.before in
-    wrong_size _ (known e.before.before) (right e) (sym c.before.in-range.ensures ∙ not-true _ c.if4.true)
+    wrong_size _ (known e.before.before) (right e) (sym c.before.in_range.ensures ∙ not-true _ c.if4.true)
 
-sized : (c : tie.Else4) → marksInRange c.before.before.before.before.before.before.before.args.self.setup.marks ≡ true
-sized c = sym c.before.in-range.ensures ∙ not-false _ c.if4.false
+sized : (c : tie.Else4) → marks_in_range c.before.before.before.before.before.before.before.args.self.setup.marks ≡ true
+sized c = sym c.before.in_range.ensures ∙ not-false _ c.if4.false
 
 returns-5 : tie.Need-returns-5
 returns-5 c =
@@ -91,7 +91,7 @@ order-items-requires c κs = (known c.before.before.before.before.before.before,
 add-if6 : tie.Need-overflow-add-if6
 add-if6 c =
     let e = c.before.before.before.before.before in
-    let f = itemCount-fits _ _ (known e.before.before) (right e) in
+    let f = item_count_fits _ _ (known e.before.before) (right e) in
     omega (arith, c.order-items.ensures)
 
 returns-6 : tie.Need-returns-6

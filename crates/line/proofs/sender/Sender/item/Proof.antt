@@ -5,27 +5,27 @@ use mathlib.Core.Bool.{Bool, true, false, not}
 use Prim.Native.Nat.{ℕ}
 use lib.Dec.{leb, ltb}
 use Rattle.block.specs.Answer.{done}
-use Rattle.line.specs.Sending.{item, itemBlock, senderItems}
+use Rattle.line.specs.Sending.{item, item_block, sender_items}
 use Rattle.line.specs.declared.sender.Sender.{Sender}
-use Rattle.line.proofs.Items.{valid-most}
-use Rattle.line.proofs.SenderRange.{in-range}
+use Rattle.line.proofs.Items.{valid_most}
+use Rattle.line.proofs.SenderRange.{in_range}
 use Rattle.line.proofs.sender.Sender.item.Statement.{statement}
 use Rattle.line.proofs.sender.Sender.item.Tie as tie
 
 order-items-requires : tie.Need-order-items-requires
 order-items-requires c κs =
-    let r = in-range c.before.args.self c.before.requires.range in
-    (r.known, valid-most _ r.valid)
+    let r = in_range c.before.args.self c.before.requires.range in
+    (r.known, valid_most _ r.valid)
 
-not-before : (n i : ℕ) (t : Bool) → leb n i ≡ t → t ≡ not (ltb i n)
-not-before n i true e = ap not (sym (le-ltb i n (leb-true n i e)))
-not-before n i false e = ap not (sym (lt-ltb i n (leb-false n i e)))
+not_before : (n i : ℕ) (t : Bool) → leb n i ≡ t → t ≡ not (ltb i n)
+not_before n i true e = ap not (sym (le-ltb i n (leb-true n i e)))
+not_before n i false e = ap not (sym (lt-ltb i n (leb-false n i e)))
 
-answer : (s : Sender) (i n : ℕ) (used cancelled : Bool) → n ≡ senderItems s
-    → done (item i (leb n i) used cancelled) ≡ done (itemBlock s i used cancelled)
+answer : (s : Sender) (i n : ℕ) (used cancelled : Bool) → n ≡ sender_items s
+    → done (item i (leb n i) used cancelled) ≡ done (item_block s i used cancelled)
 answer s i n used cancelled e =
     ap (λ (m : ℕ). done (item i (leb m i) used cancelled)) e
-    ∙ ap (λ (t : Bool). done (item i t used cancelled)) (not-before (senderItems s) i (leb (senderItems s) i) refl)
+    ∙ ap (λ (t : Bool). done (item i t used cancelled)) (not_before (sender_items s) i (leb (sender_items s) i) refl)
 
 returns : tie.Need-returns
 returns c =

@@ -5,26 +5,26 @@ use mathlib.Core.Path.{◌≡◌, sym, ◌∙◌}
 use mathlib.Core.Bool.{true, false, ◌||◌}
 use native.Mathlib.Omega.{arith}
 use Rattle.block.specs.Answer.{done}
-use Rattle.block.specs.Lengths.{blockLength}
-use Rattle.block.specs.Calls.{tooShort}
-use Rattle.block.proofs.Lengths.{length-facts}
-use Rattle.line.specs.Sending.{senderInRange, gaveUp, transmit, send}
+use Rattle.block.specs.Lengths.{block_length}
+use Rattle.block.specs.Calls.{too_short}
+use Rattle.block.proofs.Lengths.{length_facts}
+use Rattle.line.specs.Sending.{sender_in_range, gave_up, transmit, send}
 use Rattle.line.specs.Code.SendSteps.{Lent}
-use Rattle.line.proofs.SenderRange.{in-range, refused-call, sent-call, spoiled-call, rest-call, goes_on, order-call, slice-call, going-call}
+use Rattle.line.proofs.SenderRange.{in_range, refused_call, sent-call, spoiled-call, rest-call, goes_on, order_call, slice_call, going_call}
 use Rattle.line.proofs.sender.Sender.send.Statement.{statement}
 use Rattle.line.proofs.sender.Sender.send.Tie as tie
 
 -- ---- what the tests have shown
 
-ranged : (c : tie.Else1) → senderInRange c.before.before.before.before.args.self ≡ true
-ranged c = sym c.before.in-range.ensures ∙ not-false _ c.if1.false
+ranged : (c : tie.Else1) → sender_in_range c.before.before.before.before.args.self ≡ true
+ranged c = sym c.before.in_range.ensures ∙ not-false _ c.if1.false
 
 going : (c : tie.Else2)
-    → c.before.before.before.before.before.before.args.self.finished || gaveUp c.before.before.before.before.before.before.args.self ≡ false
+    → c.before.before.before.before.before.before.args.self.finished || gave_up c.before.before.before.before.before.before.args.self ≡ false
 going c = sym c.before.at_rest.ensures ∙ c.if2.false
 
 lent : (c : tie.Else3)
-    → tooShort c.before.before.before.before.before.before.before.before.before.args.order.now
+    → too_short c.before.before.before.before.before.before.before.before.before.args.order.now
     c.before.before.before.before.before.before.before.before.before.args.self.setup.length
     ≡ false
 lent c = sym c.before.too_short.ensures ∙ c.if3.false
@@ -35,9 +35,9 @@ in-range-requires c κs = search rules
 returns : tie.Need-returns
 returns c =
     let a = c.before.before.before.before.args in
-    refused-call a.self a.order.now a.reading a.block.now _
+    refused_call a.self a.order.now a.reading a.block.now _
     (spoiled-call a.self a.order.now a.reading a.block.now
-    (sym c.before.in-range.ensures ∙ not-true _ c.if1.true))
+    (sym c.before.in_range.ensures ∙ not-true _ c.if1.true))
 
 at-rest-requires : tie.Need-at-rest-requires
 at-rest-requires c κs = search rules
@@ -46,7 +46,7 @@ returns-2 : tie.Need-returns-2
 returns-2 c =
     let e = c.before.before in
     let a = e.before.before.before.before.args in
-    refused-call a.self a.order.now a.reading a.block.now _
+    refused_call a.self a.order.now a.reading a.block.now _
     (rest-call a.self a.order.now a.reading a.block.now (ranged e) (sym c.before.at_rest.ensures ∙ c.if2.true))
 
 too-short-requires : tie.Need-too-short-requires
@@ -57,20 +57,20 @@ returns-3 c =
     let g = c.before.before.before in
     let e = g.before.before in
     let a = e.before.before.before.before.args in
-    refused-call a.self a.order.now a.reading a.block.now _
-    (order-call a.self a.order.now a.reading a.block.now (ranged e) (going g)
+    refused_call a.self a.order.now a.reading a.block.now _
+    (order_call a.self a.order.now a.reading a.block.now (ranged e) (going g)
     (sym c.before.too_short.ensures ∙ c.if3.true))
 
 add-too-short : tie.Need-overflow-add-too-short
 add-too-short c =
     let e = c.before.before.before.before.before.before.before in
-    let f = length-facts _ (in-range _ (ranged e)).known in
+    let f = length_facts _ (in_range _ (ranged e)).known in
     omega (arith, f.2)
 
 too-short-requires-2 : tie.Need-too-short-requires-2
 too-short-requires-2 c κs =
     let e = c.before.before.before.before.before.before.before in
-    let f = length-facts _ (in-range _ (ranged e)).known in
+    let f = length_facts _ (in_range _ (ranged e)).known in
     omega (arith, f.2)
 
 same_length : tie.Need-same-length
@@ -82,8 +82,8 @@ returns-4 c =
     let g = l.before.before.before in
     let e = g.before.before in
     let a = e.before.before.before.before.args in
-    refused-call a.self a.order.now a.reading a.block.now _
-    (slice-call a.self a.order.now a.reading a.block.now (ranged e) (going g) (lent l)
+    refused_call a.self a.order.now a.reading a.block.now _
+    (slice_call a.self a.order.now a.reading a.block.now (ranged e) (going g) (lent l)
     (sym c.before.too-short2.ensures ∙ c.if4.true))
 
 -- ---- a block goes out
@@ -91,7 +91,7 @@ returns-4 c =
 abbrev start : tie.Else4 → tie.Start
 start c = c.before.before.before.before.before.before.before.before.before.before.before.before.before
 
-room : (c : tie.Else4) → tooShort (start c).args.block.now (blockLength (start c).args.self.setup.k) ≡ false
+room : (c : tie.Else4) → too_short (start c).args.block.now (block_length (start c).args.self.setup.k) ≡ false
 room c = sym c.before.too-short2.ensures ∙ c.if4.false
 
 prepared : (c : tie.Else4) → Lent (start c).args.self (start c).args.order.now (start c).args.block.now
@@ -100,7 +100,7 @@ prepared c =
     let g = l.before.before.before in
     record {
       sender = goes_on (start c).args.self (start c).args.order.now (start c).args.reading (start c).args.block.now (ranged g.before.before) (going g);
-      order-lent = ltb-false _ _ (lent l);
+      order_lent = ltb-false _ _ (lent l);
       room = ltb-false _ _ (room c);
     }
 
@@ -110,7 +110,7 @@ goes : (c : tie.Else4)
 goes c =
     let l = c.before.before.before.before in
     let g = l.before.before.before in
-    going-call (start c).args.self (start c).args.order.now (start c).args.reading (start c).args.block.now
+    going_call (start c).args.self (start c).args.order.now (start c).args.reading (start c).args.block.now
     (ranged g.before.before) (going g) (lent l) (room c)
 
 enum_told : tie.Need-enum-told

@@ -2,22 +2,22 @@
 use borrow.Author.Rules.{rules}
 use mathlib.Core.Path.{refl}
 use native.Mathlib.Omega.{arith}
-use Rattle.line.specs.Sending.{transmit, sentBits}
-use Rattle.line.proofs.SenderRange.{in-range}
+use Rattle.line.specs.Sending.{transmit, sent_bits}
+use Rattle.line.proofs.SenderRange.{in_range}
 use Rattle.line.proofs.sender.Sender.send_older.Statement.{statement}
 use Rattle.line.proofs.sender.Sender.send_older.Tie as tie
 
 sub-older : tie.Need-overflow-sub-older
 sub-older c =
     let start = c.before.before.before.before in
-    let r = in-range start.args.self start.requires.sender.range in
+    let r = in_range start.args.self start.requires.sender.range in
     omega (arith, r.first)
 
 write-item-requires : tie.Need-write-item-requires
 write-item-requires c κs =
     let start = c.before.before.before.before.before in
-    let r = in-range start.args.self start.requires.sender.range in
-    (r.known, r.valid, start.requires.order-lent, start.requires.room)
+    let r = in_range start.args.self start.requires.sender.range in
+    (r.known, r.valid, start.requires.order_lent, start.requires.room)
 
 item-requires : tie.Need-item-requires
 item-requires c κs = search rules
@@ -26,7 +26,7 @@ same_length : tie.Need-same-length
 same_length c = search rules
 
 returns : tie.Need-returns
-unfolding transmit sentBits
+unfolding transmit sent_bits
 returns c reading =
     record {
       answers = c.item.ensures;

@@ -4,13 +4,13 @@ use Prim.Native.Nat.{ℕ}
 use native.Mathlib.Omega.{arith}
 use lib.Dec.{eqb}
 use Rattle.crc.specs.Bits.{number}
-use Rattle.line.proofs.SearchWindow.{no-sequence, sequence}
+use Rattle.line.proofs.SearchWindow.{no_sequence, sequence}
 use borrow.Author.Rules.{rules}
 use Rattle.line.proofs.window.Window.ends_sequence.Statement.{statement}
 use Rattle.line.proofs.window.Window.ends_sequence.Tie as tie
 
 returns : tie.Need-returns
-returns c = no-sequence _ _ c.before.before.requires.held c.before.before.requires.number _ c.if1.true
+returns c = no_sequence _ _ c.before.before.requires.held c.before.before.requires.number _ c.if1.true
 
 shifted-requires : tie.Need-shifted-requires
 shifted-requires c κs = search rules

@@ -4,7 +4,7 @@ use Prim.Native.Nat.{◌^◌, ◌≤◌}
 use native.Mathlib.Nat.{lt_of_lt_of_le, le_trans}
 use lib.Dec.{lit≤}
 use lib.Pow.{pow_mono}
-use Rattle.line.proofs.SearchWindow.{loaded-lt, loaded-bits}
+use Rattle.line.proofs.SearchWindow.{loaded_lt, loaded_bits}
 use borrow.Author.Rules.{rules}
 use Rattle.line.proofs.window.Window.load.Statement.{statement}
 use Rattle.line.proofs.window.Window.load.Tie as tie
@@ -20,15 +20,15 @@ shr-t7 c = search rules
 
 cast-t9 : tie.Need-overflow-cast-t9
 cast-t9 c =
-    let l = loaded-lt c.args.held c.requires c.args.first c.args.second (search rules) (search rules) in
+    let l = loaded_lt c.args.held c.requires c.args.first c.args.second (search rules) (search rules) in
     let m : 2 ^ c.args.held ≤ 2 ^ 15 = pow_mono c.requires in
     record { fits = lt_of_lt_of_le l (le_trans m (lit≤ tt)) }
 
 returns : tie.Need-returns
 returns c = (
   refl,
-  loaded-lt c.args.held c.requires c.args.first c.args.second (search rules) (search rules),
-  loaded-bits c.args.held c.requires c.args.first c.args.second (search rules) (search rules),
+  loaded_lt c.args.held c.requires c.args.first c.args.second (search rules) (search rules),
+  loaded_bits c.args.held c.requires c.args.first c.args.second (search rules) (search rules),
 )
 
 pub load_spec : {M : Type 1} → statement M

@@ -4,7 +4,7 @@ use Prim.Native.Nat.{ℕ, ◌+◌, ◌^◌, ◌<◌}
 use native.Mathlib.Omega.{arith}
 use lib.Bits.{bit_and, mask_lt}
 use Rattle.crc.specs.Bits.{binary}
-use Rattle.line.proofs.SearchWindow.{shifted-lt, latest-more, latest-full}
+use Rattle.line.proofs.SearchWindow.{shifted_lt, latest_more, latest_full}
 use borrow.Author.Rules.{rules}
 use Rattle.line.proofs.window.Window.slide.Statement.{statement}
 use Rattle.line.proofs.window.Window.slide.Tie as tie
@@ -21,9 +21,9 @@ returns c =
     let r = c.before.before.before.shifted in (
       record {
         held = search rules;
-        number = subst (λ (n : ℕ). n < 2 ^ (a.args.self.held + 1)) (sym r.ensures) (shifted-lt _ _ a.requires.held a.requires.number a.args.next);
+        number = subst (λ (n : ℕ). n < 2 ^ (a.args.self.held + 1)) (sym r.ensures) (shifted_lt _ _ a.requires.held a.requires.number a.args.next);
       },
-      ap (binary (a.args.self.held + 1)) r.ensures ∙ latest-more _ _ a.requires.held a.requires.number a.args.next c.before.if1.true,
+      ap (binary (a.args.self.held + 1)) r.ensures ∙ latest_more _ _ a.requires.held a.requires.number a.args.next c.before.if1.true,
     )
 
 returns-2 : tie.Need-returns-2
@@ -31,7 +31,7 @@ returns-2 c =
     let a = c.before.before.before in
     let r = c.before.before.shifted in (
       record { held = search rules; number = mask_lt r.result 15 },
-      ap (λ (n : ℕ). binary 15 (bit_and n 32767)) r.ensures ∙ latest-full _ _ (omega arith) a.requires.number a.args.next,
+      ap (λ (n : ℕ). binary 15 (bit_and n 32767)) r.ensures ∙ latest_full _ _ (omega arith) a.requires.number a.args.next,
     )
 
 pub slide-spec : {M : Type 1} → statement M

@@ -1,5 +1,5 @@
 -- `Window::store` packs the window into two bytes. Assumes nothing.
-use Rattle.line.proofs.SearchWindow.{high_lt, low-lt, stored_bytes}
+use Rattle.line.proofs.SearchWindow.{high_lt, low_lt, stored_bytes}
 use borrow.Author.Rules.{rules}
 use Rattle.line.proofs.window.Window.store.Statement.{statement}
 use Rattle.line.proofs.window.Window.store.Tie as tie
@@ -20,7 +20,7 @@ cast-t6 : tie.Need-overflow-cast-t6
 cast-t6 c = record { fits = high_lt c.before.before.args.self.held c.before.before.requires.held c.before.before.args.self.number c.before.before.requires.number }
 
 cast-t7 : tie.Need-overflow-cast-t7
-cast-t7 c = record { fits = low-lt c.before.before.args.self.held c.before.before.requires.held c.before.before.args.self.number c.before.before.requires.number }
+cast-t7 c = record { fits = low_lt c.before.before.args.self.held c.before.before.requires.held c.before.before.args.self.number c.before.before.requires.number }
 
 returns : tie.Need-returns
 returns c = stored_bytes c.before.before.args.self.held c.before.before.requires.held c.before.before.args.self.number c.before.before.requires.number

@@ -1,5 +1,5 @@
 -- `LineOne::read` meets its contract: an arm for each place. Assumes nothing.
-use Rattle.session.specs.LineOne.{next_at, nextOrder}
+use Rattle.session.specs.LineOne.{next_at, next_order}
 use borrow.Author.Rules.{rules}
 use Rattle.session.proofs.line_one.LineOne.read.Statement.{statement}
 use Rattle.session.proofs.line_one.LineOne.read.Tie as tie
@@ -59,44 +59,44 @@ at-requires-2 : tie.Need-at-requires-2
 at-requires-2 c κs = search rules
 
 returns : tie.Need-returns
-unfolding next_at nextOrder
+unfolding next_at next_order
 returns c = let p = c.before.enum_told.given.1 in (rw p c.read-decimal.ensures, rw p)
 
 returns-2 : tie.Need-returns-2
-unfolding next_at nextOrder
+unfolding next_at next_order
 returns-2 c = let p = c.before.enum-told2.given.1 in (rw p c.read-decimal2.ensures, rw p)
 
 returns-3 : tie.Need-returns-3
-unfolding next_at nextOrder
+unfolding next_at next_order
 returns-3 c = let p = c.before.enum-told3.given.1 in (rw p c.read-decimal3.ensures, rw p)
 
 returns-4 : tie.Need-returns-4
-unfolding next_at nextOrder
+unfolding next_at next_order
 returns-4 c = let p = c.before.enum-told4.given.1 in (rw p c.read-decimal4.ensures, rw p)
 
 returns-5 : tie.Need-returns-5
-unfolding next_at nextOrder
+unfolding next_at next_order
 returns-5 c = let p = c.before.enum-told5.given.1 in (rw p c.read-high.ensures, rw p)
 
 same_length : tie.Need-same-length
 same_length c = search rules
 
 returns-6 : tie.Need-returns-6
-unfolding next_at nextOrder
+unfolding next_at next_order
 returns-6 c =
     let p = c.before.before.before.before.before.place.given.1 in
     (rw p c.before.before.read_low.ensures.0, rw p c.before.before.read_low.ensures.1)
 
 returns-7 : tie.Need-returns-7
-unfolding next_at nextOrder
+unfolding next_at next_order
 returns-7 c = let p = c.before.enum-told6.given.1 in (rw p c.read-high2.ensures, rw p)
 
 returns-8 : tie.Need-returns-8
-unfolding next_at nextOrder
+unfolding next_at next_order
 returns-8 c = let p = c.before.enum-told7.given.1 in (rw p c.at.ensures, rw p)
 
 returns-9 : tie.Need-returns-9
-unfolding next_at nextOrder
+unfolding next_at next_order
 returns-9 c = let p = c.before.enum-told8.given.1 in (rw p c.at2.ensures, rw p)
 
 pub read_spec : {M : Type 1} → statement M

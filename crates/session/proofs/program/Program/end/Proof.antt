@@ -5,7 +5,7 @@ use mathlib.Core.Bool.{true}
 use mathlib.Core.List.{List, []}
 use Prim.Native.Nat.{ℕ}
 use lib.ListN.{replicate}
-use Rattle.session.specs.Program.{keeping, yieldText, outputRoom, Puts, turn}
+use Rattle.session.specs.Program.{keeping, yield_text, output_room, Puts, turn}
 use Rattle.session.specs.Session.{placed, End}
 use Rattle.session.specs.declared.program.Program.{Program}
 use Rattle.session.specs.declared.script.Place.TheVariants as P
@@ -16,11 +16,11 @@ use Rattle.session.proofs.program.Program.end.Tie as tie
 
 -- what the session yields at the end put into the output
 ended : (p : Program) (t : Taken) (store bytes : List ℕ) (len : ℕ) → End p.session p.order p.store t store
-    → Puts (yieldText p.number t.yielded) (replicate outputRoom 0) 0 len bytes
+    → Puts (yield_text p.number t.yielded) (replicate output_room 0) 0 len bytes
     → made (keeping (placed t.session P.Over) p.number p.order store) bytes len true ≡ turn p []
 ended p t store bytes len e u =
     let f = puts_first u in
-    made_of (keeping (placed t.session P.Over) p.number p.order store) (yieldText p.number t.yielded) bytes len true
+    made_of (keeping (placed t.session P.Over) p.number p.order store) (yield_text p.number t.yielded) bytes len true
     f.0 f.1
     ∙ rw (e.answers, e.stores)
 

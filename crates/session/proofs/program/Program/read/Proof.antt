@@ -7,7 +7,7 @@ use native.Mathlib.Omega.{arith}
 use lib.ListN.{length, take}
 use lib.Seq.{length-take-le}
 use Rattle.session.specs.Program.{turn}
-use Rattle.session.proofs.Parts.{take-least}
+use Rattle.session.proofs.Parts.{take_least}
 use Rattle.session.proofs.program.Program.read.Statement.{statement}
 use Rattle.session.proofs.program.Program.read.Tie as tie
 
@@ -40,7 +40,7 @@ returns-2 c =
     let a = c.before.before.before.before.before.args in
     c.read-part.ensures
     ∙ ap (λ (l : List ℕ). turn a.self l)
-    (ap (λ (n : ℕ). take n a.part.now) c.before.before.least.ensures ∙ take-least a.count a.part.now)
+    (ap (λ (n : ℕ). take n a.part.now) c.before.before.least.ensures ∙ take_least a.count a.part.now)
 
 pub read_spec : {M : Type 1} → statement M
 read_spec =

@@ -4,7 +4,7 @@ use native.Mathlib.Omega.{arith}
 use lib.ListN.{take}
 use lib.Seq.{length-take-le}
 use Rattle.session.specs.Session.{order_of}
-use Rattle.session.proofs.Parts.{take-least}
+use Rattle.session.proofs.Parts.{take_least}
 use borrow.Author.Rules.{rules}
 use Rattle.session.proofs.script.Session.line.Statement.{statement}
 use Rattle.session.proofs.script.Session.line.Tie as tie
@@ -30,7 +30,7 @@ returns c =
     let a = c.before.before.before.before.before.before.before.before.before.before.before.before.before.before.args in
     let n = c.before.before.before.before.before.before.before.before.before.before.least in
     let l : take n.result a.order.now ≡ order_of a.self a.order.now =
-    ap (λ (m : _). take m a.order.now) n.ensures ∙ take-least a.self.opening.kept a.order.now in
+    ap (λ (m : _). take m a.order.now) n.ensures ∙ take_least a.self.opening.kept a.order.now in
     let p = c.before.before.before.before.before.run-period.ensures in
     let r = rw l at p.answers in
     (rw (c.after-period.ensures, r), rw l at p.writes)

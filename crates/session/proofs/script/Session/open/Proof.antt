@@ -6,12 +6,12 @@ use lib.ListN.{length, take}
 use lib.Seq.{length-take-le}
 use borrow.Author.Tests.{not-true, not-false}
 use Rattle.block.specs.Answer.{Answer, refused, done}
-use Rattle.line.specs.Sending.{openSender, openedAnswer}
+use Rattle.line.specs.Sending.{open_sender, opened_answer}
 use Rattle.line.specs.declared.sender.Sender.{Sender}
 use Rattle.session.specs.LineOne.{readable}
-use Rattle.session.specs.Outcomes.{speed, loop-ms, code-size}
+use Rattle.session.specs.Outcomes.{speed, loop_ms, code_size}
 use Rattle.session.specs.Session.{order_of, opens}
-use Rattle.session.proofs.Parts.{take-least}
+use Rattle.session.proofs.Parts.{take_least}
 use borrow.Author.Rules.{rules}
 use Rattle.session.proofs.script.Session.open.Statement.{statement}
 use Rattle.session.proofs.script.Session.open.Tie as tie
@@ -21,13 +21,13 @@ read_first : (c : tie.Else1) → readable c.before.before.before.before.args.sel
 read_first c = sym c.before.is-readable.ensures ∙ not-false _ c.if1.false
 
 -- how the sender was opened
-opened-as : (c : tie.After-open) (a : Answer Sender) → openedAnswer c.«open».result ≡ a
+opened-as : (c : tie.After-open) (a : Answer Sender) → opened_answer c.«open».result ≡ a
     → let s = c.before.before.before.before.before.before.before.args.self in
-    openSender s.opening.k speed loop-ms s.opening.length code-size (order_of s c.before.before.before.before.before.before.before.args.order.now) ≡ a
+    open_sender s.opening.k speed loop_ms s.opening.length code_size (order_of s c.before.before.before.before.before.before.before.args.order.now) ≡ a
 opened-as c a e =
     let s = c.before.before.before.before.before.before.before.args.self in
     let o = c.before.before.before.before.before.before.before.args.order.now in
-    let l : take c.before.before.least.result o ≡ order_of s o = ap (λ (n : _). take n o) c.before.before.least.ensures ∙ take-least s.opening.kept o in
+    let l : take c.before.before.least.result o ≡ order_of s o = ap (λ (n : _). take n o) c.before.before.least.ensures ∙ take_least s.opening.kept o in
     rw (← l) (sym c.«open».ensures.answers ∙ e)
 
 is-readable-requires : tie.Need-is-readable-requires
@@ -68,11 +68,11 @@ open-receiver-requires c κs = search rules
 
 returns-2 : tie.Need-returns-2
 unfolding opens
-returns-2 c = rw (read_first c.before.before.before.before.before.before.before, opened-as c.before.before.before.before (refused _) (ap openedAnswer c.before.before.opened.given.1)) c.refused.ensures
+returns-2 c = rw (read_first c.before.before.before.before.before.before.before, opened-as c.before.before.before.before (refused _) (ap opened_answer c.before.before.opened.given.1)) c.refused.ensures
 
 returns-3 : tie.Need-returns-3
 unfolding opens
-returns-3 c = rw (read_first c.before.before.before.before.before.before.before, opened-as c.before.before.before.before (done _) (ap openedAnswer c.before.before.opened2.given.1)) c.open-receiver.ensures
+returns-3 c = rw (read_first c.before.before.before.before.before.before.before, opened-as c.before.before.before.before (done _) (ap opened_answer c.before.before.opened2.given.1)) c.open_receiver_lem.ensures
 
 pub open_spec : {M : Type 1} → statement M
 open_spec =

@@ -1,7 +1,7 @@
 -- `Session::read` meets its contract: an arm for each place. Assumes nothing.
 use borrow.Author.Tests.{eq-eqb, ne_eqb}
 use mathlib.Core.Path.{◌≡◌, sym, ap, ◌∙◌}
-use Rattle.session.specs.Session.{opens, takes, takesOrder, takesStore}
+use Rattle.session.specs.Session.{opens, takes, takes_order, takes_store}
 use Rattle.session.specs.declared.script.Place.{Place}
 use Rattle.session.specs.declared.script.Place.TheVariants as P
 use borrow.Author.Rules.{rules}
@@ -18,7 +18,7 @@ same_length : tie.Need-same-length
 same_length c = search rules
 
 returns : tie.Need-returns
-unfolding takes takesOrder takesStore
+unfolding takes takes_order takes_store
 returns c =
     let a = c.before.before.before.before.before.before.before.args in
     let p = c.before.before.before.enum_told.given.1 in
@@ -51,7 +51,7 @@ same-length-3 : tie.Need-same-length-3
 same-length-3 c = search rules
 
 returns-2 : tie.Need-returns-2
-unfolding takes takesOrder takesStore
+unfolding takes takes_order takes_store
 returns-2 c =
     let p = c.before.before.before.before.before.before.before.place.given.1 in
     let t = eq-eqb _ _ c.before.before.before.before.before.if2.true in
@@ -70,27 +70,27 @@ same-length-4 : tie.Need-same-length-4
 same-length-4 c = search rules
 
 returns-3 : tie.Need-returns-3
-unfolding takes takesOrder takesStore
+unfolding takes takes_order takes_store
 returns-3 c =
     let p = c.before.before.before.before.before.enum_told.given.1 in
     let t = ne_eqb _ _ c.before.before.before.before.if1.false in
     record { answers = rw (p, t) c.before.before.read-line-one.ensures.0; keeps = rw (p, t) c.before.before.read-line-one.ensures.1; stores = rw p }
 
 returns-4 : tie.Need-returns-4
-unfolding takes takesOrder takesStore
+unfolding takes takes_order takes_store
 returns-4 c =
     let p = c.before.before.enum-told2.given.1 in
     record { answers = rw (p, ← c.before.kind_at.ensures) c.quiet.ensures; keeps = rw p; stores = rw p }
 
 returns-5 : tie.Need-returns-5
-unfolding takes takesOrder takesStore
+unfolding takes takes_order takes_store
 returns-5 c =
     let p = c.before.before.before.place.given.1 in
     let t = ne_eqb _ _ c.before.if2.false in
     record { answers = rw (p, t) c.quiet2.ensures; keeps = rw p; stores = rw (p, t) }
 
 returns-6 : tie.Need-returns-6
-unfolding takes takesOrder takesStore
+unfolding takes takes_order takes_store
 returns-6 c =
     let p = c.before.enum-told3.given.1 in
     record { answers = rw p c.quiet3.ensures; keeps = rw p; stores = rw p }

@@ -2,7 +2,7 @@
 use native.Mathlib.Omega.{arith}
 use mathlib.Core.Path.{◌≡◌}
 use lib.ListN.{length}
-use Rattle.session.proofs.Appending.{appends-more}
+use Rattle.session.proofs.Appending.{appends_more}
 use borrow.Author.Rules.{rules}
 use Rattle.session.proofs.text.Text.block.Statement.{statement}
 use Rattle.session.proofs.text.Text.block.Tie as tie
@@ -30,7 +30,7 @@ returns-2 c =
     let s = c.before.before.before.before.before.args.self in
     let n : length s.bytes ≡ 64 = search rules in (
       rw c.before.before.before.block.given.1
-          (appends-more s c.before.mark.result c.item.result _ _ (omega arith) c.before.mark.ensures.0 c.item.ensures.0),
+          (appends_more s c.before.mark.result c.item.result _ _ (omega arith) c.before.mark.ensures.0 c.item.ensures.0),
       omega arith,
     )
 

@@ -3,7 +3,7 @@ use borrow.Author.Rules.{rules}
 use mathlib.Core.Path.{◌≡◌, refl}
 use native.Mathlib.Omega.{arith}
 use lib.ListN.{length}
-use Rattle.session.proofs.Appending.{over-one}
+use Rattle.session.proofs.Appending.{over_one}
 use Rattle.session.proofs.text.Text.byte.Statement.{statement}
 use Rattle.session.proofs.text.Text.byte.Tie as tie
 
@@ -16,7 +16,7 @@ add-next c = search rules
 returns : tie.Need-returns
 returns c =
     let n : length c.args.self.bytes ≡ 64 = search rules in
-    record { bytes = over-one c.args.self.bytes c.args.self.len c.args.b (omega arith); len = refl }
+    record { bytes = over_one c.args.self.bytes c.args.self.len c.args.b (omega arith); len = refl }
 
 pub byte-spec : {M : Type 1} → statement M
 byte-spec = tie.close (tie.spec element-write-next add-next returns)
