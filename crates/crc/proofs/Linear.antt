@@ -57,7 +57,7 @@ divide_bit-xor c d a b h k =
 
 pub divide-lt : {c : ℕ} (l : Bits) → c < 2 ^ 16 → divide c l < 2 ^ 16
 divide-lt [] h = h
-divide-lt (b ∷ l) h = divide-lt l (divide_bit-lt b h)
+divide-lt {c = c} (b ∷ l) h = divide-lt {c = divide_bit c b} l (divide_bit-lt b h)
 
 pub divide-append : (c : ℕ) (l m : Bits) → divide c (l ++ m) ≡ divide (divide c l) m
 divide-append c [] m = refl

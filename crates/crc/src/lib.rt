@@ -1,4 +1,6 @@
 // The cyclic check of V.41: the register of x^16 + x^12 + x^5 + 1 over bits, bytes and words.
+#![tactic(auto)]
+
 ghost use Rattle.std.specs.Prelude.{◌≡◌, [], ◌∷◌, ◌++◌, ◌+◌, ◌-◌, ◌%◌, ◌^◌, ◌≤◌, ◌<◌, length, take, drop};
 ghost use Rattle.crc.specs.Bits.{binary, bits_of};
 ghost use Rattle.crc.specs.Words.{bits_of_words, words_of};

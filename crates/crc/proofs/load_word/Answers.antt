@@ -3,7 +3,6 @@ use mathlib.Core.Path.{◌≡◌, sym, ap, ap₂, ◌∙◌}
 use mathlib.Core.List.{List, ◌++◌}
 use Prim.Native.Nat.{ℕ, ◌+◌, ◌*◌, ◌%◌, ◌^◌, ◌<◌}
 use native.Mathlib.Nat.{le_refl}
-use borrow.Author.Rules.{rules}
 use lib.Bits.{bit_or, or_shifted}
 use lib.ListN.{take, drop}
 use lib.Pow.{shl_exact}
@@ -11,8 +10,7 @@ use lib.Seq.{take-add, drop-drop}
 use Rattle.crc.specs.Bits.{Bits, binary, bits_of}
 use Rattle.crc.proofs.Rows.{binary_join}
 use Rattle.crc.proofs.Bytes.{bits_of-append}
-use Rattle.crc.proofs.load_word.Statement.{statement}
-use Rattle.crc.proofs.load_word.Tie as tie
+use Rattle.crc.proofs.load_word.Goals as goal
 
 binary_halves : (h l : ℕ) → h < 2 ^ 32 → l < 2 ^ 32 → binary 64 (bit_or (h * 2 ^ 32 % 2 ^ 64) l) ≡ binary 32 h ++ binary 32 l
 binary_halves h l m n =
@@ -23,21 +21,8 @@ bits_halves s i =
     ap (λ (l : List ℕ). bits_of (take 4 (drop i s)) ++ bits_of (take 4 l)) (sym (drop-drop 4 i s))
     ∙ sym (bits_of-append (take 4 (drop i s)) (take 4 (drop 4 (drop i s)))) ∙ ap bits_of (sym (take-add 4 4 (drop i s)))
 
-load-half-requires : tie.Need-load-half-requires
-load-half-requires c κs = search rules
-
-add-load-half : tie.Need-overflow-add-load-half
-add-load-half c = search rules
-
-load-half-requires-2 : tie.Need-load-half-requires-2
-load-half-requires-2 c κs = search rules
-
-returns : tie.Need-returns
-returns c =
-    let s : List ℕ = c.before.before.before.args.s.now in
-    let i : ℕ = c.before.before.before.args.i in
-    binary_halves c.before.load-half.result c.load-half2.result c.before.load-half.ensures.0 c.load-half2.ensures.0
-    ∙ ap₂ (λ (x y : Bits). x ++ y) c.before.load-half.ensures.1 c.load-half2.ensures.1 ∙ bits_halves s i
-
-pub load-word-spec : {M : Type 1} → statement M
-load-word-spec = tie.close (tie.spec load-half-requires add-load-half load-half-requires-2 returns)
+pub returns : goal.returns
+returns c = let s : List ℕ = c.args.s.now in
+    let i : ℕ = c.args.i in
+    binary_halves c.load_half.result c.load_half-2.result c.load_half.ensures.0 c.load_half-2.ensures.0
+    ∙ ap₂ (λ (x y : Bits). x ++ y) c.load_half.ensures.1 c.load_half-2.ensures.1 ∙ bits_halves s i

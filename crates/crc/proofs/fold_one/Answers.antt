@@ -2,11 +2,7 @@
 use mathlib.Core.Path.{sym}
 use borrow.Author.Rules.{rules}
 use Rattle.crc.proofs.Folding as laws
-use Rattle.crc.proofs.fold_one.Statement.{statement}
-use Rattle.crc.proofs.fold_one.Tie as tie
+use Rattle.crc.proofs.fold_one.Goals as goal
 
-returns : tie.Need-returns
+pub returns : goal.returns
 returns c = sym (laws.fold_one c.args.a c.args.b (search rules))
-
-pub fold-one-spec : {M : Type 1} → statement M
-fold-one-spec = tie.close (tie.spec returns)

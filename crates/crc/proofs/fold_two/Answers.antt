@@ -2,11 +2,7 @@
 use mathlib.Core.Path.{sym}
 use borrow.Author.Rules.{rules}
 use Rattle.crc.proofs.Folding as laws
-use Rattle.crc.proofs.fold_two.Statement.{statement}
-use Rattle.crc.proofs.fold_two.Tie as tie
+use Rattle.crc.proofs.fold_two.Goals as goal
 
-returns : tie.Need-returns
+pub returns : goal.returns
 returns c = sym (laws.fold_two c.args.a c.args.b c.args.c (search rules))
-
-pub fold-two-spec : {M : Type 1} → statement M
-fold-two-spec = tie.close (tie.spec returns)

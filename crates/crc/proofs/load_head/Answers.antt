@@ -10,31 +10,14 @@ use Rattle.crc.specs.Bits.{bits_of}
 use Rattle.crc.specs.Check.{register}
 use Rattle.crc.proofs.Bytes.{take-bits_of}
 use Rattle.crc.proofs.Head.{register_head}
-use Rattle.crc.proofs.load_head.Statement.{statement}
-use Rattle.crc.proofs.load_head.Tie as tie
+use Rattle.crc.proofs.load_head.Goals as goal
 
-load-word-requires : tie.Need-load-word-requires
-load-word-requires c κs = search rules
-
-mul-result : tie.Need-overflow-mul-result
-mul-result c = search rules
-
-sub-result : tie.Need-overflow-sub-result
-sub-result c = search rules
-
-shr-result : tie.Need-overflow-shr-result
-shr-result c = search rules
-
-returns : tie.Need-returns
-returns c =
-    let at : ℕ = c.before.before.args.c in
-    let s : List ℕ = c.before.before.args.s.now in
-    let h : ℕ = c.before.before.args.h in
+pub returns : goal.returns
+returns c = let at : ℕ = c.args.c in
+    let s : List ℕ = c.args.s.now in
+    let h : ℕ = c.args.h in
     let e : 16 + (8 * h - 16) + (64 - 8 * h) ≡ 64 = omega arith in
     let f : 16 + (8 * h - 16) ≡ 8 * h = omega arith in
     register_head at c.load_word.result (8 * h - 16) (64 - 8 * h) (search rules) (search rules) e
     ∙ ap (register at)
     (ap₂ take f c.load_word.ensures ∙ take-bits_of h (take 8 s) ∙ ap bits_of (take-take h 8 s (search rules)))
-
-pub load-head-spec : {M : Type 1} → statement M
-load-head-spec = tie.close (tie.spec load-word-requires mul-result sub-result shr-result returns)
