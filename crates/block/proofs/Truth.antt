@@ -7,7 +7,7 @@ use Prim.Native.Nat.{◌≤◌}
 use native.Mathlib.Omega.{arith}
 use Rattle.crc.specs.Bits.{bit}
 -- the library's, by short names
-pub use mathlib.Core.Bool.{or-false as or_no, or_true as or_yes, and-false as and_no}
+pub use mathlib.Core.Bool.{or-false as or_no, or-true as or_yes, and-false as and_no}
 pub use mathlib.Mathlib.Data.Bool.Basic.{and_elim_left as and_left, and_elim_right as and_right}
 
 pub and_true : (a b : Bool) → a && b ≡ true → (a ≡ true) × (b ≡ true)

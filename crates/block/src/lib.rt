@@ -1,4 +1,6 @@
 // The V.41 block: 4 service bits, k data bits, 16 check bits, packed with the earliest bit in the top bit.
+#![tactic(auto)]
+
 ghost use Rattle.std.specs.Prelude.{◌≡◌, ◌++◌, ◌/◌, get_or};
 ghost use Rattle.crc.specs.Bits.{binary};
 ghost use Rattle.block.specs.Lengths.{is_length};

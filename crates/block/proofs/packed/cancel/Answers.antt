@@ -19,8 +19,8 @@ use Rattle.block.specs.Lengths.{block_length}
 use Rattle.block.specs.Calls.{too_short}
 use Rattle.block.proofs.Block.{cancelled-append}
 use Rattle.block.proofs.Refusals.{cancel_slice, cancel_done}
-use Rattle.block.proofs.packed.cancel.Statement.{statement}
-use Rattle.block.proofs.packed.cancel.Tie as tie
+use Rattle.block.proofs.packed.cancel.Goals as goal
+use Rattle.block.proofs.packed.cancel.Goals.{Else-short_of_block}
 
 -- four bits and 0001
 xor_one : (a b c d : Bool) → xor_bits (a ∷ b ∷ c ∷ d ∷ []) (false ∷ false ∷ false ∷ true ∷ []) ≡ cancelled (a ∷ b ∷ c ∷ d ∷ [])
@@ -86,60 +86,34 @@ module _ (j : ℕ) (s : List ℕ) (h : j < length s) where
       packed (set s j (bit_xor byte 16)) (length s) (cancelled (take (8 * j + 4) (bits_of s)) ++ drop (8 * j + 4) (bits_of s))
       (length-set s j (bit_xor byte 16)) (set_bytes s j (bit_xor byte 16) (xor_lt 8 byte 16 (b j) (lit< tt)) b) bits_stored
 
-short-of-block-requires : tie.Need-short-of-block-requires
-short-of-block-requires c κs = search rules
-
-same_length : tie.Need-same-length
-same_length c = search rules
-
-returns : tie.Need-returns
-returns c =
-    let a = c.before.before.before.before.args in
-    cancel_slice (8 * a.m) a.block.now (sym c.before.short-of-block.ensures ∙ c.if1.true)
+pub returns-then-short_of_block : goal.returns-then-short_of_block
+returns-then-short_of_block c = let a = c.args in
+    cancel_slice (8 * a.m) a.block.now (sym c.short_of_block.ensures ∙ c.if-short_of_block.true)
 
 -- the slice holds the block
-held : (c : tie.Else1) → too_short c.before.before.before.before.args.block.now (block_length (8 * c.before.before.before.before.args.m)) ≡ false
-held c = sym c.before.short-of-block.ensures ∙ c.if1.false
+held : (c : Else-short_of_block) → too_short c.args.block.now (block_length (8 * c.args.m)) ≡ false
+held c = sym c.short_of_block.ensures ∙ c.if-short_of_block.false
 
-room : (c : tie.Else1) → c.before.before.before.before.args.m + 2 < length c.before.before.before.before.args.block.now
+room : (c : Else-short_of_block) → c.args.m + 2 < length c.args.block.now
 room c =
-    let a = c.before.before.before.before.args in
+    let a = c.args in
     omega (arith, ltb-false (8 * length a.block.now) (block_length (8 * a.m)) (held c))
 
-add-block : tie.Need-overflow-add-block
-add-block c = let r = room c in search rules
+pub overflow_add-block : goal.overflow_add-block
+overflow_add-block c = let r = room (goal.at.overflow_add-block c).Else-short_of_block in search rules
 
-slice-read-block : tie.Need-slice-read-block
-slice-read-block c = room c.before
+pub bounds-block-m : goal.bounds-block-m
+bounds-block-m c = room (goal.at.bounds-block-m c).Else-short_of_block
 
-add-block-2 : tie.Need-overflow-add-block-2
-add-block-2 c = let r = room c.before in search rules
+pub overflow_add-block-2 : goal.overflow_add-block-2
+overflow_add-block-2 c = let r = room (goal.at.overflow_add-block-2 c).Else-short_of_block in search rules
 
-slice-write-block : tie.Need-slice-write-block
-slice-write-block c = room c.before
+pub bounds-block-m-2 : goal.bounds-block-m-2
+bounds-block-m-2 c = room (goal.at.bounds-block-m-2 c).Else-short_of_block
 
-same-length-2 : tie.Need-same-length-2
-same-length-2 c = search rules
-
-returns-2 : tie.Need-returns-2
-returns-2 c =
-    let e = c.before in
-    let a = e.before.before.before.before.args in
+pub returns : goal.returns
+returns c = let a = c.args in
     let n : 8 * (a.m + 2) + 4 ≡ block_length (8 * a.m) = omega arith in
-    cancel_done (8 * a.m) a.block.now (held e) _
-    (stored (a.m + 2) a.block.now (room e) (λ i. (c.slice-known2.given i).fits)
+    cancel_done (8 * a.m) a.block.now (held (goal.at.returns c).Else-short_of_block) _
+    (stored (a.m + 2) a.block.now (room (goal.at.returns c).Else-short_of_block) (λ i. (c.slice_known-2-1.given i).fits)
     ∙ ap (λ (x : ℕ). bytes_of (length a.block.now) (cancelled (take x (bits_of a.block.now)) ++ drop x (bits_of a.block.now))) n)
-
-pub cancel-spec : {M : Type 1} → statement M
-cancel-spec =
-    tie.close
-    (tie.spec
-    short-of-block-requires
-    same_length
-    returns
-    add-block
-    slice-read-block
-    add-block-2
-    slice-write-block
-    same-length-2
-    returns-2)

@@ -8,8 +8,7 @@ use Prim.Native.Nat.{ℕ, ◌+◌, ◌*◌, ◌/◌, ◌%◌, ◌^◌, ◌<◌}
 use lib.Bits.{bit_or, bit_and, or_shifted, and_mask}
 use Rattle.crc.specs.Bits.{Bits, binary}
 use Rattle.crc.proofs.Rows.{binary-mod, binary_join}
-use Rattle.block.proofs.received_check.Statement.{statement}
-use Rattle.block.proofs.received_check.Tie as tie
+use Rattle.block.proofs.received_check.Goals as goal
 
 -- as the code joins them
 joined : (a b h : ℕ) → b < 256 → h < 16
@@ -27,18 +26,11 @@ side_by_side a b h hb hh =
     ∙ ap (λ (l : Bits). l ++ binary 4 h) (binary_join 4 8 (a % 16) b hb ∙ ap (λ (l : Bits). l ++ binary 8 b) (binary-mod 4 a))
     ∙ append_assoc (binary 4 a) (binary 8 b) (binary 4 h)
 
-cast-result : tie.Need-overflow-cast-result
-cast-result c = Fits-mask c.args.a 4 tt
+pub overflow_cast-result : goal.overflow_cast-result
+overflow_cast-result c = Fits-mask c.args.a 4 tt
 
-cast-result-2 : tie.Need-overflow-cast-result-2
-cast-result-2 c = search rules
-
-returns : tie.Need-returns
-returns c =
-    let a = c.args in
+pub returns : goal.returns
+returns c = let a = c.args in
     let hb : a.b < 256 = search rules in
     let hc : a.c < 256 = search rules in
     ap (binary 16) (joined a.a a.b (a.c / 16) hb (omega arith)) ∙ side_by_side a.a a.b (a.c / 16) hb (omega arith)
-
-pub received-check-spec : {M : Type 1} → statement M
-received-check-spec = tie.close (tie.spec cast-result cast-result-2 returns)

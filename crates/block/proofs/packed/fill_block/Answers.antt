@@ -1,5 +1,4 @@
 -- `fill_block`: the shifted bytes and the three behind them are the packed block. Assumes nothing.
-use borrow.Author.Rules.{rules}
 use mathlib.Core.List.{List, ◌++◌, append_assoc}
 use mathlib.Core.Path.{◌≡◌, sym, ap, ap₂, ◌∙◌}
 use native.Mathlib.Omega.{arith}
@@ -13,8 +12,7 @@ use Rattle.crc.proofs.Bytes.{length-bits_of, length-bytes_of, bits_of-append, ta
 use Rattle.crc.proofs.Register.{register-append, register-check}
 use Rattle.block.specs.Block.{block_bits}
 use Rattle.block.specs.Calls.{overwritten}
-use Rattle.block.proofs.packed.fill_block.Statement.{statement}
-use Rattle.block.proofs.packed.fill_block.Tie as tie
+use Rattle.block.proofs.packed.fill_block.Goals as goal
 
 module _ (m service : ℕ) (payload : List ℕ) (hp : m ≤ length payload) where
   -- the service bits and the data
@@ -66,46 +64,14 @@ module _ (m service : ℕ) (payload : List ℕ) (hp : m ≤ length payload) wher
       ∙ ap (λ (x : ℕ). (bytes_of m body ++ bytes_of 3 (binary 4 last ++ binary 16 x)) ++ drop (m + 3) block) k
       ∙ ap (λ (l : List ℕ). l ++ drop (m + 3) block) (sym (packed_block last rest))
 
-feed-nibble-requires : tie.Need-feed-nibble-requires
-feed-nibble-requires c κs = search rules
-
-slice-aggregate-feed-bytes : tie.Need-slice-aggregate-feed-bytes
-slice-aggregate-feed-bytes c =
-    let a = c.before.before.before.before.args in
+pub slice_bounds-feed_bytes-end : goal.slice_bounds-feed_bytes-end
+slice_bounds-feed_bytes-end c = let a = c.args in
     sym (length-take-le a.m a.payload.now (omega arith))
 
-feed-bytes-requires : tie.Need-feed-bytes-requires
-feed-bytes-requires c κs = search rules
-
-shift-in-requires : tie.Need-shift-in-requires
-shift-in-requires c κs = search rules
-
-put-check-requires : tie.Need-put-check-requires
-put-check-requires c κs = search rules
-
-same_length : tie.Need-same-length
-same_length c = search rules
-
-returns : tie.Need-returns
-returns c =
-    let s = c.before.before.before.before.before.before in
-    let f = s.before.before in
-    let n = f.before.before in
-    let a = n.before.before.before.args in
-    written a.m a.service a.payload.now (omega arith) a.block.now _ _ f.feed-bytes.result s.shift_in.result
-    (f.feed-bytes.ensures ∙ ap (λ (x : ℕ). register x (bits_of (take a.m a.payload.now))) n.feed-nibble.ensures)
-    s.shift_in.ensures.0
-    s.shift_in.ensures.1
-    c.before.before.put-check.ensures
-
-pub fill-block-spec : {M : Type 1} → statement M
-fill-block-spec =
-    tie.close
-    (tie.spec
-    feed-nibble-requires
-    slice-aggregate-feed-bytes
-    feed-bytes-requires
-    shift-in-requires
-    put-check-requires
-    same_length
-    returns)
+pub returns : goal.returns
+returns c = let a = c.args in
+    written a.m a.service a.payload.now (omega arith) a.block.now _ _ c.feed_bytes-check.result c.shift_in-last.result
+    (c.feed_bytes-check.ensures ∙ ap (λ (x : ℕ). register x (bits_of (take a.m a.payload.now))) c.feed_nibble.ensures)
+    c.shift_in-last.ensures.0
+    c.shift_in-last.ensures.1
+    c.put_check.ensures

@@ -1,6 +1,5 @@
 -- `shift_in`: the first byte holds the service bits and the first half of the data, the others the data shifted.
 -- Assumes nothing.
-use borrow.Author.Rules.{rules}
 use mathlib.Core.List.{List, [], ◌∷◌, ◌++◌, append-nil}
 use mathlib.Core.Path.{◌≡◌, sym, ap, ap₂, subst, ◌∙◌}
 use native.Mathlib.Omega.{arith}
@@ -11,8 +10,7 @@ use lib.Seq.{take_all}
 use Rattle.crc.specs.Bits.{Bits, binary, bits_of, bytes_of}
 use Rattle.block.specs.Calls.{overwritten}
 use Rattle.block.proofs.Packing.{drop_half_first, shifted_first, shifted_rest}
-use Rattle.block.proofs.packed.shift_in.Statement.{statement}
-use Rattle.block.proofs.packed.shift_in.Tie as tie
+use Rattle.block.proofs.packed.shift_in.Goals as goal
 
 -- a part from the second byte on, put back, and the first byte stored
 front : (m c : ℕ) (payload block part : List ℕ) → 0 < m → m ≤ length payload → m ≤ length block → get_or payload 0 0 < 256
@@ -44,42 +42,11 @@ none_written : (m : ℕ) (row : Bits) (block : List ℕ) → m ≡ 0 → block �
 unfolding bytes_of
 none_written m row block z = ap (λ (x : ℕ). overwritten x row block) (sym z)
 
-returns : tie.Need-returns
-returns c =
-    let a = c.before.before.before.args in (
-      none_left a.m a.service a.payload.now c.if1.true,
-      none_written a.m _ a.block.now c.if1.true,
-    )
-
-sub-shift-half : tie.Need-overflow-sub-shift-half
-sub-shift-half c = search rules
-
-sub-shift-half-2 : tie.Need-overflow-sub-shift-half-2
-sub-shift-half-2 c = search rules
-
-part-shift-half-start : tie.Need-slice-bounds-shift-half-start
-part-shift-half-start c = search rules
-
-part-shift-half-end : tie.Need-slice-bounds-shift-half-end
-part-shift-half-end c = search rules
-
-shift-half-requires : tie.Need-shift-half-requires
-shift-half-requires c κs = search rules
-
-shared-slice-read-block : tie.Need-shared-slice-read-block
-shared-slice-read-block c = search rules
-
-slice-write-block : tie.Need-slice-write-block
-slice-write-block c = search rules
-
-sub-result : tie.Need-overflow-sub-result
-sub-result c = search rules
-
-shared-slice-read-result : tie.Need-shared-slice-read-result
-shared-slice-read-result c = search rules
-
-same_length : tie.Need-same-length
-same_length c = search rules
+pub returns-then-m-eq0 : goal.returns-then-m-eq0
+returns-then-m-eq0 c = let a = c.args in (
+  none_left a.m a.service a.payload.now c.if-m-eq0.true,
+  none_written a.m _ a.block.now c.if-m-eq0.true,
+)
 
 -- with data, the last four of them
 rest : (m c : ℕ) (payload : List ℕ) → 0 < m → m ≤ length payload
@@ -89,29 +56,10 @@ rest m c payload hm hp =
     subst (λ (n : ℕ). binary 4 (get_or payload (m - 1) 0) ≡ drop (8 * n) (binary 4 c ++ bits_of (take n payload))) e
     (sym (shifted_rest c (m - 1) payload (omega arith)))
 
-returns-2 : tie.Need-returns-2
-returns-2 c =
-    let a = c.before.before.before.before.before.before.before.before.before.args in
-    let k = c.before in
+pub returns : goal.returns
+returns c = let a = c.args in
     let hm : 0 < a.m = omega arith in (
       rest a.m a.service a.payload.now hm (omega arith),
       front a.m a.service a.payload.now a.block.now _ hm (omega arith) (omega arith)
-          (k.shared-slice-known2.given 0).fits k.before.before.before.shift-half.ensures,
+          (c.shared_slice_known-2-1.given 0).fits c.shift_half.ensures,
     )
-
-pub shift-in-spec : {M : Type 1} → statement M
-shift-in-spec =
-    tie.close
-    (tie.spec
-    returns
-    sub-shift-half
-    sub-shift-half-2
-    part-shift-half-start
-    part-shift-half-end
-    shift-half-requires
-    shared-slice-read-block
-    slice-write-block
-    sub-result
-    shared-slice-read-result
-    same_length
-    returns-2)

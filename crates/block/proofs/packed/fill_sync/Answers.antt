@@ -5,7 +5,7 @@ use mathlib.Core.Bool.{true, false}
 use mathlib.Core.List.{List, [], ◌∷◌, ◌++◌, append_assoc}
 use mathlib.Core.Path.{◌≡◌, refl, sym, ap, ap₂, ◌∙◌}
 use native.Mathlib.Omega.{arith}
-use Prim.Native.Nat.{ℕ, zero, suc, ◌+◌, ◌-◌, ◌*◌, ◌/◌, ◌≤◌}
+use Prim.Native.Nat.{ℕ, zero, suc, ◌+◌, ◌*◌, ◌/◌, ◌≤◌}
 use native.Mathlib.Nat.{suc-add}
 use lib.Bits.{bit_xor}
 use lib.ListN.{length, get_or, drop, set, replicate, length-set, length-append, length-drop, length-replicate}
@@ -14,15 +14,7 @@ use Rattle.crc.specs.Bits.{number, bytes_of}
 use Rattle.block.specs.Block.{tens, service_sync, sync_sequence, sync_block}
 use Rattle.block.specs.Calls.{overwritten}
 use Rattle.block.proofs.Packing.{three_stores}
-use Rattle.block.proofs.packed.fill_sync.Statement.{statement}
-use Rattle.block.proofs.packed.fill_sync.Tie as tie
-
-abbrev invariant_loop : tie.invariant_loop
-invariant_loop m block₀ at₀ block at =
-    (at ≤ m) × (block ≡ replicate at 0xaa ++ drop at block₀) × (length block ≡ length block₀)
-
-abbrev decreases_loop : tie.decreases_loop
-decreases_loop m block₀ at₀ block at = m - at
+use Rattle.block.proofs.packed.fill_sync.Goals as goal
 
 -- the row from half of a byte of 10101010 on
 to_come_lem : (j : ℕ) → bytes_of (j + 3) (true ∷ false ∷ true ∷ false ∷ (tens (4 * j) ++ sync_sequence)) ≡ replicate j 0xaa ++ (0xa5 ∷ 0x0a ∷ 0x50 ∷ [])
@@ -71,74 +63,33 @@ module _ (m i : ℕ) (filled block : List ℕ) (held : m + 3 ≤ length block) (
   written : set stored 0 (bit_xor (get_or stored 0 0) 0xf0) ≡ overwritten (m + 3) (sync_block (8 * m)) block
   written = ap (λ (x : List ℕ). set x 0 (bit_xor (get_or x 0 0) 0xf0)) bytes_stored ∙ inverted m (drop (m + 3) block)
 
-loop-holds : tie.Need-loop-init invariant_loop decreases_loop
-loop-holds c = (search rules, fill_none c.args.block.now 0xaa, refl)
+pub loop-at-init : goal.loop-at-init
+loop-at-init c = (search rules, fill_none c.args.block.now 0xaa, refl)
 
-slice-write-block : tie.Need-slice-write-block invariant_loop decreases_loop
-slice-write-block c = omega arith
-
-add_at : tie.Need-overflow-add-at invariant_loop decreases_loop
-add_at c = omega arith
-
-loop-less : tie.Need-loop-smaller invariant_loop decreases_loop
-loop-less c = omega arith
-
-loop-again : tie.Need-loop-preserved invariant_loop decreases_loop
-loop-again c =
-    let l = c.before.loop in
-    let a = c.before.before.args in (
+pub loop-at-preserved : goal.loop-at-preserved
+loop-at-preserved c = let l = c.loop-at in
+    let a = c.args in (
       omega arith,
       ap (λ (o : List ℕ). set o l.at 0xaa) l.invariant.1 ∙ fill_more l.at 0xaa a.block.now (omega arith),
       length-set l.block l.at 0xaa ∙ l.invariant.2,
     )
 
-slice-write-block-2 : tie.Need-slice-write-block-2 invariant_loop decreases_loop
-slice-write-block-2 c = omega arith
+pub bounds-block-m-2 : goal.bounds-block-m-2
+bounds-block-m-2 c = simp length-set (omega arith)
 
-add-block : tie.Need-overflow-add-block invariant_loop decreases_loop
-add-block c = omega arith
+pub bounds-block-m-3 : goal.bounds-block-m-3
+bounds-block-m-3 c = simp length-set (omega arith)
 
-slice-write-block-3 : tie.Need-slice-write-block-3 invariant_loop decreases_loop
-slice-write-block-3 c = simp length-set (omega arith)
+pub bounds-block-0 : goal.bounds-block-0
+bounds-block-0 c = simp length-set (omega arith)
 
-add-block-2 : tie.Need-overflow-add-block-2 invariant_loop decreases_loop
-add-block-2 c = omega arith
+pub bounds-block-0-2 : goal.bounds-block-0-2
+bounds-block-0-2 c = simp length-set (omega arith)
 
-slice-write-block-4 : tie.Need-slice-write-block-4 invariant_loop decreases_loop
-slice-write-block-4 c = simp length-set (omega arith)
+pub shape_of-block : goal.shape_of-block
+shape_of-block c = simp length-set c.loop-at.invariant.2
 
-slice-read-block : tie.Need-slice-read-block invariant_loop decreases_loop
-slice-read-block c = simp length-set (omega arith)
-
-slice-write-block-5 : tie.Need-slice-write-block-5 invariant_loop decreases_loop
-slice-write-block-5 c = simp length-set (omega arith)
-
-same_length : tie.Need-same-length invariant_loop decreases_loop
-same_length c = simp length-set c.before.before.loop.invariant.2
-
-returns : tie.Need-returns invariant_loop decreases_loop
-returns c =
-    let l = c.before.before.loop in
-    let a = c.before.before.before.args in
+pub returns : goal.returns
+returns c = let l = c.loop-at in
+    let a = c.args in
     written a.m l.at l.block a.block.now (omega arith) (omega arith) l.invariant.1
-
-pub fill-sync-spec : {M : Type 1} → statement M
-fill-sync-spec =
-    tie.close
-    (tie.spec
-    invariant_loop
-    decreases_loop
-    loop-holds
-    slice-write-block
-    add_at
-    loop-less
-    loop-again
-    slice-write-block-2
-    add-block
-    slice-write-block-3
-    add-block-2
-    slice-write-block-4
-    slice-read-block
-    slice-write-block-5
-    same_length
-    returns)

@@ -6,9 +6,7 @@ use native.Mathlib.Omega.{arith}
 use borrow.Author.Tests.{leb-true, leb-false, lt-ltb, le-ltb}
 use lib.Dec.{leb, ltb}
 use lib.ListN.{length}
-use borrow.Author.Rules.{rules}
-use Rattle.block.proofs.too_short.Statement.{statement}
-use Rattle.block.proofs.too_short.Tie as tie
+use Rattle.block.proofs.too_short.Goals as goal
 
 by_bytes : (bytes bits : ℕ) (t : Bool) → (bits ≡ 0 → ⊥) → leb bytes ((bits - 1) / 8) ≡ t → t ≡ ltb (8 * bytes) bits
 by_bytes bytes bits true n e =
@@ -20,15 +18,8 @@ by_bytes bytes bits false n e =
     let g = le-ltb (8 * bytes) bits (omega arith) in
     cc
 
-returns : tie.Need-returns
-returns c = sym (le-ltb (8 * length c.before.args.s.now) c.before.args.bits (omega arith))
+pub returns-then-bits-eq0 : goal.returns-then-bits-eq0
+returns-then-bits-eq0 c = sym (le-ltb (8 * length c.args.s.now) c.args.bits (omega arith))
 
-sub-result : tie.Need-overflow-sub-result
-sub-result c = search rules
-
-returns-2 : tie.Need-returns-2
-returns-2 c =
-    by_bytes (length c.before.args.s.now) c.before.args.bits _ c.if1.false refl
-
-pub too-short-spec : {M : Type 1} → statement M
-too-short-spec = tie.close (tie.spec returns sub-result returns-2)
+pub returns : goal.returns
+returns c = by_bytes (length c.args.s.now) c.args.bits _ c.if-bits-eq0.false refl

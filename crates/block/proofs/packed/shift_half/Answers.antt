@@ -6,26 +6,14 @@ use mathlib.Core.Path.{◌≡◌, refl, ap, ap₂, sym, ◌∙◌}
 use native.Mathlib.Nat.{sub-zero}
 use native.Mathlib.Numerals.{add-one}
 use native.Mathlib.Omega.{arith}
-use Prim.Native.Nat.{ℕ, suc, ◌+◌, ◌-◌, ◌*◌, ◌/◌, ◌%◌, ◌^◌, ◌≤◌, ◌<◌}
+use Prim.Native.Nat.{ℕ, suc, ◌+◌, ◌-◌, ◌*◌, ◌/◌, ◌%◌, ◌^◌, ◌<◌}
 use lib.Bits.{bit_or}
 use lib.ListN.{length, get_or, take, drop, set, length-set, take-append-drop}
 use lib.Seq.{take-suc-set, drop-set-lt, drop-drop}
 use Rattle.crc.specs.Bits.{Bits, binary, bits_of, bytes_of}
 use Rattle.block.proofs.Packing.{drop_half_first, shifted_first}
-use Rattle.block.proofs.packed.shift_half.Statement.{statement}
-use Rattle.block.proofs.packed.shift_half.Tie as tie
-
--- what is to come from place i on: the half of the byte there, and the bytes behind it
-abbrev to_come : List ℕ → ℕ → Bits
-to_come from i = binary 4 (get_or from i 0) ++ bits_of (drop (i + 1) from)
-
-abbrev invariant_loop : tie.invariant_loop
-invariant_loop m from to₀ i₀ to i =
-    (i ≤ m) × (length to ≡ length to₀) × (drop i to ≡ drop i to₀)
-    × (take i to ++ bytes_of (m - i) (to_come from i) ≡ bytes_of m (drop 4 (bits_of from)))
-
-abbrev decreases_loop : tie.decreases_loop
-decreases_loop m from to₀ i₀ to i = m - i
+use Rattle.block.proofs.packed.shift_half.Goals as goal
+use Rattle.block.proofs.packed.shift_half.Invariants.{to_come}
 
 start : (m : ℕ) (from : List ℕ) → m < length from → bytes_of (m - 0) (to_come from 0) ≡ bytes_of m (drop 4 (bits_of from))
 start m from h = ap₂ bytes_of (sub-zero m) (sym (drop_half_first from (omega arith)))
@@ -54,60 +42,23 @@ last to to₀ m i row rest hi hd hr =
     ∙ ap₂ (λ (l t : List ℕ). l ++ t) (sym (append-nil (take i to)) ∙ ap (λ (n : ℕ). take i to ++ bytes_of n rest) (sym z) ∙ hr)
     (hd ∙ ap (λ (n : ℕ). drop n to₀) hi)
 
-loop-holds : tie.Need-loop-init invariant_loop decreases_loop
-loop-holds c = (search rules, refl, refl, start c.args.m c.args.from.now (search rules))
+pub loop-i-init : goal.loop-i-init
+loop-i-init c = (search rules, refl, refl, start c.args.m c.args.from.now (search rules))
 
-shared-slice-read-to : tie.Need-shared-slice-read-to invariant_loop decreases_loop
-shared-slice-read-to c = omega arith
-
-add-to : tie.Need-overflow-add-to invariant_loop decreases_loop
-add-to c = omega arith
-
-shared-slice-read-to-2 : tie.Need-shared-slice-read-to-2 invariant_loop decreases_loop
-shared-slice-read-to-2 c = omega arith
-
-slice-write-to : tie.Need-slice-write-to invariant_loop decreases_loop
-slice-write-to c = omega arith
-
-add-i : tie.Need-overflow-add-i invariant_loop decreases_loop
-add-i c = omega arith
-
-loop-less : tie.Need-loop-smaller invariant_loop decreases_loop
-loop-less c = omega arith
-
-loop-again : tie.Need-loop-preserved invariant_loop decreases_loop
-loop-again c =
-    let l = c.before.before.before.loop in
-    let a = c.before.before.before.before.args in
-    let h : get_or a.from.now (l.i + 1) 0 < 256 = (c.shared-slice-known2.given (l.i + 1)).fits in (
+pub loop-i-preserved : goal.loop-i-preserved
+loop-i-preserved c = let l = c.loop-i in
+    let a = c.args in
+    let h : get_or a.from.now (l.i + 1) 0 < 256 = (c.shared_slice_known-in-loop-i-1.given (l.i + 1)).fits in (
       omega arith,
       simp length-set l.invariant.1,
       drop-set-lt (l.i + 1) l.to l.i _ (omega arith) ∙ further l.to a.to.now l.i l.invariant.2,
       step l.to a.from.now a.m l.i _ (omega arith) (omega arith) (omega arith) h refl ∙ l.invariant.3,
     )
 
-same_length : tie.Need-same-length invariant_loop decreases_loop
-same_length c = c.before.loop.invariant.1
+pub shape_of-to : goal.shape_of-to
+shape_of-to c = c.loop-i.invariant.1
 
-returns : tie.Need-returns invariant_loop decreases_loop
-returns c =
-    let l = c.before.loop in
-    let a = c.before.before.args in
+pub returns : goal.returns
+returns c = let l = c.loop-i in
+    let a = c.args in
     last l.to a.to.now a.m l.i (drop 4 (bits_of a.from.now)) (to_come a.from.now l.i) (omega arith) l.invariant.2 l.invariant.3
-
-pub shift-half-spec : {M : Type 1} → statement M
-shift-half-spec =
-    tie.close
-    (tie.spec
-    invariant_loop
-    decreases_loop
-    loop-holds
-    shared-slice-read-to
-    add-to
-    shared-slice-read-to-2
-    slice-write-to
-    add-i
-    loop-less
-    loop-again
-    same_length
-    returns)
