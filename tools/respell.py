@@ -22,6 +22,15 @@ DECLARED = re.compile(r"^(?:\s*)(?:(?:pub|abbrev|unfoldable|private)\s+)*([^\s()
 LIBRARY = set("length take drop append map set get_or replicate add mul sub div mod pow lt le ltb leb eqb and or not min max zero suc cons nil xor cond".split())
 # names that one spelling would make one. A lemma with a dash beside a definition in camel case ends in _lem by itself.
 CLASH = {
+    "sync-block": "reads_sync",
+    # fields, and the number of a refusal, beside a definition
+    "loop-time": "loop_time",
+    "same-verdict": "same_verdict",
+    "read-tint": "read_tint",
+    "write-tint": "write_tint",
+    "open-sender": "open_sender",
+    "open-receiver": "open_receiver",
+    "build-block": "build_block",
     "unlessRefused": "outcomes_unless_refused",
     "xor-bits-assoc": "xor_bit_assoc",
     "xor-bits-comm": "xor_bit_comm",
@@ -200,7 +209,8 @@ def main():
         return 0
     for path in antt_files():
         local = LOCAL.get(str(path.relative_to(ROOT)), {})
-        path.write_text(turn_antt(turn_local(path.read_text(), local), table))
+        more = {"under-alarm": "under_alarm"} if path.name == "BitsUsed.antt" else {}
+        path.write_text(turn_antt(turn_local(path.read_text(), local), {**table, **more}))
     for path in sorted(ROOT.glob("crates/*/src/**/*.rt")):
         path.write_text(turn_rt(path.read_text(), table))
     for path in sorted(ROOT.glob("crates/*/must-fail/**/*.edit")):

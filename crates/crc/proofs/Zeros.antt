@@ -88,7 +88,7 @@ same_truth false false h = refl
 pub any_place : AnyPlace
 any_place = record {
   no_remainder = no_remainder;
-  same_verdict_lem = λ i j e.
+  same_verdict = λ i j e.
       let l : Bits = zeros i ++ (e ++ zeros j) in
       same_truth (passes l) (passes e)
       (Iff.trans (passes-remainder l) (Iff.trans (no_remainder i j e) (Iff.symm (passes-remainder e))));

@@ -5,4 +5,4 @@ use Rattle.crc.specs.Check.{remainder, passes}
 
 pub record AnyPlace : Type 0 where
   pub no_remainder : (i j : ℕ) (e : Bits) → (remainder (zeros i ++ (e ++ zeros j)) ≡ 0) ↔ (remainder e ≡ 0)
-  pub same_verdict_lem : (i j : ℕ) (e : Bits) → passes (zeros i ++ (e ++ zeros j)) ≡ passes e
+  pub same_verdict : (i j : ℕ) (e : Bits) → passes (zeros i ++ (e ++ zeros j)) ≡ passes e

@@ -18,7 +18,7 @@ use Rattle.block.proofs.Passing.{verdict_passed, verdict_failed}
 use Rattle.block.proofs.Truth.{cond_case}
 use Rattle.line.specs.Order.{item_service, item_bits}
 use Rattle.line.specs.Sending.{item, sent_bits}
-use Rattle.line.specs.Receiving.{Rule, unfinished, standing, sequence_found, sync_block_lem, check_fails, accepts, previous, out_of_sequence, ends, wrong_length, ends_again, anything_else, waits, meaning, verdict_rule, looks_sync, judge, or_wait, block_rule, missing, Reception, stops, idle_rule, reception, receive, reported}
+use Rattle.line.specs.Receiving.{Rule, unfinished, standing, sequence_found, reads_sync, check_fails, accepts, previous, out_of_sequence, ends, wrong_length, ends_again, anything_else, waits, meaning, verdict_rule, looks_sync, judge, or_wait, block_rule, missing, Reception, stops, idle_rule, reception, receive, reported}
 use Rattle.line.specs.BadRemainder.{ReadsInStep, BadRemainder}
 use Rattle.line.specs.declared.marks.Marks.{Marks}
 use Rattle.line.specs.declared.receiver.Receiver.{Receiver}
@@ -55,7 +55,7 @@ data_not_bad : (x : Rule) → (meaning x).data_or_end ≡ true → is_bad (meani
 data_not_bad unfinished d = refl
 data_not_bad (standing alarm) d = absurd (false≢true d)
 data_not_bad sequence_found d = refl
-data_not_bad sync_block_lem d = refl
+data_not_bad reads_sync d = refl
 data_not_bad (check_fails r) d = absurd (false≢true d)
 data_not_bad accepts d = refl
 data_not_bad previous d = refl
@@ -104,7 +104,7 @@ module _ (row : Bits) where
     block_shows : Shows row (or_wait ready (judge in_use k r ended row))
     unfolding judge
     block_shows =
-        cond_case (λ (x : Rule). Shows row (or_wait ready x)) (looks_sync k row) (λ e. other_event sync_block_lem refl)
+        cond_case (λ (x : Rule). Shows row (or_wait ready x)) (looks_sync k row) (λ e. other_event reads_sync refl)
         (λ e. verdict_shows (verdict row) refl)
 
 idle-not_bad : (p : Phase) → is_bad (meaning (idle_rule p)).event ≡ false

@@ -17,7 +17,7 @@ use Rattle.line.proofs.ReceptionCases.{received_case}
 
 -- all of them, ...
 uses_all : (p : Phase) (count used : ℕ) → used ≡ count → Uses p count used
-uses_all p count used e = record { at_least_one = λ h. omega arith; at_most_lent = omega arith; under_alarm_lem = λ a. e; of_none = λ z. omega arith }
+uses_all p count used e = record { at_least_one = λ h. omega arith; at_most_lent = omega arith; under_alarm = λ a. e; of_none = λ z. omega arith }
 
 -- ... or some of them, where no alarm stands
 uses_some : (p q : Phase) (count used : ℕ) → p ≡ q → alarm_stands q ≡ false → 1 ≤ used → used ≤ count → Uses p count used
@@ -25,7 +25,7 @@ uses_some p q count used e a l h =
     record {
       at_least_one = λ n. l;
       at_most_lent = h;
-      under_alarm_lem = λ t. absurd (false≢true (sym (ap alarm_stands e ∙ a) ∙ t));
+      under_alarm = λ t. absurd (false≢true (sym (ap alarm_stands e ∙ a) ∙ t));
       of_none = λ z. omega arith;
     }
 

@@ -26,7 +26,7 @@ use Rattle.block.specs.declared.Read.TheVariants as B
 use Rattle.block.specs.contracts.Read.{the_type}
 use Rattle.block.proofs.Lengths.{whole_bytes}
 use Rattle.block.proofs.Refusals.{service_done, move_done}
-use Rattle.line.specs.Receiving.{last_bad, after_bad, Rule, sync_block_lem, check_fails, accepts, meaning, end_rule, service_rule, looks_sync, judge, or_wait, block_rule, stops, Reception, store_at}
+use Rattle.line.specs.Receiving.{last_bad, after_bad, Rule, reads_sync, check_fails, accepts, meaning, end_rule, service_rule, looks_sync, judge, or_wait, block_rule, stops, Reception, store_at}
 use Rattle.line.specs.Code.ReceiveSteps.{rule_of, stepped, handed_back, judged, Handed}
 use Rattle.line.specs.declared.receiver.Receiver.{Receiver}
 use Rattle.line.specs.declared.receiving.Event.TheVariants as E
@@ -89,7 +89,7 @@ module _ (s : Receiver) (row : Bits) (used : ℕ) (store : List ℕ) (r : Step) 
 -- ---- the rule of a row
 
 module _ (s : Receiver) (row : Bits) (ready : Bool) where
-  pub rule_sync : looks_sync s.setup.k row ≡ true → sync_block_lem ≡ block_rule s row ready
+  pub rule_sync : looks_sync s.setup.k row ≡ true → reads_sync ≡ block_rule s row ready
   unfolding judge
   rule_sync e = sym (rw e)
 

@@ -8,7 +8,7 @@ use lib.ListN.{take}
 use Rattle.crc.specs.Bits.{bits_of}
 use Rattle.block.specs.Answer.{done}
 use Rattle.block.proofs.Truth.{cond_case}
-use Rattle.line.specs.Receiving.{Rule, unfinished, standing, sequence_found, sync_block_lem, check_fails, accepts, previous, out_of_sequence, ends, wrong_length, ends_again, anything_else, waits, last_bad, after_bad, after, block_rule, finished_row, Reception, receive}
+use Rattle.line.specs.Receiving.{Rule, unfinished, standing, sequence_found, reads_sync, check_fails, accepts, previous, out_of_sequence, ends, wrong_length, ends_again, anything_else, waits, last_bad, after_bad, after, block_rule, finished_row, Reception, receive}
 use Rattle.line.specs.declared.receiver.Receiver.{Receiver}
 use Rattle.line.proofs.ReceptionCases.{received_case}
 
@@ -20,7 +20,7 @@ module _ (s : Receiver) where
   after_setup unfinished = refl
   after_setup (standing alarm) = refl
   after_setup sequence_found = refl
-  after_setup sync_block_lem = refl
+  after_setup reads_sync = refl
   after_setup (check_fails n) = bad_setup (leb last_bad (s.bad_row + 1))
   after_setup accepts = refl
   after_setup previous = refl

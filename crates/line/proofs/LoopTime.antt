@@ -2,7 +2,7 @@
 use mathlib.Core.Path.{◌≡◌, refl}
 use mathlib.Core.Logic.{◌↔◌}
 use mathlib.Core.Bool.{Bool, true, false, not, ◌||◌, false≢true}
-use Prim.Native.Nat.{ℕ, zero, suc, ◌+◌, ◌-◌, ◌*◌, ◌/◌, ◌<◌}
+use Prim.Native.Nat.{ℕ, zero, suc, ◌+◌, ◌-◌, ◌<◌}
 use native.Mathlib.Nat.{div-lt_iff_lt-mul}
 use native.Mathlib.Omega.{arith}
 use borrow.Author.Tests.{ltb-true, leb-true, leb-false, lt-ltb}
@@ -10,7 +10,7 @@ use lib.Dec.{leb, ltb}
 use Rattle.block.specs.Answer as A
 use Rattle.line.specs.Refusals as Refusals
 use Rattle.block.specs.Answer.{Answer, refused, done, refuse_if}
-use Rattle.block.specs.Lengths.{is_length, block_length}
+use Rattle.block.specs.Lengths.{is_length}
 use Rattle.line.specs.LoopTime.{is_speed, block_time, has_entry, longest_loop, loop_time, Unrounded}
 
 speed_pos : (speed : ℕ) → is_speed speed ≡ true → 0 < speed
@@ -28,13 +28,13 @@ above_entry q loop_ms true e =
 -- 3 is answered exactly if k is known, the speed is listed, and the loop is above the entry
 third-refusal : (known listed above : Bool)
     → (◌≡◌ {A = Answer (Unit {0})}
-    (refuse_if (not known) A.block (refuse_if (not listed) Refusals.speed (refuse_if above Refusals.loop_time_lem (done tt))))
-    (refused Refusals.loop_time_lem))
+    (refuse_if (not known) A.block (refuse_if (not listed) Refusals.speed (refuse_if above Refusals.loop_time (done tt))))
+    (refused Refusals.loop_time))
     ↔ ((known ≡ true) × (listed ≡ true) × (above ≡ true))
 third-refusal false listed above =
-    (λ e. absurd (let z : ◌≡◌ {A = ℕ} A.block Refusals.loop_time_lem = cc in omega arith), λ h. absurd (false≢true h.0))
+    (λ e. absurd (let z : ◌≡◌ {A = ℕ} A.block Refusals.loop_time = cc in omega arith), λ h. absurd (false≢true h.0))
 third-refusal true false above =
-    (λ e. absurd (let z : ◌≡◌ {A = ℕ} Refusals.speed Refusals.loop_time_lem = cc in omega arith), λ h. absurd (false≢true h.1))
+    (λ e. absurd (let z : ◌≡◌ {A = ℕ} Refusals.speed Refusals.loop_time = cc in omega arith), λ h. absurd (false≢true h.1))
 third-refusal true true false =
     (λ e. absurd (let z : ◌≡◌ {A = ℕ} 0 1 = cc in omega arith), λ h. absurd (false≢true h.2))
 third-refusal true true true = (λ e. (refl, refl, refl), λ h. refl)

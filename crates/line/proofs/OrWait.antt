@@ -7,14 +7,14 @@ use Prim.Native.Nat.{ℕ, ◌+◌}
 use native.Mathlib.Omega.{arith}
 use lib.Dec.{eqb, leb}
 use Rattle.block.proofs.Truth.{cond_case}
-use Rattle.line.specs.Receiving.{Rule, unfinished, standing, sequence_found, sync_block_lem, check_fails, accepts, previous, out_of_sequence, ends, wrong_length, ends_again, anything_else, waits, meaning, event_kind, or_wait, last_bad, after_bad, after}
+use Rattle.line.specs.Receiving.{Rule, unfinished, standing, sequence_found, reads_sync, check_fails, accepts, previous, out_of_sequence, ends, wrong_length, ends_again, anything_else, waits, meaning, event_kind, or_wait, last_bad, after_bad, after}
 use Rattle.line.specs.declared.receiver.Receiver.{Receiver}
 
 pub at_ready : (x : Rule) → or_wait true x ≡ x
 at_ready unfinished = refl
 at_ready (standing alarm) = refl
 at_ready sequence_found = refl
-at_ready sync_block_lem = refl
+at_ready reads_sync = refl
 at_ready (check_fails r) = refl
 at_ready accepts = refl
 at_ready previous = refl
@@ -29,7 +29,7 @@ pub same_data_or_end : (ready : Bool) (x : Rule) → (meaning (or_wait ready x))
 same_data_or_end ready unfinished = refl
 same_data_or_end ready (standing alarm) = refl
 same_data_or_end ready sequence_found = refl
-same_data_or_end ready sync_block_lem = refl
+same_data_or_end ready reads_sync = refl
 same_data_or_end ready (check_fails r) = refl
 same_data_or_end ready accepts = cond_case (λ (x : Rule). (meaning x).data_or_end ≡ true) ready (λ e. refl) (λ e. refl)
 same_data_or_end ready previous = refl
@@ -47,7 +47,7 @@ pub others_stay : (x : Rule) → (event_kind (meaning x).event).new ≡ false �
 others_stay unfinished n e = refl
 others_stay (standing alarm) n e = refl
 others_stay sequence_found n e = refl
-others_stay sync_block_lem n e = refl
+others_stay reads_sync n e = refl
 others_stay (check_fails r) n e = refl
 others_stay accepts n e = absurd (true≢false n)
 others_stay previous n e = refl
@@ -62,7 +62,7 @@ pub stores_nothing : (x : Rule) → (meaning (or_wait false x)).stores ≡ false
 stores_nothing unfinished = refl
 stores_nothing (standing alarm) = refl
 stores_nothing sequence_found = refl
-stores_nothing sync_block_lem = refl
+stores_nothing reads_sync = refl
 stores_nothing (check_fails r) = refl
 stores_nothing accepts = refl
 stores_nothing previous = refl
@@ -85,7 +85,7 @@ module _ (s : Receiver) where
   takes_nothing unfinished = (refl, refl)
   takes_nothing (standing alarm) = (refl, refl)
   takes_nothing sequence_found = (refl, refl)
-  takes_nothing sync_block_lem = (refl, refl)
+  takes_nothing reads_sync = (refl, refl)
   takes_nothing (check_fails r) = same_bad (leb last_bad (s.bad_row + 1))
   takes_nothing accepts = (refl, refl)
   takes_nothing previous = (refl, refl)

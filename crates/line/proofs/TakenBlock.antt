@@ -16,7 +16,7 @@ use Rattle.block.proofs.Lengths.{length_facts}
 use Rattle.block.proofs.Truth.{cond_case, or_no, or_yes}
 use Rattle.line.specs.Marks.{is_mark}
 use Rattle.line.specs.Order.{most_items, valid_length, is_letter, end_service, version}
-use Rattle.line.specs.Receiving.{Rule, unfinished, standing, sequence_found, sync_block_lem, check_fails, accepts, previous, out_of_sequence, ends, wrong_length, ends_again, anything_else, waits, meaning, is_accepted, is_ended, takes_block, Place, expected, last, next, other, place, place_rule, makes_items, end_rule, mark_rule, service_rule, verdict_rule, looks_sync, judge, or_wait, block_rule, after_good, last_bad, after_bad, after, finished_row, Reception, idle_rule, receive}
+use Rattle.line.specs.Receiving.{Rule, unfinished, standing, sequence_found, reads_sync, check_fails, accepts, previous, out_of_sequence, ends, wrong_length, ends_again, anything_else, waits, meaning, is_accepted, is_ended, takes_block, Place, expected, last, next, other, place, place_rule, makes_items, end_rule, mark_rule, service_rule, verdict_rule, looks_sync, judge, or_wait, block_rule, after_good, last_bad, after_bad, after, finished_row, Reception, idle_rule, receive}
 use Rattle.line.specs.declared.receiver.Receiver.{Receiver}
 use Rattle.line.specs.declared.receiving.Phase.{Phase}
 use Rattle.line.specs.declared.receiving.Phase.TheVariants as P
@@ -123,7 +123,7 @@ module _ (s : Receiver) where
     after-takes unfinished u f = absurd (false≢true (sym u))
     after-takes (standing alarm) u f = absurd (false≢true (sym u))
     after-takes sequence_found u f = nothing E.Sync _ refl refl refl refl
-    after-takes sync_block_lem u f = nothing E.Sync _ refl refl refl refl
+    after-takes reads_sync u f = nothing E.Sync _ refl refl refl refl
     after-takes (check_fails n) u f = bad_takes n (leb last_bad (s.bad_row + 1))
     after-takes accepts u f =
         record {

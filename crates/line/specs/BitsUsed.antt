@@ -17,7 +17,7 @@ alarm_stands P.LengthAlarm = true
 pub record Uses (phase : Phase) (count used : ℕ) : Type 0 where
   pub at_least_one : 1 ≤ count → 1 ≤ used
   pub at_most_lent : used ≤ count
-  pub under_alarm_lem : alarm_stands phase ≡ true → used ≡ count
+  pub under_alarm : alarm_stands phase ≡ true → used ≡ count
   pub of_none : count ≡ 0 → used ≡ 0
 
 -- Calls that are not refused, each on the state that the one before handed back and lent as many bits as that one left, whatever

@@ -1,6 +1,6 @@
 -- A list of calls at both ends: what follows from the openings and the calls' own arguments, and what the calls did.
 -- Assumes nothing.
-use Rattle.std.specs.Prelude.{◌≡◌, Bool, List, [], ◌∷◌, ℕ, take, drop}
+use Rattle.std.specs.Prelude.{Bool, List, [], ◌∷◌, ℕ, take, drop}
 use Rattle.crc.specs.Bits.{Bits, bits_of}
 use Rattle.block.specs.Answer.{Answer, refused, done}
 use Rattle.line.specs.Order.{order_bits}

@@ -9,10 +9,9 @@ use Rattle.line.specs.Marks.{marks_of}
 use Rattle.line.specs.Order.{item_count, filled, order_bits}
 use Rattle.line.specs.Sending.{Block, synchronising, item, OpenSender, gave_up}
 use Rattle.line.specs.Receiving.{Rule, meaning, EventKind, event_kind, with_length, OpenReceiver}
-use Rattle.line.specs.Course.{Call, World, opened, Sent, Heard, Entry, send_refused, receive_refused, sent, heard, on_sent, on_heard, course, final, Result, results, Run, observed}
+use Rattle.line.specs.Course.{Call, World, opened, Sent, Heard, Entry, send_refused, receive_refused, sent, heard, on_sent, on_heard, course, final, results, Run, observed}
 use Rattle.line.specs.declared.marks.CodeSize.{CodeSize}
 use Rattle.line.specs.declared.sender.Sender.{Sender}
-use Rattle.line.specs.declared.sender.Opened.{Opened}
 use Rattle.line.specs.declared.sender.Opened.TheVariants as SenderOpened
 use Rattle.line.specs.declared.receiver.Receiver.{Receiver}
 use Rattle.line.specs.declared.receiving.Event.{Event}

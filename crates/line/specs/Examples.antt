@@ -28,8 +28,8 @@ examples =
     ∷ items 240 241 2
     ∷ items 240 262144 1093
     ∷ loop 240 1200 126 (done tt)
-    ∷ loop 240 1200 127 (refused Refusals.loop_time_lem)
-    ∷ loop 240 4800 0 (refused Refusals.loop_time_lem)
+    ∷ loop 240 1200 127 (refused Refusals.loop_time)
+    ∷ loop 240 4800 0 (refused Refusals.loop_time)
     ∷ []
 
 abbrev pub same_verdict : Answer (Unit {0}) → Answer (Unit {0}) → Bool

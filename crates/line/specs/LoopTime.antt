@@ -32,7 +32,7 @@ unfoldable pub loop_time : ℕ → ℕ → ℕ → Answer (Unit {0})
 loop_time k speed loop_ms =
     refuse_if (not (is_length k)) A.block
     (refuse_if (not (is_speed speed)) Refusals.speed
-    (refuse_if (not (has_entry k speed) || ltb (longest_loop k speed) loop_ms) Refusals.loop_time_lem (done tt)))
+    (refuse_if (not (has_entry k speed) || ltb (longest_loop k speed) loop_ms) Refusals.loop_time (done tt)))
 
 abbrev pub loop_answer : LoopTime → Answer (Unit {0})
 loop_answer W.Allowed = done tt
@@ -46,5 +46,5 @@ pub record LoopTest (k speed loop_ms : ℕ) (answer : LoopTime) : Type 0 where
 unfoldable pub Unrounded : Type 0
 Unrounded =
     (k speed loop_ms : ℕ)
-    → (loop_time k speed loop_ms ≡ refused Refusals.loop_time_lem)
+    → (loop_time k speed loop_ms ≡ refused Refusals.loop_time)
     ↔ ((is_length k ≡ true) × (is_speed speed ≡ true) × (block_length k * 1000 < (loop_ms + 90) * speed))

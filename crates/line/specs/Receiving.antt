@@ -74,7 +74,7 @@ pub data Rule : Type 0 where
   unfinished : Rule  -- all bits were used without an event
   standing : Event → Rule  -- an alarm stood before the call
   sequence_found : Rule  -- the search found its sequence
-  sync_block_lem : Rule  -- rule 1
+  reads_sync : Rule  -- rule 1
   check_fails : ℕ → Rule  -- rule 2, with this remainder
   accepts : Rule  -- rule 3
   previous : Rule  -- rule 4
@@ -101,7 +101,7 @@ abbrev pub meaning : Rule → Meaning
 meaning unfinished = meant E.None true false false false
 meaning (standing alarm) = meant alarm true false false false
 meaning sequence_found = meant E.Sync false false false false
-meaning sync_block_lem = meant E.Sync false false false false
+meaning reads_sync = meant E.Sync false false false false
 meaning (check_fails remainder) = meant (E.Bad remainder) false false false false
 meaning accepts = meant E.Accepted false true true true
 meaning previous = meant E.Previous false false true true
@@ -206,7 +206,7 @@ looks_sync k row =
     eqb (number (service_of row)) (number service_sync) && eqb (number (drop (k + 4) row)) (number sync_sequence)
 
 unfoldable pub judge : Bool → ℕ → ℕ → Bool → Bits → Rule
-judge in_use k r ended row = cond (looks_sync k row) sync_block_lem (verdict_rule in_use k r ended row (verdict row))
+judge in_use k r ended row = cond (looks_sync k row) reads_sync (verdict_rule in_use k r ended row (verdict row))
 
 -- ---- after the judging, the machine's readiness: a block that would be accepted or ended waits where it is not ready
 
@@ -214,7 +214,7 @@ abbrev pub or_wait : Bool → Rule → Rule
 or_wait ready unfinished = unfinished
 or_wait ready (standing alarm) = standing alarm
 or_wait ready sequence_found = sequence_found
-or_wait ready sync_block_lem = sync_block_lem
+or_wait ready reads_sync = reads_sync
 or_wait ready (check_fails remainder) = check_fails remainder
 or_wait ready accepts = cond ready accepts waits
 or_wait ready previous = previous
@@ -265,7 +265,7 @@ abbrev pub after : Receiver → Rule → Receiver
 after s unfinished = s
 after s (standing alarm) = s
 after s sequence_found = after_good s s.taken s.ended
-after s sync_block_lem = after_good s s.taken s.ended
+after s reads_sync = after_good s s.taken s.ended
 after s (check_fails remainder) = after_bad s (leb last_bad (s.bad_row + 1))
 after s accepts = after_good s (s.taken + 1) s.ended
 after s previous = after_good s s.taken s.ended

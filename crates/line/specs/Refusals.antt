@@ -5,8 +5,8 @@ use Rattle.std.specs.Prelude.{ℕ}
 abbrev pub speed : ℕ
 speed = 2
 
-abbrev pub loop_time_lem : ℕ
-loop_time_lem = 3
+abbrev pub loop_time : ℕ
+loop_time = 3
 
 abbrev pub empty : ℕ
 empty = 4

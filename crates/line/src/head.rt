@@ -20,7 +20,7 @@ use block::{OVERHEAD, Read, packed, too_short};
 const LAST_BAD: usize = 8;
 
 // A receiver without its array.
-#[derive(Drop)]
+#[derive(Clone, Copy)]
 pub struct Head {
     pub setup: Setup,
     pub held: usize,

@@ -1,4 +1,6 @@
 // The order line's two ends: loop times, the order as items, the sending end and the receiving end.
+#![tactic(auto)]
+
 pub mod head;
 mod hold;
 pub mod loop_time;

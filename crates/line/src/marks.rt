@@ -11,14 +11,14 @@ const MARK_7: u8 = 0b1011;
 const MARK_8: u8 = 0b0010;
 
 // What an opening is given: a machine word, so that a size out of range is not cut to one in range.
-#[derive(Drop)]
+#[derive(Clone, Copy)]
 pub enum CodeSize {
     NotGiven,
     Given(usize),
 }
 
 // What a state keeps of it. Without marks nobody judges the size.
-#[derive(Drop)]
+#[derive(Clone, Copy)]
 pub struct Marks {
     pub in_use: bool,
     pub size: u8,

@@ -5,7 +5,7 @@ use crate::marks::Marks;
 // The bytes of the array that holds one unfinished block.
 pub const ARRAY_SIZE: usize = 483;
 
-#[derive(Drop)]
+#[derive(Clone, Copy)]
 pub enum Phase {
     Search,
     InStep,
@@ -14,13 +14,13 @@ pub enum Phase {
 }
 
 // What opening fixes: the data bits of a block and the marks.
-#[derive(Drop)]
+#[derive(Clone, Copy)]
 pub struct Setup {
     pub k: usize,
     pub marks: Marks,
 }
 
-#[derive(Drop)]
+#[derive(Clone, Copy)]
 pub enum Event {
     None,
     Sync,

@@ -17,7 +17,7 @@ const SYNC_RUN: usize = 4;
 const LAST_RUN: usize = 64;
 
 // What goes out at the next call.
-#[derive(Drop)]
+#[derive(Clone, Copy)]
 pub enum Next {
     Sync,
     Older,
@@ -25,14 +25,14 @@ pub enum Next {
 }
 
 // What opening fixes: the data bits of a block, the bits of the order and the marks.
-#[derive(Drop)]
+#[derive(Clone, Copy)]
 pub struct Setup {
     pub k: usize,
     pub length: usize,
     pub marks: Marks,
 }
 
-#[derive(Drop)]
+#[derive(Clone, Copy)]
 pub struct Sender {
     pub setup: Setup,
     // The newer item of the pair; the older is the one before it.

@@ -6,7 +6,7 @@ ghost use Rattle.line.specs.Code.ReceiveSteps.{WindowInRange, window_bits};
 
 use block::SEQUENCE;
 
-#[derive(Drop)]
+#[derive(Clone, Copy)]
 pub(crate) struct Window {
     pub held: usize,
     // The bits held, as a number.

@@ -75,7 +75,7 @@ noise_word_lem inverted turned = over inverted (flag_word turned 0x200)
 -- the numbers that the calls refuse by
 abbrev pub in_use : List ℕ
 in_use =
-    A.block ∷ Refusals.speed ∷ Refusals.loop_time_lem ∷ Refusals.empty ∷ Refusals.long ∷ A.short ∷ A.spoiled ∷ Refusals.rest ∷ Refusals.code_size
+    A.block ∷ Refusals.speed ∷ Refusals.loop_time ∷ Refusals.empty ∷ Refusals.long ∷ A.short ∷ A.spoiled ∷ Refusals.rest ∷ Refusals.code_size
     ∷ Tint.format ∷ Tint.entry ∷ Tint.steps ∷ Noise.generator ∷ []
 
 abbrev pub is_in_use : ℕ → Bool
@@ -114,7 +114,7 @@ module _ (P : Bool → ℕ → Type 0) (holds : Numbers P) where
   loop_number k speed loop_ms =
       plain
       ((not (is_length k), A.block) ∷ (not (is_speed speed), Refusals.speed)
-      ∷ (not (has_entry k speed) || ltb (longest_loop k speed) loop_ms, Refusals.loop_time_lem) ∷ [])
+      ∷ (not (has_entry k speed) || ltb (longest_loop k speed) loop_ms, Refusals.loop_time) ∷ [])
       refl (done tt) holds.of_zero
 
   pub build_number : (k service : ℕ) (payload slice : List ℕ) → Plain (build_block k service payload slice)

@@ -17,7 +17,7 @@ use Rattle.block.proofs.Lengths.{length_facts}
 use Rattle.block.proofs.Truth.{cond_case}
 use Rattle.block.proofs.Refusals.{passed_test}
 use Rattle.line.specs.Marks.{marks_of}
-use Rattle.line.specs.Receiving.{array_bytes, fresh_receiver, open_receiver, Rule, unfinished, standing, sequence_found, sync_block_lem, check_fails, accepts, previous, out_of_sequence, ends, wrong_length, ends_again, anything_else, waits, block_rule, blank, last_bad, after_bad, after, held_bits, Reception, latest, is_sequence, search, under_alarm, holding, missing, finished_row, in_step, by_phase, reception, held_in_range, receiver_in_range, receive}
+use Rattle.line.specs.Receiving.{array_bytes, fresh_receiver, open_receiver, Rule, unfinished, standing, sequence_found, reads_sync, check_fails, accepts, previous, out_of_sequence, ends, wrong_length, ends_again, anything_else, waits, block_rule, blank, last_bad, after_bad, after, held_bits, Reception, latest, is_sequence, search, under_alarm, holding, missing, finished_row, in_step, by_phase, reception, held_in_range, receiver_in_range, receive}
 use Rattle.line.specs.declared.marks.CodeSize.{CodeSize}
 use Rattle.line.specs.declared.receiver.Receiver.{Receiver}
 use Rattle.line.specs.declared.receiving.Phase.{Phase}
@@ -72,7 +72,7 @@ module _ (s : Receiver) (r : InRange s) (f : ReceiverFits s) where
   after_fits unfinished = f
   after_fits (standing alarm) = f
   after_fits sequence_found = blank_fits 0 false s.taken s.ended P.InStep (omega arith) (omega arith)
-  after_fits sync_block_lem = blank_fits 0 false s.taken s.ended P.InStep (omega arith) (omega arith)
+  after_fits reads_sync = blank_fits 0 false s.taken s.ended P.InStep (omega arith) (omega arith)
   after_fits (check_fails n) = after_bad_fits (leb last_bad (s.bad_row + 1))
   after_fits accepts = blank_fits 0 false (s.taken + 1) s.ended P.InStep (omega arith) (omega arith)
   after_fits previous = blank_fits 0 false s.taken s.ended P.InStep (omega arith) (omega arith)

@@ -17,16 +17,16 @@ told = record { of_refusal = among_each is_refusal in_use refl; of_zero = refl; 
 pub refusals_told : RefusalsTold
 refusals_told =
     record {
-      loop_time_lem = C.loop_number Told told;
-      build_block_lem = C.build_number Told told;
+      loop_time = C.loop_number Told told;
+      build_block = C.build_number Told told;
       read-block = C.read_number Told told;
-      open_sender_lem = C.open_sender-number Told told;
+      open_sender = C.open_sender-number Told told;
       send = C.send-number Told told;
       sender_rest = C.rest-number Told told;
-      open_receiver_lem = C.open_receiver-number Told told;
+      open_receiver = C.open_receiver-number Told told;
       receive = C.receive-number Told told;
       return_bit = C.back_number Told told;
-      write_tint_lem = C.write_tint-number Told told;
-      read_tint_lem = C.read_tint-number Told told;
+      write_tint = C.write_tint-number Told told;
+      read_tint = C.read_tint-number Told told;
       noise = C.noise_number Told told;
     }

@@ -92,7 +92,7 @@ reads_written : (numbers : List ℕ) (count : ℕ) (slice slice' : List ℕ) (by
     → ReadTintCall (take bytes' slice') room n result room' n'
     → (result ≡ 0) × (n' ≡ count) × (room' ≡ take (count * 2) numbers ++ drop (count * 2) room)
 reads_written numbers count slice slice' bytes bytes' room room' n n' result w h r =
-    let a = by_zero (write_tint numbers count slice) (refusals_told.write_tint_lem numbers count slice) w.answers in
+    let a = by_zero (write_tint numbers count slice) (refusals_told.write_tint numbers count slice) w.answers in
     let order : List ℕ = a.0 in
     let o = written numbers count slice order a.1 in
     let ds : List Dose = doses_held numbers count in
@@ -112,7 +112,7 @@ writes_read : (order room room' : List ℕ) (n n' : ℕ) (slice slice' : List �
     → ReadTintCall order room n 0 room' n' → length order ≤ length slice → WriteTintCall room' n' slice bytes result slice' bytes'
     → (result ≡ 0) × (bytes' ≡ length order) × (slice' ≡ order ++ drop (length order) slice)
 writes_read order room room' n n' slice slice' bytes bytes' result b r h w =
-    let a = by_zero (read_tint order room) (refusals_told.read_tint_lem order room) r.answers in
+    let a = by_zero (read_tint order room) (refusals_told.read_tint order room) r.answers in
     let ds : List Dose = a.0 in
     let e : read order ≡ done ds = order_of order room ds a.1 in
     let good = (order_read order ds e).0 in

@@ -25,25 +25,25 @@ is_refused (done a) = false
 
 -- the number that each call returns, as its promise gives it; the two queries are refused by 7 alone
 pub record RefusalsTold : Type 0 where
-  pub loop_time_lem : (k speed loop_ms : ℕ) → is_refusal (refusal (loop_time k speed loop_ms)) ≡ is_refused (loop_time k speed loop_ms)
-  pub build_block_lem : (k service : ℕ) (payload slice : List ℕ)
+  pub loop_time : (k speed loop_ms : ℕ) → is_refusal (refusal (loop_time k speed loop_ms)) ≡ is_refused (loop_time k speed loop_ms)
+  pub build_block : (k service : ℕ) (payload slice : List ℕ)
       → is_refusal (refusal (build_block k service payload slice)) ≡ is_refused (build_block k service payload slice)
   pub read-block : (k : ℕ) (slice payload : List ℕ)
       → is_refusal (read_number (read_block k slice payload)) ≡ is_refused (read_block k slice payload)
-  pub open_sender_lem : (k speed loop_ms L : ℕ) (size : CodeSize) (order state : List ℕ)
+  pub open_sender : (k speed loop_ms L : ℕ) (size : CodeSize) (order state : List ℕ)
       → is_refusal (refusal (open_sender_in k speed loop_ms L size order state))
       ≡ is_refused (open_sender_in k speed loop_ms L size order state)
   pub send : (state order : List ℕ) (reading : Bool) (slice : List ℕ)
       → is_refusal (sent_word (send_in order reading slice (sender_of state))) ≡ is_refused (send_in order reading slice (sender_of state))
   pub sender_rest : (state : List ℕ) → is_refusal (rest_in (sender_of state)) ≡ eqb (rest_in (sender_of state)) A.spoiled
-  pub open_receiver_lem : (k : ℕ) (size : CodeSize) (state : List ℕ)
+  pub open_receiver : (k : ℕ) (size : CodeSize) (state : List ℕ)
       → is_refusal (refusal (open_receiver_in k size state)) ≡ is_refused (open_receiver_in k size state)
   pub receive : (state line : List ℕ) (count : ℕ) (ready : Bool) (store : List ℕ)
       → is_refusal (report_number (reported (receive_in line count ready store (receiver_of state))))
       ≡ is_refused (receive_in line count ready store (receiver_of state))
   pub return_bit : (state : List ℕ) → is_refusal (back_in (receiver_of state)) ≡ eqb (back_in (receiver_of state)) A.spoiled
-  pub write_tint_lem : (numbers : List ℕ) (count : ℕ) (slice : List ℕ)
+  pub write_tint : (numbers : List ℕ) (count : ℕ) (slice : List ℕ)
       → is_refusal (refusal (write_tint numbers count slice)) ≡ is_refused (write_tint numbers count slice)
-  pub read_tint_lem : (order numbers : List ℕ) → is_refusal (refusal (read_tint order numbers)) ≡ is_refused (read_tint order numbers)
+  pub read_tint : (order numbers : List ℕ) → is_refusal (refusal (read_tint order numbers)) ≡ is_refused (read_tint order numbers)
   pub noise : (k first second : ℕ) (slice : List ℕ)
       → is_refusal (noise_word (report_of (load_in k first second slice))) ≡ is_refused (load_in k first second slice)

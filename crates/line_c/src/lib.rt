@@ -1,4 +1,6 @@
 // The order line's calls for C and Rust: numbers and lent bytes, the ends' states in lent bytes too.
+#![tactic(auto)]
+
 pub mod block_calls;
 mod layout;
 pub mod noise_calls;

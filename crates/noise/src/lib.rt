@@ -1,4 +1,6 @@
 // The noise load: the same rough line on every visit. For a bench; no end of the line calls it.
+#![tactic(auto)]
+
 ghost use Rattle.std.specs.Prelude.{◌≡◌, ◌+◌, ◌/◌, ◌≤◌, true, false, length};
 ghost use Rattle.block.specs.Answer.{done};
 ghost use Rattle.block.specs.Lengths.{is_length, block_length};

@@ -1,4 +1,6 @@
 // The tint order: doses written as bytes, and read back.
+#![tactic(auto)]
+
 ghost use Rattle.std.specs.Prelude.{◌≡◌, ◌&&◌, List, [], ◌++◌, ℕ, ◌+◌, ◌*◌, ◌≤◌, ◌<◌, ltb, length, take, drop};
 ghost use Rattle.block.specs.Answer.{done};
 ghost use Rattle.tint.specs.Format.{from_big_endian, doses_in, is_format, is_in_range, in_range_and_order, total, judge_doses};

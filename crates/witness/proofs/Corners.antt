@@ -10,7 +10,7 @@ use Rattle.block.specs.Answer as A
 use Rattle.block.specs.Answer.{Answer, refused, done}
 use Rattle.block.specs.Block.{block_bits, sync_block, sync_sequence}
 use Rattle.line.specs.Order.{longest_order, most_items, letter_a, letter_b, letter_c, letter, end_payload, end_service}
-use Rattle.line.specs.Receiving.{Rule, sequence_found, sync_block_lem, check_fails, accepts, previous, out_of_sequence, ends, wrong_length, ends_again, anything_else, waits, unfinished, standing, Reception, idle, searching, receive}
+use Rattle.line.specs.Receiving.{Rule, sequence_found, reads_sync, check_fails, accepts, previous, out_of_sequence, ends, wrong_length, ends_again, anything_else, waits, unfinished, standing, Reception, idle, searching, receive}
 use Rattle.line.specs.declared.receiver.Receiver.{Receiver}
 use Rattle.line.specs.declared.receiving.Phase.TheVariants as P
 use Rattle.line.specs.declared.receiving.Event.TheVariants as E
@@ -91,7 +91,7 @@ cases =
     -- the eighth bad is a synchronising block: a search begins behind it, and does not see its sequence
     ∷ reads (bad 7 2) (damaged (sync_block 240)) (check_fails damaged_sync_remainder) (receiver 0 true 2 false P.Search)
     ∷ reads (bad 6 2) (damaged (sync_block 240)) (check_fails damaged_sync_remainder) (bad 7 2)
-    ∷ reads (bad 7 2) (sync_block 240) sync_block_lem (good 2 false)
+    ∷ reads (bad 7 2) (sync_block 240) reads_sync (good 2 false)
     -- rule 7 goes back to search with r at 0, where the letter C is of no item; rule 2 does not
     ∷ reads (bad 2 0) (zero_block 0b1111) anything_else (receiver 0 true 0 false P.Search)
     ∷ reads (good 0 false) (zero_block letter_c) anything_else (receiver 0 true 0 false P.Search)

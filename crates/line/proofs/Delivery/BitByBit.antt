@@ -13,7 +13,7 @@ use Rattle.block.specs.Lengths.{is_length, block_length}
 use Rattle.block.proofs.Lengths.{length_facts}
 use Rattle.line.specs.Marks.{marks_in_range}
 use Rattle.line.specs.Order.{most_items}
-use Rattle.line.specs.Receiving.{array_bytes, last_bad, Rule, unfinished, standing, sequence_found, sync_block_lem, check_fails, accepts, previous, out_of_sequence, ends, wrong_length, ends_again, anything_else, waits, meaning, block_rule, after, held_bits, Reception, stops, holding, missing, in_step, reception, held_in_range, receiver_in_range, judge_store, receive, receive_state}
+use Rattle.line.specs.Receiving.{array_bytes, last_bad, Rule, unfinished, standing, sequence_found, reads_sync, check_fails, accepts, previous, out_of_sequence, ends, wrong_length, ends_again, anything_else, waits, meaning, block_rule, after, held_bits, Reception, stops, holding, missing, in_step, reception, held_in_range, receiver_in_range, judge_store, receive, receive_state}
 use Rattle.line.specs.declared.receiver.Receiver.{Receiver}
 use Rattle.line.specs.declared.receiving.Phase.{Phase}
 use Rattle.line.specs.declared.receiving.Phase.TheVariants as P
@@ -97,7 +97,7 @@ after-holding s new {x} (as_data h) = data_or_end x h
     data_or_end unfinished e = absurd (false≢true e)
     data_or_end (standing alarm) e = absurd (false≢true e)
     data_or_end sequence_found e = refl
-    data_or_end sync_block_lem e = refl
+    data_or_end reads_sync e = refl
     data_or_end (check_fails n) e = refl
     data_or_end accepts e = refl
     data_or_end previous e = refl

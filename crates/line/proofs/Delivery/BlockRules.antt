@@ -20,7 +20,7 @@ use Rattle.block.proofs.Block.{length-sync_block}
 use Rattle.block.proofs.Truth.{cond_case, either, bit_false}
 use Rattle.line.specs.Marks.{is_mark}
 use Rattle.line.specs.Order.{longest_order, most_items, valid_length, item_count, is_letter, end_service, data_service, version, end_payload, item_service, item_payload, item_bits}
-use Rattle.line.specs.Receiving.{Rule, sync_block_lem, check_fails, accepts, previous, out_of_sequence, ends, wrong_length, ends_again, anything_else, meaning, event_kind, Place, expected, last, next, other, place, place_rule, makes_items, end_rule, mark_rule, service_rule, verdict_rule, looks_sync, judge, or_wait, block_rule}
+use Rattle.line.specs.Receiving.{Rule, reads_sync, check_fails, accepts, previous, out_of_sequence, ends, wrong_length, ends_again, anything_else, meaning, event_kind, Place, expected, last, next, other, place, place_rule, makes_items, end_rule, mark_rule, service_rule, verdict_rule, looks_sync, judge, or_wait, block_rule}
 use Rattle.line.specs.declared.marks.Marks.{Marks}
 use Rattle.line.specs.declared.receiver.Receiver.{Receiver}
 use Rattle.line.proofs.OrWait.{same_data_or_end}
@@ -114,10 +114,10 @@ module _ (m : Marks) (k L : ℕ) (content : Bits) (known : is_length k ≡ true)
 -- ---- a block that fails the check
 
 pub judge_fails : (in_use : Bool) (k r : ℕ) (ended : Bool) (row : Bits) → passes row ≡ false
-    → (judge in_use k r ended row ≡ sync_block_lem) ⊎ (judge in_use k r ended row ≡ check_fails (remainder row))
+    → (judge in_use k r ended row ≡ reads_sync) ⊎ (judge in_use k r ended row ≡ check_fails (remainder row))
 unfolding judge verdict
 judge_fails in_use k r ended row h =
-    cond_case (λ (x : Rule). (x ≡ sync_block_lem) ⊎ (x ≡ check_fails (remainder row))) (looks_sync k row) (λ e. inl refl)
+    cond_case (λ (x : Rule). (x ≡ reads_sync) ⊎ (x ≡ check_fails (remainder row))) (looks_sync k row) (λ e. inl refl)
     (λ e. inr (ap (λ (b : Bool). verdict_rule in_use k r ended row (cond b (passed (number (service_of row))) (failed (remainder row)))) h))
 
 -- ---- a synchronising block
@@ -127,7 +127,7 @@ unfolding sync_block
 sync_front k h = omega (arith, length-sync_block k (length_facts k h).0, length-append (service_sync ++ tens (k / 2)) sync_sequence)
 
 -- unharmed, it is read by rule 1
-pub judge_sync : (in_use : Bool) (k r : ℕ) (ended : Bool) → is_length k ≡ true → judge in_use k r ended (sync_block k) ≡ sync_block_lem
+pub judge_sync : (in_use : Bool) (k r : ℕ) (ended : Bool) → is_length k ≡ true → judge in_use k r ended (sync_block k) ≡ reads_sync
 unfolding judge looks_sync sync_block
 judge_sync in_use k r ended h =
     rw (
@@ -139,7 +139,7 @@ judge_sync in_use k r ended h =
 
 -- any block: rule 1, rule 2, rules 3 to 6, or rule 7
 pub data Judged : Rule → Type 0 where
-  as_sync : Judged sync_block_lem
+  as_sync : Judged reads_sync
   fails : (n : ℕ) → Judged (check_fails n)
   as_data : {x : Rule} → (meaning x).data_or_end ≡ true → Judged x
   as_other : Judged anything_else

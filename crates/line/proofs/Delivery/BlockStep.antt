@@ -12,7 +12,7 @@ use borrow.Author.Tests.{eqb-true, leb-true, leb-false, lt-ltb}
 use Rattle.crc.specs.Bits.{bit, bits_of}
 use Rattle.block.specs.Lengths.{block_length}
 use Rattle.block.proofs.Truth.{or_true, or-false, or_no, or_yes}
-use Rattle.line.specs.Receiving.{array_bytes, Rule, unfinished, standing, sequence_found, sync_block_lem, check_fails, accepts, previous, out_of_sequence, ends, wrong_length, ends_again, anything_else, waits, meaning, EventKind, event_kind, last_bad, blank, after_good, after_bad, after_wait, alarmed, after, held_bits, held_in_range}
+use Rattle.line.specs.Receiving.{array_bytes, Rule, unfinished, standing, sequence_found, reads_sync, check_fails, accepts, previous, out_of_sequence, ends, wrong_length, ends_again, anything_else, waits, meaning, EventKind, event_kind, last_bad, blank, after_good, after_bad, after_wait, alarmed, after, held_bits, held_in_range}
 use Rattle.line.specs.declared.sender.Sender.{Sender}
 use Rattle.line.specs.declared.receiver.Receiver.{Receiver}
 use Rattle.line.specs.declared.receiving.Phase.{Phase}
@@ -33,7 +33,7 @@ abbrev pub ends_block : Rule → Bool
 ends_block unfinished = false
 ends_block (standing alarm) = false
 ends_block sequence_found = true
-ends_block sync_block_lem = true
+ends_block reads_sync = true
 ends_block (check_fails n) = true
 ends_block accepts = true
 ends_block previous = true
@@ -93,7 +93,7 @@ module _ (r : Receiver) where
   after_is unfinished e = absurd (false≢true e)
   after_is (standing alarm) e = absurd (false≢true e)
   after_is sequence_found e = good_after
-  after_is sync_block_lem e = good_after
+  after_is reads_sync e = good_after
   after_is (check_fails n) e = bad_after (leb last_bad (r.bad_row + 1)) (leb-false last_bad (r.bad_row + 1))
   after_is accepts e = blank-after 0 false (r.taken + 1) r.ended P.InStep true false none (omega arith) (omega arith) same_end
   after_is previous e = good_after

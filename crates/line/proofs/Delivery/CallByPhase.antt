@@ -10,7 +10,7 @@ use lib.Dec.{eqb}
 use borrow.Author.Tests.{eqb-true}
 use Rattle.crc.specs.Bits.{Bits, bit}
 use Rattle.block.proofs.Truth.{cond_case}
-use Rattle.line.specs.Receiving.{standing, Reception, search, under_alarm, alarm_reception, by_phase, idle_rule, idle, reception}
+use Rattle.line.specs.Receiving.{standing, Reception, under_alarm, alarm_reception, by_phase, idle_rule, idle, reception}
 use Rattle.line.specs.Course.{World}
 use Rattle.line.specs.declared.receiver.Receiver.{Receiver}
 use Rattle.line.specs.declared.receiving.Phase.{Phase}
@@ -24,7 +24,7 @@ use Rattle.line.proofs.Delivery.BlockStep.{same_sender}
 use Rattle.line.proofs.Delivery.CallOnBlock.{ReceptionKept, none_of_length, Quiet, quiet-idle, still_same, pass}
 use Rattle.line.proofs.Delivery.State.{Session, N, Fit, alarm_stands, Held, Base, BusyLine}
 use Rattle.line.proofs.Delivery.State as S
-use Rattle.line.proofs.Delivery.CallInStep.{in_step}
+use Rattle.line.proofs.Delivery.CallInStep.{kept_in_step}
 use Rattle.line.proofs.Delivery.CallInSearch.{in_search_lem}
 
 module _ (o : Session) (fit : Fit o) (w : World) (l d : ℕ) (copy : Bits) (f : LineBlock)
@@ -102,7 +102,7 @@ module _ (o : Session) (fit : Fit o) (w : World) (l d : ℕ) (copy : Bits) (f : 
 
   some-lent : (ready : Bool) (p : Phase) → r.phase ≡ p → Kept (by_phase r p lent ready)
   some-lent ready P.Search e = in_search_lem o fit w l d copy f line base lent store e
-  some-lent ready P.InStep e = in_step o fit w l d copy f line base lent ready store e
+  some-lent ready P.InStep e = kept_in_step o fit w l d copy f line base lent ready store e
   some-lent ready P.SequenceAlarm e =
       alarm_stands_lem E.SequenceAlarm
       (subst (λ (p : Phase). Quiet (alarm_stands p) (standing E.SequenceAlarm)) (sym e) (quiet-idle P.SequenceAlarm))

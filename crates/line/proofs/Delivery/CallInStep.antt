@@ -13,7 +13,7 @@ use Rattle.crc.specs.Bits.{Bits}
 use Rattle.block.specs.Lengths.{block_length}
 use Rattle.block.proofs.Lengths.{length_facts}
 use Rattle.block.proofs.Truth.{cond_case}
-use Rattle.line.specs.Receiving.{Rule, unfinished, meaning, judge, or_wait, block_rule, Reception, stops, search, holding, missing, finished_row, in_step, held_in_range}
+use Rattle.line.specs.Receiving.{Rule, unfinished, meaning, judge, or_wait, block_rule, Reception, stops, holding, missing, finished_row, in_step, held_in_range}
 use Rattle.line.specs.Course.{World}
 use Rattle.line.specs.declared.receiver.Receiver.{Receiver}
 use Rattle.line.specs.declared.receiving.Phase.{Phase}
@@ -101,6 +101,6 @@ module _ (o : Session) (fit : Fit o) (w : World) (l d : ℕ) (copy : Bits) (f : 
         (λ s. (ok.sync_at_last (ap (λ (x : Rule). (meaning x).event) same ∙ s)).0)
         (λ b. ap (λ (x : Rule). (meaning x).data_or_end) (sym same) ∙ ok.sync_not_data b)))
 
-    pub in_step : Kept (in_step r lent ready)
+    pub kept_in_step : Kept (in_step r lent ready)
     unfolding in_step
-    in_step = cond_case Kept (ltb (length lent) (missing r)) step_on step_end
+    kept_in_step = cond_case Kept (ltb (length lent) (missing r)) step_on step_end

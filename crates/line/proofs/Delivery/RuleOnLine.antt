@@ -6,13 +6,12 @@ use mathlib.Core.Bool.{Bool, true, false, cond, ◌&&◌, true≢false, false≢
 use Prim.Native.Nat.{ℕ, ◌<◌}
 use native.Mathlib.Omega.{arith}
 use borrow.Author.Tests.{eqb-true}
-use lib.ListN.{length}
 use Rattle.crc.specs.Bits.{Bits, bit}
 use Rattle.block.specs.Block.{sync_block}
 use Rattle.block.proofs.Truth.{and_no, cond_case}
 use Rattle.line.specs.Order.{item_count, item_bits}
 use Rattle.line.specs.Sending.{Block, synchronising, item}
-use Rattle.line.specs.Receiving.{Rule, sequence_found, sync_block_lem, check_fails, accepts, previous, out_of_sequence, ends, wrong_length, ends_again, anything_else, waits, meaning, event_kind, after, judge, or_wait}
+use Rattle.line.specs.Receiving.{Rule, sequence_found, reads_sync, check_fails, accepts, previous, out_of_sequence, ends, wrong_length, ends_again, anything_else, waits, meaning, event_kind, after, judge, or_wait}
 use Rattle.line.specs.Course.{World}
 use Rattle.line.specs.Delivery.{is_item, read_good}
 use Rattle.line.specs.declared.receiver.Receiver.{Receiver}
@@ -94,7 +93,7 @@ module _ (o : Session) (fit : Fit o) (w : World) (l d : ℕ) (copy : Bits) (f : 
           clean = λ a b. refl;
         }
 
-    sync_ruling : Ruling sync_block_lem
+    sync_ruling : Ruling reads_sync
     sync_ruling =
         let y = found_ruling in
         record { ends-block = refl; reads = y.reads; length = y.length; takes = y.takes; clean = y.clean }
@@ -133,7 +132,7 @@ module _ (o : Session) (fit : Fit o) (w : World) (l d : ℕ) (copy : Bits) (f : 
     abbrev rule : Rule
     rule = judge o.marks.in_use o.k r.taken r.ended copy
 
-    whole_sync : copy ≡ sync_block o.k → rule ≡ sync_block_lem
+    whole_sync : copy ≡ sync_block o.k → rule ≡ reads_sync
     whole_sync c =
         ap (judge o.marks.in_use o.k r.taken r.ended) c
         ∙ judge_sync o.marks.in_use o.k r.taken r.ended fit.known

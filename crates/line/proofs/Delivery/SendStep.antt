@@ -14,7 +14,7 @@ use Rattle.crc.proofs.Detect.{damaged_passes}
 use Rattle.block.specs.Lengths.{block_length}
 use Rattle.block.proofs.Truth.{cond_case, either, or-false, and_no}
 use Rattle.line.specs.Order.{item_count, item_bits}
-use Rattle.line.specs.Sending.{Block, item, Transmission, transmit, with_next, confirmed, repeated, at_last, sync_run, last_run, gave_up, plain_bits}
+use Rattle.line.specs.Sending.{Block, Transmission, transmit, with_next, confirmed, repeated, at_last, sync_run, last_run, gave_up, plain_bits}
 use Rattle.line.specs.Delivery.{is_used, is_cancelled}
 use Rattle.line.specs.declared.sender.Sender.{Sender}
 use Rattle.line.specs.declared.sender.Next.{Next}

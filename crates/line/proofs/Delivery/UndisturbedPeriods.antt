@@ -10,7 +10,6 @@ use Rattle.crc.specs.Bits.{Bits}
 use Rattle.block.specs.Answer.{Answer, refused, done}
 use Rattle.block.specs.Block.{sync_block}
 use Rattle.block.proofs.Truth.{or-false, or_no, bit_false}
-use Rattle.line.specs.Sending.{item}
 use Rattle.line.specs.Receiving.{Reception}
 use Rattle.line.specs.Course.{World, Call, Entry, receive_refused, receive_entry, receive_after, course}
 use Rattle.line.specs.Delivery.{some, is_new, is_end, is_alarm, is_lost, is_wait, Period, group, used_bits, Undisturbed, All, brings}
@@ -18,7 +17,7 @@ use Rattle.line.specs.declared.sender.Next.{Next}
 use Rattle.line.specs.declared.sender.Next.TheVariants.{Newer}
 use Rattle.line.proofs.Delivery.Ends.{Ends, LineBlock, Sends, Idle}
 use Rattle.line.proofs.Delivery.Progress.{rank, rank_low, rank_falls}
-use Rattle.line.proofs.Delivery.State.{Session, N, Fit, alarm_stands, ends_of, danger', Base, whole, IdleLine, BusyLine, Guaranteed, Done}
+use Rattle.line.proofs.Delivery.State.{Session, N, Fit, alarm_stands, ends_of, danger', Base, IdleLine, BusyLine, Guaranteed, Done}
 use Rattle.line.proofs.Delivery.OneCall.{ReceiveAnswered, idle_hears, busy_hears, done_idle}
 use Rattle.line.proofs.Delivery.CallList.{Okays}
 

@@ -13,7 +13,7 @@ use Rattle.crc.specs.Bits.{Bits, bits_of, bytes_of}
 use Rattle.crc.proofs.Bytes.{length-bits_of, bits_of-bytes_of_exact}
 use Rattle.block.specs.Lengths.{is_length}
 use Rattle.block.proofs.Lengths.{length_facts}
-use Rattle.line.specs.Receiving.{array_bytes, Rule, unfinished, standing, sequence_found, sync_block_lem, check_fails, accepts, previous, out_of_sequence, ends, wrong_length, ends_again, anything_else, waits, meaning, block_rule, held_bits, stops, overwrite, holding, missing, finished_row, in_step}
+use Rattle.line.specs.Receiving.{array_bytes, Rule, unfinished, standing, sequence_found, reads_sync, check_fails, accepts, previous, out_of_sequence, ends, wrong_length, ends_again, anything_else, waits, meaning, block_rule, held_bits, stops, overwrite, holding, missing, finished_row, in_step}
 use Rattle.line.specs.Pieces.{add_used}
 use Rattle.line.specs.declared.receiver.Receiver.{Receiver}
 use Rattle.line.proofs.InStepBits.{step_on, step_done}
@@ -113,7 +113,7 @@ pub quiet_rule : (x : Rule)
 quiet_rule unfinished = (refl, refl)
 quiet_rule (standing alarm) = (refl, refl)
 quiet_rule sequence_found = (refl, refl)
-quiet_rule sync_block_lem = (refl, refl)
+quiet_rule reads_sync = (refl, refl)
 quiet_rule (check_fails r) = (refl, refl)
 quiet_rule accepts = (refl, refl)
 quiet_rule previous = (refl, refl)

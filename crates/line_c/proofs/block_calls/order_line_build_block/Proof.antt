@@ -20,7 +20,7 @@ same_length c = search rules
 
 returns : tie.Need-returns
 returns c =
-    let built = c.before.before.before.before.build_block_lem.ensures in
+    let built = c.before.before.before.before.build_block.ensures in
     record { answers = ap refusal (ap built_answer (sym c.enum_told.given.1) ∙ built.answers); writes = built.writes }
 
 same-length-2 : tie.Need-same-length-2
@@ -28,7 +28,7 @@ same-length-2 c = search rules
 
 returns-2 : tie.Need-returns-2
 returns-2 c =
-    let built = c.before.before.before.before.before.build_block_lem.ensures in
+    let built = c.before.before.before.before.before.build_block.ensures in
     record { answers = ap refusal (ap built_answer (sym c.before.number.given.1) ∙ built.answers); writes = built.writes }
 
 pub order-line-build-block-spec : {M : Type 1} → statement M

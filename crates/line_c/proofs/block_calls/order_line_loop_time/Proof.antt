@@ -17,12 +17,12 @@ enum-known-number c = search rules
 
 returns : tie.Need-returns
 returns c =
-    let tested = c.before.before.loop_time_lem.ensures in
+    let tested = c.before.before.loop_time.ensures in
     record { answers = ap refusal (ap loop_answer (sym c.enum_told.given.1) ∙ tested.answers) }
 
 returns-2 : tie.Need-returns-2
 returns-2 c =
-    let tested = c.before.before.before.loop_time_lem.ensures in
+    let tested = c.before.before.before.loop_time.ensures in
     record { answers = ap refusal (ap loop_answer (sym c.before.number.given.1) ∙ tested.answers) }
 
 pub order-line-loop-time-spec : {M : Type 1} → statement M

@@ -72,7 +72,7 @@ returns-2 c = rw (read_first c.before.before.before.before.before.before.before,
 
 returns-3 : tie.Need-returns-3
 unfolding opens
-returns-3 c = rw (read_first c.before.before.before.before.before.before.before, opened-as c.before.before.before.before (done _) (ap opened_answer c.before.before.opened2.given.1)) c.open_receiver_lem.ensures
+returns-3 c = rw (read_first c.before.before.before.before.before.before.before, opened-as c.before.before.before.before (done _) (ap opened_answer c.before.before.opened2.given.1)) c.open_receiver.ensures
 
 pub open_spec : {M : Type 1} → statement M
 open_spec =

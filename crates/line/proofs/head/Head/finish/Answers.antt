@@ -1,0 +1,54 @@
+-- `Head::finish` meets its contract: the finished row stands in the line, or in the copy of the array. Assumes nothing.
+use mathlib.Core.Path.{◌≡◌, ap, ◌∙◌, subst}
+use mathlib.Core.Bool.{Bool}
+use mathlib.Core.List.{List}
+use Prim.Native.Nat.{ℕ}
+use native.Mathlib.Omega.{arith}
+use lib.ListN.{length, take}
+use Rattle.crc.specs.Bits.{Bits, bits_of, bytes_of}
+use Rattle.block.specs.Lengths.{block_length}
+use Rattle.block.proofs.Lengths.{length_facts}
+use Rattle.line.specs.Receiving.{array_bytes, overwrite}
+use Rattle.line.specs.ReceivingInPlace.{with_array}
+use Rattle.line.specs.Code.ReceiveSteps.{step_with, judged, Handed}
+use Rattle.line.specs.declared.head.Head.{Head}
+use Rattle.line.specs.declared.head.HeadStep.{HeadStep}
+use Rattle.line.proofs.InStepBits.{finished_in_line, finished_in_array}
+use borrow.Author.Rules.{rules}
+use Rattle.line.proofs.head.Head.finish.Goals as goal
+
+-- the same row, judged
+by_row : (h : Head) (array store : List ℕ) (used : ℕ) (ready : Bool) (row row' : Bits) (r : HeadStep) (array' store' : List ℕ) → row ≡ row'
+    → Handed (with_array h array) store (judged (with_array h array) row ready used) (step_with r array') store'
+    → Handed (with_array h array) store (judged (with_array h array) row' ready used) (step_with r array') store'
+by_row h array store used ready row row' r array' store' e =
+    subst (λ (x : Bits). Handed (with_array h array) store (judged (with_array h array) x ready used) (step_with r array') store') e
+
+pub judge-requires : goal.judge-requires
+judge-requires c = record { range = c.requires.0; held = omega arith }
+
+pub returns-then-self-eq0 : goal.returns-then-self-eq0
+returns-then-self-eq0 c = by_row _ _ _ _ _ _ _ _ _ _ (finished_in_line (with_array c.args.self c.args.array.now) c.args.line.now c.args.missing c.requires.1 c.if-self-eq0.true)
+    c.judge.ensures
+
+pub put_bits-requires : goal.put_bits-requires
+put_bits-requires c = let f = length_facts c.args.self.setup.k c.requires.0.known in
+    let n : length c.copied-row.result ≡ 483 = search rules in
+    (n, omega arith, omega arith)
+
+pub judge-requires-2 : goal.judge-requires-2
+judge-requires-2 c = let f = length_facts c.args.self.setup.k c.requires.0.known in
+    let n : length c.put_bits.new.array ≡ 483 = search rules in
+    record { range = c.requires.0; held = omega arith }
+
+pub returns : goal.returns
+returns c = let f = length_facts c.args.self.setup.k c.requires.0.known in
+    let n : ℕ = block_length c.args.self.setup.k in
+    let new : Bits = take c.args.missing (bits_of c.args.line.now) in
+    let put : c.put_bits.new.array ≡ bytes_of array_bytes (overwrite c.args.self.held new (bits_of c.args.array.now)) =
+    c.put_bits.ensures
+    ∙ ap (λ (x : List ℕ). bytes_of array_bytes (overwrite c.args.self.held new (bits_of x))) c.copied-row.ensures in
+    by_row _ _ _ _ _ _ _ _ _ _
+    (ap (λ (x : List ℕ). take n (bits_of x)) put
+    ∙ finished_in_array (with_array c.args.self c.args.array.now) c.args.line.now c.args.missing c.requires.1 c.requires.2 c.requires.0.array_length (omega arith))
+    c.judge-2.ensures

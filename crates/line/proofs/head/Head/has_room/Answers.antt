@@ -1,0 +1,17 @@
+-- `Head::has_room` judges the store in whole bytes. Assumes nothing.
+use native.Mathlib.Omega.{arith}
+use Rattle.block.proofs.Lengths.{length_facts}
+use Rattle.line.proofs.StorePlace.{start-lt, room_test}
+use Rattle.line.proofs.head.Head.has_room.Goals as goal
+
+pub overflow_mul-result : goal.overflow_mul-result
+overflow_mul-result c = let h = start-lt c.args.self.setup.k c.args.self.taken c.requires.0 c.requires.1 in
+    omega arith
+
+pub overflow_add-result : goal.overflow_add-result
+overflow_add-result c = let h = start-lt c.args.self.setup.k c.args.self.taken c.requires.0 c.requires.1 in
+    let f = length_facts c.args.self.setup.k c.requires.0 in
+    omega arith
+
+pub returns : goal.returns
+returns c = room_test c.args.self.setup.k c.args.self.taken c.requires.0 c.args.store.now

@@ -1,0 +1,22 @@
+-- `Sender::send_older` sends the older item whole. Assumes nothing.
+use mathlib.Core.Path.{refl}
+use native.Mathlib.Omega.{arith}
+use Rattle.line.specs.Sending.{transmit, sent_bits}
+use Rattle.line.proofs.SenderRange.{in_range}
+use Rattle.line.proofs.sender.Sender.send_older.Goals as goal
+
+pub overflow_sub-older : goal.overflow_sub-older
+overflow_sub-older c = let r = in_range c.args.self c.requires.sender.range in
+    omega (arith, r.first)
+
+pub write_item-requires : goal.write_item-requires
+write_item-requires c = let r = in_range c.args.self c.requires.sender.range in
+    (r.known, r.valid, c.requires.order_lent, c.requires.room)
+
+pub returns : goal.returns
+unfolding transmit sent_bits
+returns c reading = record {
+  answers = c.item.ensures;
+  state = refl;
+  writes = c.write_item.ensures;
+}
