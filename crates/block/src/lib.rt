@@ -27,27 +27,27 @@ pub const SYNC: u8 = 0b0101;
 pub const SEQUENCE: u16 = 0b0101000010100101;
 
 // What the look-up finds.
-#[derive(Drop)]
+#[derive(Clone, Copy)]
 pub enum Length {
     // The number of data bytes.
     Bytes(usize),
     Unknown,
 }
 
-#[derive(Drop)]
+#[derive(Clone, Copy)]
 pub enum Built {
     Done,
     Refused(u8),
 }
 
-#[derive(Drop)]
+#[derive(Clone, Copy)]
 pub enum Checked {
     // The remainder of all n bits.
     Remainder(u16),
     Refused(u8),
 }
 
-#[derive(Drop)]
+#[derive(Clone, Copy)]
 pub enum Read {
     // The service bits of a block that passes.
     Passed(u8),

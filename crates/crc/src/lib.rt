@@ -59,7 +59,7 @@ fn load_word(s: &[u8], i: usize) -> u64
 }
 
 // Four words of a row, the earliest first.
-#[derive(Drop)]
+#[derive(Clone, Copy)]
 struct Window {
     a: u64,
     b: u64,
@@ -68,7 +68,7 @@ struct Window {
 }
 
 // Two words of a row, the earliest first.
-#[derive(Drop)]
+#[derive(Clone, Copy)]
 struct Pair {
     a: u64,
     b: u64,

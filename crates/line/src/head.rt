@@ -31,7 +31,7 @@ pub struct Head {
     pub phase: Phase,
 }
 
-#[derive(Drop)]
+#[derive(Clone, Copy)]
 pub struct HeadStep {
     pub head: Head,
     pub answer: Received,

@@ -6,7 +6,7 @@ ghost use Rattle.line.specs.LoopTime.{speeds, is_speed, has_entry, longest_loop,
 
 use crate::{LOOP_TIME, SPEED};
 
-#[derive(Drop)]
+#[derive(Clone, Copy)]
 pub enum LoopTime {
     Allowed,
     Refused(u8),

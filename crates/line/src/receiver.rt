@@ -9,7 +9,7 @@ use crate::head::Head;
 use crate::marks::{CodeSize, Marks};
 use crate::receiving::{Phase, Received, Setup};
 
-#[derive(Drop)]
+#[derive(Clone, Copy)]
 pub struct Receiver {
     pub setup: Setup,
     // The bits of one unfinished block.
@@ -26,20 +26,20 @@ pub struct Receiver {
     pub phase: Phase,
 }
 
-#[derive(Drop)]
+#[derive(Clone, Copy)]
 pub struct Step {
     pub state: Receiver,
     pub answer: Received,
 }
 
-#[derive(Drop)]
+#[derive(Clone, Copy)]
 pub enum Opening {
     Opened,
     Refused(u8),
 }
 
 // A refused opening hands back a state that every step refuses: its k is 0.
-#[derive(Drop)]
+#[derive(Clone, Copy)]
 pub struct Opened {
     pub state: Receiver,
     pub answer: Opening,

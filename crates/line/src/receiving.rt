@@ -36,7 +36,7 @@ pub enum Event {
     Wait,
 }
 
-#[derive(Drop)]
+#[derive(Clone, Copy)]
 pub enum Received {
     Used { event: Event, bits: usize },
     Refused(u8),

@@ -13,7 +13,7 @@ use crate::order::{
 };
 use block::{SEQUENCE, SYNC};
 
-#[derive(Drop)]
+#[derive(Clone, Copy)]
 pub(crate) enum Rule {
     Accepts,
     Previous,

@@ -44,14 +44,14 @@ pub struct Sender {
     pub finished: bool,
 }
 
-#[derive(Drop)]
+#[derive(Clone, Copy)]
 pub enum Opened {
     Opened(Sender),
     Refused(u8),
 }
 
 // What a sending call sent.
-#[derive(Drop)]
+#[derive(Clone, Copy)]
 pub enum Sent {
     Synchronising,
     Item {
@@ -65,7 +65,7 @@ pub enum Sent {
     Refused(u8),
 }
 
-#[derive(Drop)]
+#[derive(Clone, Copy)]
 pub struct Step {
     pub state: Sender,
     pub answer: Sent,

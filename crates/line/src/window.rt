@@ -14,7 +14,7 @@ pub(crate) struct Window {
 }
 
 // The first two bytes of an array.
-#[derive(Drop)]
+#[derive(Clone, Copy)]
 pub(crate) struct Pair(pub u8, pub u8);
 
 pub(crate) fn bit_at(s: &[u8], i: usize) -> bool

@@ -21,19 +21,19 @@ const GROWTH: u32 = 362437;
 const SPAN: usize = 16;
 
 // Two words of 32 bits; the first is not 0.
-#[derive(Drop)]
+#[derive(Clone, Copy)]
 pub struct Generator {
     pub first: u32,
     pub second: u32,
 }
 
-#[derive(Drop)]
+#[derive(Clone, Copy)]
 pub struct Drawn {
     pub generator: Generator,
     pub number: u32,
 }
 
-#[derive(Drop)]
+#[derive(Clone, Copy)]
 pub enum Noise {
     Done {
         // The number of bits inverted in the block.
@@ -44,7 +44,7 @@ pub enum Noise {
     Refused(u8),
 }
 
-#[derive(Drop)]
+#[derive(Clone, Copy)]
 pub struct Loaded {
     pub generator: Generator,
     pub answer: Noise,

@@ -6,7 +6,7 @@ ghost use Rattle.session.specs.LineOne.{decimal_value, hex_value, grown, start, 
 pub const LIMIT: usize = 1_000_000;
 
 // What was read last.
-#[derive(Drop)]
+#[derive(Clone, Copy)]
 pub enum Place {
     // Nothing: k comes next.
     K,
@@ -26,13 +26,13 @@ pub enum Place {
 }
 
 // A decimal field.
-#[derive(Drop)]
+#[derive(Clone, Copy)]
 pub enum Number {
     K,
     Length,
 }
 
-#[derive(Drop)]
+#[derive(Clone, Copy)]
 pub struct LineOne {
     pub place: Place,
     pub k: usize,

@@ -15,7 +15,7 @@ use line::sender::{Sender, Sent};
 const READY: bool = true;
 
 // A line of the input: t, f, d.
-#[derive(Drop)]
+#[derive(Clone, Copy)]
 pub enum Kind {
     Undisturbed,
     // The reading is turned over.
@@ -25,7 +25,7 @@ pub enum Kind {
 }
 
 // The block sent, as it is shown.
-#[derive(Drop)]
+#[derive(Clone, Copy)]
 pub enum Block {
     Synchronising,
     Item {
@@ -35,13 +35,13 @@ pub enum Block {
     },
 }
 
-#[derive(Drop)]
+#[derive(Clone, Copy)]
 pub enum Reading {
     Ignored,
     Used(bool),
 }
 
-#[derive(Drop)]
+#[derive(Clone, Copy)]
 pub struct Line {
     pub block: Block,
     pub reading: Reading,
@@ -51,33 +51,33 @@ pub struct Line {
     pub back: bool,
 }
 
-#[derive(Drop)]
+#[derive(Clone, Copy)]
 pub enum Outcome {
     Refused(u8),
     Line(Line),
 }
 
 // How the sending call of a period ended, its block and reading as they are shown.
-#[derive(Drop)]
+#[derive(Clone, Copy)]
 pub enum Sending {
     Refused(u8),
     Sent { block: Block, reading: Reading },
 }
 
 // How the receiving calls of a period ended.
-#[derive(Drop)]
+#[derive(Clone, Copy)]
 pub enum Last {
     Refused(u8),
     Event(Event),
 }
 
-#[derive(Drop)]
+#[derive(Clone, Copy)]
 pub struct Heard {
     pub receiver: Receiver,
     pub last: Last,
 }
 
-#[derive(Drop)]
+#[derive(Clone, Copy)]
 pub struct Period {
     pub sender: Sender,
     pub receiver: Receiver,

@@ -13,7 +13,7 @@ pub const PART_BYTES: usize = 2048;
 // A byte brings a text of 64 bytes at most.
 const OUTPUT_BYTES: usize = 64 * PART_BYTES;
 
-#[derive(Drop)]
+#[derive(Clone, Copy)]
 pub struct Program {
     session: Session,
     // The number of the next period.
@@ -23,13 +23,13 @@ pub struct Program {
 }
 
 // What is to be written: the first `len` bytes.
-#[derive(Drop)]
+#[derive(Clone, Copy)]
 pub struct Output {
     pub bytes: [u8; OUTPUT_BYTES],
     pub len: usize,
 }
 
-#[derive(Drop)]
+#[derive(Clone, Copy)]
 pub struct Turn {
     pub program: Program,
     pub output: Output,
@@ -38,7 +38,7 @@ pub struct Turn {
 }
 
 // After the bytes of a part, their texts in the first `len` bytes of an output.
-#[derive(Drop)]
+#[derive(Clone, Copy)]
 struct Reached {
     session: Session,
     number: u64,

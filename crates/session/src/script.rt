@@ -24,7 +24,7 @@ const SPEED: u32 = 200;
 const LOOP_MS: u32 = 0;
 
 // Where in the input.
-#[derive(Drop)]
+#[derive(Clone, Copy)]
 pub enum Place {
     LineOne,
     LineStart,
@@ -34,7 +34,7 @@ pub enum Place {
     Over,
 }
 
-#[derive(Drop)]
+#[derive(Clone, Copy)]
 pub struct Session {
     pub place: Place,
     pub opening: LineOne,
@@ -43,13 +43,13 @@ pub struct Session {
 }
 
 // What comes of a byte of input, or of its end.
-#[derive(Drop)]
+#[derive(Clone, Copy)]
 pub enum Yield {
     Nothing,
     Outcome(Outcome),
 }
 
-#[derive(Drop)]
+#[derive(Clone, Copy)]
 pub struct Taken {
     pub session: Session,
     pub yielded: Yield,

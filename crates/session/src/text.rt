@@ -6,7 +6,7 @@ use crate::period::{Block, Line, Outcome, Reading};
 use line::receiving::Event;
 
 // The longest line has 62 bytes.
-#[derive(Drop)]
+#[derive(Clone, Copy)]
 pub struct Text {
     pub bytes: [u8; 64],
     pub len: usize,

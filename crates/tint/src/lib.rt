@@ -30,20 +30,20 @@ const HEAD_BYTES: usize = 3;
 const ENTRY_BYTES: usize = 3;
 
 // The first count places hold doses; the others do not matter.
-#[derive(Drop)]
+#[derive(Clone, Copy)]
 pub struct Doses {
     pub count: usize,
     pub canisters: [u16; 12],
     pub steps: [u16; 12],
 }
 
-#[derive(Drop)]
+#[derive(Clone, Copy)]
 pub enum Judged {
     Good,
     Refused(u8),
 }
 
-#[derive(Drop)]
+#[derive(Clone, Copy)]
 pub enum Written {
     // The number of bytes.
     Done(usize),
@@ -51,7 +51,7 @@ pub enum Written {
 }
 
 // An enum cannot hold the doses' arrays.
-#[derive(Drop)]
+#[derive(Clone, Copy)]
 pub struct OrderRead {
     pub answer: Judged,
     pub doses: Doses,

@@ -16,8 +16,8 @@ use Rattle.tint.specs.Code.{head_bytes, low_entries}
 use Rattle.tint.specs.declared.Doses.{Doses}
 use Rattle.tint.specs.declared.Written.TheVariants as W
 use Rattle.tint.proofs.Entries.{length-order_bytes, length-doses_at, rising_order_bytes, judge_good, judged_good, counted-some, counted_good, counted_refused}
-use Rattle.tint.proofs.write.Statement.{statement}
-use Rattle.tint.proofs.write.Tie as tie
+use Rattle.tint.proofs.write.Goals as goal
+use Rattle.tint.proofs.write.Goals.{In_default}
 
 module _ (d : Doses) (slice : List ℕ) where
   abbrev ds : List Dose
@@ -68,68 +68,32 @@ module _ (d : Doses) (slice : List ℕ) where
         }
 
 -- the doses were judged good
-good : (c : tie.After-enum-told) → done tt ≡ judge c.before.before.before.before.args.doses
-good c = ap judged_answer (sym c.enum_told.given.1) ∙ c.before.before.judge.ensures.answers
+good : (c : In_default) → done tt ≡ judge c.args.doses
+good c = ap judged_answer (sym c.in_default.is) ∙ c.judge-answer.ensures.answers
 
-judge-requires : tie.Need-judge-requires
-judge-requires c κs = search rules
+pub returns-in-Refused : goal.returns-in-Refused
+returns-in-Refused c = let a = c.args in
+    turned a.doses a.order.now _ (ap judged_answer (sym c.in-Refused.is) ∙ c.judge-answer.ensures.answers)
 
-enum-known-answer : tie.Need-enum-known-answer
-enum-known-answer c = search rules
-
-returns : tie.Need-returns
-returns c =
-    let a = c.before.before.before.before.before.args in
-    turned a.doses a.order.now _ (ap judged_answer (sym c.before.answer.given.1) ∙ c.before.before.before.judge.ensures.answers)
-
-enum_told : tie.Need-enum-told
-enum_told c = search rules
-
-mul-bytes : tie.Need-overflow-mul-bytes
-mul-bytes c =
-    let a = c.before.before.before.before.args in
-    let f = few a.doses a.order.now (good c) in
+pub overflow_mul-bytes : goal.overflow_mul-bytes
+overflow_mul-bytes c = let a = c.args in
+    let f = few a.doses a.order.now (good (goal.at.overflow_mul-bytes c).In_default) in
     search rules
 
-add-bytes : tie.Need-overflow-add-bytes
-add-bytes c =
-    let a = c.before.before.before.before.args in
-    let f = few a.doses a.order.now (good c) in
+pub overflow_add-bytes : goal.overflow_add-bytes
+overflow_add-bytes c = let a = c.args in
+    let f = few a.doses a.order.now (good (goal.at.overflow_add-bytes c).In_default) in
     search rules
 
-returns-2 : tie.Need-returns-2
-returns-2 c =
-    let a = c.before.before.before.before.before.args in
-    short a.doses a.order.now (good c.before) c.if1.true
+pub returns-then-order-bytes : goal.returns-then-order-bytes
+returns-then-order-bytes c = let a = c.args in
+    short a.doses a.order.now (good (goal.at.returns-then-order-bytes c).In_default) c.if-order-bytes.true
 
-write-order-requires : tie.Need-write-order-requires
-write-order-requires c κs =
-    let told = c.before.before.before.before in
-    let a = told.before.before.before.before.args in
-    let f = few a.doses a.order.now (good told) in
+pub write_order-requires : goal.write_order-requires
+write_order-requires c = let a = c.args in
+    let f = few a.doses a.order.now (good (goal.at.write_order-requires c).In_default) in
     search rules
 
-same_length : tie.Need-same-length
-same_length c = search rules
-
-returns-3 : tie.Need-returns-3
-returns-3 c =
-    let o = c.before.before in
-    let told = o.before.before.before.before.before in
-    let a = told.before.before.before.before.args in
-    written a.doses a.order.now (good told) _ o.before.before.before.before.if1.false o.write-order.ensures
-
-pub write_spec : {M : Type 1} → statement M
-write_spec =
-    tie.close
-    (tie.spec
-    judge-requires
-    enum-known-answer
-    returns
-    enum_told
-    mul-bytes
-    add-bytes
-    returns-2
-    write-order-requires
-    same_length
-    returns-3)
+pub returns : goal.returns
+returns c = let a = c.args in
+    written a.doses a.order.now (good (goal.at.returns c).In_default) _ c.if-order-bytes.false c.write_order.ensures

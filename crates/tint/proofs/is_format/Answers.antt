@@ -1,5 +1,4 @@
 -- `is_format`: each test of the definition, in its order. Assumes nothing.
-use borrow.Author.Rules.{rules}
 use borrow.Author.Tests.{eq-eqb, ne_eqb}
 use mathlib.Core.Path.{◌≡◌, refl, ap, ap₂, sym, ◌∙◌}
 use mathlib.Core.Bool.{Bool, true, false, not, ◌&&◌}
@@ -9,8 +8,7 @@ use Prim.Native.Nat.{ℕ, ◌-◌, ◌%◌, ◌≤◌, ◌<◌}
 use lib.Dec.{eqb}
 use lib.ListN.{length, get_or, drop, length-drop}
 use Rattle.tint.specs.Format.{format_version, from_big_endian, is_length_of, is_format}
-use Rattle.tint.proofs.is_format.Statement.{statement}
-use Rattle.tint.proofs.is_format.Tie as tie
+use Rattle.tint.proofs.is_format.Goals as goal
 
 too_few : (s : List ℕ) → length s < 3 → false ≡ is_format s
 too_few [] h = refl
@@ -52,66 +50,24 @@ module _ (s : List ℕ) (h : 3 ≤ length s) where
           ap (eqb follow) (sym (length-drop 3 s)) ∙ ap₂ (tests true) (sym (ne_eqb follow 0 some)) (sym (eq-eqb (follow % 3) 0 z))
           ∙ of_version
 
-returns : tie.Need-returns
-returns c = too_few c.before.before.args.order.now c.if1.true
+pub returns-then-order-lt-HEAD_BYTES : goal.returns-then-order-lt-HEAD_BYTES
+returns-then-order-lt-HEAD_BYTES c = too_few c.args.order.now c.if-order-lt-HEAD_BYTES.true
 
-shared-slice-read-if2 : tie.Need-shared-slice-read-if2
-shared-slice-read-if2 c = search rules
+pub returns-then-order-ne-FORMAT_VERSION : goal.returns-then-order-ne-FORMAT_VERSION
+returns-then-order-ne-FORMAT_VERSION c = other_version c.args.order.now c.if-order-lt-HEAD_BYTES.false c.if-order-ne-FORMAT_VERSION.true
 
-returns-2 : tie.Need-returns-2
-returns-2 c = other_version c.before.before.before.before.args.order.now c.before.before.if1.false c.if2.true
+pub returns-then-follow-eq0 : goal.returns-then-follow-eq0
+returns-then-follow-eq0 c = none_follow c.args.order.now c.if-order-lt-HEAD_BYTES.false c.if-order-ne-FORMAT_VERSION.false
+    (sym c.big_endian-follow.ensures.0 ∙ c.if-follow-eq0.true)
 
-shared-slice-read-big-endian : tie.Need-shared-slice-read-big-endian
-shared-slice-read-big-endian c = search rules
+pub returns-then-follow-ne0 : goal.returns-then-follow-ne0
+returns-then-follow-ne0 c = let e = c.big_endian-follow.ensures.0 in
+    no_multiple c.args.order.now c.if-order-lt-HEAD_BYTES.false c.if-order-ne-FORMAT_VERSION.false
+    (λ z. c.if-follow-eq0.false (e ∙ z)) (λ z. c.if-follow-ne0.true (ap (λ (n : ℕ). n % 3) e ∙ z))
 
-shared-slice-read-big-endian-2 : tie.Need-shared-slice-read-big-endian-2
-shared-slice-read-big-endian-2 c = search rules
-
-big-endian-requires : tie.Need-big-endian-requires
-big-endian-requires c κs = search rules
-
-cast-follow : tie.Need-overflow-cast-follow
-cast-follow c = search rules
-
-returns-3 : tie.Need-returns-3
-returns-3 c =
-    let k = c.before.before.before.before.before in
-    none_follow k.before.before.before.args.order.now k.before.if1.false c.before.before.before.before.if2.false
-    (sym c.before.big_endian.ensures.0 ∙ c.if3.true)
-
-returns-4 : tie.Need-returns-4
-returns-4 c =
-    let b = c.before.before in
-    let k = b.before.before.before.before in
-    let e = b.big_endian.ensures.0 in
-    no_multiple k.before.before.before.args.order.now k.before.if1.false b.before.before.before.if2.false
-    (λ z. c.before.if3.false (e ∙ z)) (λ z. c.if4.true (ap (λ (n : ℕ). n % 3) e ∙ z))
-
-sub-result : tie.Need-overflow-sub-result
-sub-result c = search rules
-
-returns-5 : tie.Need-returns-5
-returns-5 c =
-    let b = c.before.before in
-    let k = b.before.before.before.before in
-    let e = b.big_endian.ensures.0 in
-    let s = k.before.before.before.args.order.now in
+pub returns : goal.returns
+returns c = let e = c.big_endian-follow.ensures.0 in
+    let s = c.args.order.now in
     ap (λ (n : ℕ). eqb n (length s - 3)) e
-    ∙ what_follows s k.before.if1.false b.before.before.before.if2.false (λ z. c.before.if3.false (e ∙ z))
-    (sym (ap (λ (n : ℕ). n % 3) e) ∙ c.if4.false)
-
-pub is-format-spec : {M : Type 1} → statement M
-is-format-spec =
-    tie.close
-    (tie.spec
-    returns
-    shared-slice-read-if2
-    returns-2
-    shared-slice-read-big-endian
-    shared-slice-read-big-endian-2
-    big-endian-requires
-    cast-follow
-    returns-3
-    returns-4
-    sub-result
-    returns-5)
+    ∙ what_follows s c.if-order-lt-HEAD_BYTES.false c.if-order-ne-FORMAT_VERSION.false (λ z. c.if-follow-eq0.false (e ∙ z))
+    (sym (ap (λ (n : ℕ). n % 3) e) ∙ c.if-follow-ne0.false)

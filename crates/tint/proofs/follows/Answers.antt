@@ -5,8 +5,7 @@ use mathlib.Core.Bool.{false, ◌&&◌}
 use Prim.Native.Nat.{ℕ, ◌≤◌, ◌<◌}
 use lib.Dec.{ltb}
 use Rattle.tint.specs.Format.{is_in_range}
-use Rattle.tint.proofs.follows.Statement.{statement}
-use Rattle.tint.proofs.follows.Tie as tie
+use Rattle.tint.proofs.follows.Goals as goal
 
 module _ (last canister steps : ℕ) where
   abbrev fits : mathlib.Core.Bool.Bool
@@ -30,32 +29,24 @@ module _ (last canister steps : ℕ) where
         in_range : steps ≤ 4800 → ltb last canister ≡ fits
         in_range h = rw (le-leb 1 canister least, le-leb canister 12 most, le-leb 1 steps some, le-leb steps 4800 h)
 
-returns : tie.Need-returns
-returns c =
-    let a = c.before.args in
-    low_canister a.last a.canister a.steps c.if1.true
+pub returns-then-canister-lt1 : goal.returns-then-canister-lt1
+returns-then-canister-lt1 c = let a = c.args in
+    low_canister a.last a.canister a.steps c.if-canister-lt1.true
 
-returns-2 : tie.Need-returns-2
-returns-2 c =
-    let a = c.before.before.args in
-    high_canister a.last a.canister a.steps c.before.if1.false c.if2.true
+pub returns-then-canister-gt-CANISTERS : goal.returns-then-canister-gt-CANISTERS
+returns-then-canister-gt-CANISTERS c = let a = c.args in
+    high_canister a.last a.canister a.steps c.if-canister-lt1.false c.if-canister-gt-CANISTERS.true
 
-returns-3 : tie.Need-returns-3
-returns-3 c =
-    let a = c.before.before.before.args in
-    low_steps a.last a.canister a.steps c.before.before.if1.false c.before.if2.false c.if3.true
+pub returns-then-steps-lt1 : goal.returns-then-steps-lt1
+returns-then-steps-lt1 c = let a = c.args in
+    low_steps a.last a.canister a.steps c.if-canister-lt1.false c.if-canister-gt-CANISTERS.false c.if-steps-lt1.true
 
-returns-4 : tie.Need-returns-4
-returns-4 c =
-    let a = c.before.before.before.before.args in
-    high_steps a.last a.canister a.steps c.before.before.before.if1.false c.before.before.if2.false
-    c.before.if3.false c.if4.true
+pub returns-then-steps-gt-MOST_STEPS : goal.returns-then-steps-gt-MOST_STEPS
+returns-then-steps-gt-MOST_STEPS c = let a = c.args in
+    high_steps a.last a.canister a.steps c.if-canister-lt1.false c.if-canister-gt-CANISTERS.false
+    c.if-steps-lt1.false c.if-steps-gt-MOST_STEPS.true
 
-returns-5 : tie.Need-returns-5
-returns-5 c =
-    let a = c.before.before.before.before.args in
-    in_range a.last a.canister a.steps c.before.before.before.if1.false c.before.before.if2.false
-    c.before.if3.false c.if4.false
-
-pub follows-spec : {M : Type 1} → statement M
-follows-spec = tie.close (tie.spec returns returns-2 returns-3 returns-4 returns-5)
+pub returns : goal.returns
+returns c = let a = c.args in
+    in_range a.last a.canister a.steps c.if-canister-lt1.false c.if-canister-gt-CANISTERS.false
+    c.if-steps-lt1.false c.if-steps-gt-MOST_STEPS.false

@@ -1,5 +1,4 @@
 -- `write_order`: the head, and the entries in the part behind it. Assumes nothing.
-use borrow.Author.Rules.{rules}
 use mathlib.Core.List.{List, [], ◌++◌, append_assoc, append-nil}
 use mathlib.Core.Path.{◌≡◌, sym, ap, ap₂, ◌∙◌}
 use native.Mathlib.Omega.{arith}
@@ -8,8 +7,7 @@ use lib.ListN.{length, take, drop}
 use lib.Seq.{take_all, drop-length, drop-drop}
 use Rattle.tint.specs.Calls.{doses_at}
 use Rattle.tint.specs.Code.{head_bytes, low_entries}
-use Rattle.tint.proofs.write_order.Statement.{statement}
-use Rattle.tint.proofs.write_order.Tie as tie
+use Rattle.tint.proofs.write_order.Goals as goal
 
 -- the part behind three bytes, put back
 put_back : (n follow : ℕ) (order after part low : List ℕ) → after ≡ head_bytes follow ++ drop 3 order
@@ -24,44 +22,7 @@ put_back n follow order after part low e p =
     ap₂ (λ (x y : List ℕ). x ++ y) (ap (take 3) e) (ap (λ (y : List ℕ). part ++ y) z ∙ append-nil part ∙ p ∙ ap (λ (y : List ℕ). low ++ drop n y) t)
     ∙ sym (append_assoc (head_bytes follow) low (drop n rest)) ∙ ap (λ (y : List ℕ). (head_bytes follow ++ low) ++ y) (drop-drop n 3 order)
 
-mul-write-head : tie.Need-overflow-mul-write-head
-mul-write-head c = search rules
-
-write-head-requires : tie.Need-write-head-requires
-write-head-requires c κs = search rules
-
-sub-write-entries : tie.Need-overflow-sub-write-entries
-sub-write-entries c = search rules
-
-part-write-entries-start : tie.Need-slice-bounds-write-entries-start
-part-write-entries-start c = search rules
-
-part-write-entries-end : tie.Need-slice-bounds-write-entries-end
-part-write-entries-end c = search rules
-
-write-entries-requires : tie.Need-write-entries-requires
-write-entries-requires c κs = search rules
-
-same_length : tie.Need-same-length
-same_length c = search rules
-
-returns : tie.Need-returns
-returns c =
-    let entries = c.before.before in
-    let head = entries.before.before.before.before in
-    let a = head.before.before.before.args in
+pub returns : goal.returns
+returns c = let a = c.args in
     put_back (a.count * 3) (a.count * 3) a.order.now _ _ (low_entries (doses_at a.count a.canisters a.steps 0))
-    head.write-head.ensures entries.write_entries.ensures
-
-pub write-order-spec : {M : Type 1} → statement M
-write-order-spec =
-    tie.close
-    (tie.spec
-    mul-write-head
-    write-head-requires
-    sub-write-entries
-    part-write-entries-start
-    part-write-entries-end
-    write-entries-requires
-    same_length
-    returns)
+    c.write_head.ensures c.write_entries.ensures
