@@ -1,40 +1,42 @@
 // The run program: a session on standard input, its course on standard output. It reads and writes; all else is in
-// `session`. It has no exit status of its own: whatever it wrote, it ends with 0.
-ghost use Rattle.std.specs.Prelude.{◌≡◌, List, ℕ, ◌≤◌, length};
+// `session`. It has no exit status of its own: whatever it wrote, it ends with 0, unless a read or a write fails.
+#![tactic(auto)]
+
+ghost use Rattle.std.specs.Prelude.{◌≡◌, List, ℕ, ◌≤◌, length, IfOk};
 ghost use Rattle.session.specs.Program.{turn};
 
-use libc::{STDIN_FILENO, STDOUT_FILENO};
 use session::program::{PART_BYTES, Program, Turn};
+use std::io::{self, Read, Write};
 
-fn write(turn: Turn)
+fn write(rt: &HostRuntime, turn: Turn) -> io::Result<()>
     requires { turn.output.len ≤ length turn.output.bytes }
 {
     let output = turn.output;
     let bytes = output.bytes;
     let len = output.len;
-    io::write_all(STDOUT_FILENO, &bytes[..len]);
+    io::writer(rt).write_all(&bytes[..len])
 }
 
 // The turn of some bytes: no contract can say that they are the input's.
-fn read(program: Program) -> Turn
-    ensures { (bytes : List ℕ) × (result ≡ turn program bytes) }
+fn read(rt: &HostRuntime, program: Program) -> io::Result<Turn>
+    ensures { IfOk result (λ t. (bytes : List ℕ) × (t ≡ turn program bytes)) }
 {
     let mut part = [0u8; PART_BYTES];
-    let got = libc::read(STDIN_FILENO, &mut part);
-    let count = io::count(got, &part);
-    program.read(&part, count)
+    let count = rt.reader().read(&mut part)?;
+    Ok(program.read(&part, count))
 }
 
 // A proved loop has to end, and nothing says that the input does: the reads are counted down from a number that no run
 // uses up.
-fn main() {
+fn main(rt: HostRuntime) -> io::Result<()> {
     let mut turn = Program::start();
-    write(turn);
+    write(&rt, turn)?;
     let mut reads = u64::MAX;
     while reads > 0 && !turn.over {
         let program = turn.program;
-        turn = read(program);
-        write(turn);
+        turn = read(&rt, program)?;
+        write(&rt, turn)?;
         reads -= 1;
     }
+    Ok(())
 }

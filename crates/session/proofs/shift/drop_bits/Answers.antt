@@ -1,0 +1,31 @@
+-- `drop_bits` meets its contract: the bytes so far are those of the moved bits, the others as they were. Assumes nothing.
+use mathlib.Core.Path.{◌≡◌, refl, sym, ◌∙◌}
+use Prim.Native.Nat.{ℕ, ◌-◌, ◌<◌, ◌≤◌}
+use native.Mathlib.Omega.{arith}
+use borrow.Author.Rules.{rules}
+use lib.ListN.{length, get_or, take, drop, length-set}
+use lib.Seq.{take_all}
+use Rattle.crc.specs.Bits.{bits_of, bytes_of}
+use Rattle.session.proofs.Shifting.{shift_more}
+use Rattle.session.proofs.shift.drop_bits.Goals as goal
+
+pub loop-i-init : goal.loop-i-init
+unfolding bytes_of
+loop-i-init c = (search rules, refl, λ j. (c.slice_known-1.given j).fits, refl, refl)
+
+pub loop-i-smaller : goal.loop-i-smaller
+loop-i-smaller c = simp length-set (omega arith)
+
+pub loop-i-preserved : goal.loop-i-preserved
+loop-i-preserved c = let l = c.loop-i in
+    let e = rw (c.byte_at-in-loop-i.ensures, c.byte_at.ensures) at c.shifted.ensures in
+    let m = shift_more l.s _ _ l.i c.shifted.result (omega arith) l.invariant.2 l.invariant.3 l.invariant.4 e in
+    (simp length-set (omega arith), simp length-set l.invariant.1, l.invariant.2, m.0, m.1)
+
+pub shape_of-s : goal.shape_of-s
+shape_of-s c = c.loop-i.invariant.1
+
+pub returns : goal.returns
+returns c = let l = c.loop-i in
+    let n : l.i ≡ length l.s = omega arith in
+    rw (← l.invariant.1, ← n, ← l.invariant.3) (sym (take_all l.i l.s (omega arith)))

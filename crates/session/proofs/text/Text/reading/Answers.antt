@@ -1,0 +1,14 @@
+-- `Text::reading` meets its contract. Assumes nothing.
+use native.Mathlib.Omega.{arith}
+use borrow.Author.Rules.{rules}
+use Rattle.session.proofs.Decimal.{length-bit}
+use Rattle.session.proofs.text.Text.reading.Goals as goal
+
+pub returns-in-Ignored : goal.returns-in-Ignored
+returns-in-Ignored c = (rw c.in-Ignored.is c.byte.ensures, omega (arith, c.byte.ensures.len))
+
+pub returns-in-Used : goal.returns-in-Used
+returns-in-Used c = (
+  rw c.in-Used.is c.bit.ensures,
+  omega (arith, c.bit.ensures.len, length-bit c.in-Used.bit),
+)
