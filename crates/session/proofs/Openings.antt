@@ -2,8 +2,8 @@
 use mathlib.Core.Path.{◌≡◌, refl, ◌∙◌}
 use mathlib.Core.Bool.{Bool, true, false}
 use mathlib.Core.List.{List}
-use mathlib.Core.Logic.{◌⊎◌, ⊎_elim}
-use Prim.Native.Nat.{ℕ, ◌*◌, ◌≤◌, ◌<◌, min}
+use mathlib.Core.Logic.{⊎_elim}
+use Prim.Native.Nat.{ℕ, ◌≤◌, ◌<◌, min}
 use native.Mathlib.Omega.{arith}
 use lib.Dec.{eqb}
 use lib.ListN.{take}
@@ -17,7 +17,6 @@ use Rattle.line.specs.LoopTime.{loop_time}
 use Rattle.line.specs.Sending.{open_sender}
 use Rattle.session.specs.LineOne.{limit}
 use Rattle.session.specs.Outcomes.{speed, loop_ms, code_size, order_room}
-use Rattle.line.specs.declared.sender.Sender.{Sender}
 use Rattle.session.proofs.Decimal.{below_or}
 use Rattle.session.proofs.Orders.{short-kept}
 

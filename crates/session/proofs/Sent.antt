@@ -2,7 +2,7 @@
 use mathlib.Core.Path.{◌≡◌, refl, sym, ap, ap₂, ◌∙◌}
 use mathlib.Core.Bool.{Bool, true, false, cond, not}
 use mathlib.Core.List.{List, [], ◌∷◌, ◌++◌}
-use Prim.Native.Nat.{ℕ, zero, suc, ◌+◌, ◌-◌, ◌*◌, ◌/◌, ◌^◌, ◌≤◌, ◌<◌}
+use Prim.Native.Nat.{ℕ, zero, suc, ◌+◌, ◌-◌, ◌*◌, ◌^◌, ◌<◌}
 use native.Mathlib.Nat.{sub-zero, zero-sub, suc-sub-suc}
 use native.Mathlib.Omega.{arith}
 use lib.Bits.{bit_xor, xor_block, xor_zero_r}
@@ -10,7 +10,7 @@ use lib.ListN.{length, get_or, set, take, drop, replicate, drop_of_length-le, le
 use lib.Seq.{length-take-le}
 use Rattle.crc.specs.Bits.{Bits, bit, number, bytes_of, zeros}
 use Rattle.crc.proofs.Rows.{number-cons, number_lt}
-use Rattle.block.specs.Answer.{Answer, done}
+use Rattle.block.specs.Answer.{done}
 use Rattle.block.specs.Lengths.{is_length, block_length, block_bytes}
 use Rattle.block.specs.Block.{cancelled}
 use Rattle.block.proofs.Lengths.{length_facts}

@@ -2,7 +2,6 @@
 use native.Mathlib.Omega.{arith}
 use Rattle.session.proofs.Ranges.{within, below, above}
 use Rattle.session.specs.LineOne.{hex_value}
-use borrow.Author.Rules.{rules}
 use Rattle.session.proofs.line_one.hex_value.Goals as goal
 
 pub returns-in-48-to-57 : goal.returns-in-48-to-57

@@ -1,15 +1,7 @@
 use mathlib.Core.Path.{◌≡◌, refl, sym, ap, ◌∙◌}
-use Prim.Native.Nat.{ℕ, ◌<◌}
 use native.Mathlib.Omega.{arith}
-use borrow.Author.Rules.{rules}
-use lib.ListN.{length, take}
-use Rattle.crc.specs.Bits.{bits_of}
-use Rattle.session.specs.Period.{Lent, Hearing, hear}
+use Rattle.session.specs.Period.{Hearing, hear}
 use Rattle.session.proofs.ReceivingCalls.{refusal, progress}
-use Rattle.session.proofs.period.hear.Reads as reads
-use Rattle.session.proofs.period.hear.Lts as lts
-use Rattle.session.proofs.period.last_event.Reads as last-event-reads
-use Rattle.session.proofs.shift.drop_bits.Reads as drop-bits-reads
 use Rattle.session.proofs.period.hear.Goals as goal
 
 pub loop-left-init : goal.loop-left-init
@@ -28,7 +20,7 @@ returns-in-Refused c = let l = c.loop-left in
     refusal l.state l.line l.left l.store l.last r.result r.new.store l.invariant.0
     c.loop-left-test.true r.ensures _ c.in-Refused.is in
     let e = sym g ∙ l.invariant.3 in
-    (ap (λ (h : Hearing). h.heard) e, ap (λ (h : Hearing). h.store) e)
+    record { value = ap (λ (h : Hearing). h.heard) e; store_after = ap (λ (h : Hearing). h.store) e }
 
 pub overflow_sub-left : goal.overflow_sub-left
 overflow_sub-left c = let l = c.loop-left in
@@ -70,4 +62,4 @@ unfolding hear
 returns c = let l = c.loop-left in
     let z : l.left ≡ 0 = omega arith in
     let e = rw z at l.invariant.3 in
-    (ap (λ (h : Hearing). h.heard) e, ap (λ (h : Hearing). h.store) e)
+    record { value = ap (λ (h : Hearing). h.heard) e; store_after = ap (λ (h : Hearing). h.store) e }

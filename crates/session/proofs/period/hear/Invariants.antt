@@ -1,15 +1,7 @@
-use mathlib.Core.Path.{◌≡◌, refl, sym, ap, ◌∙◌}
-use Prim.Native.Nat.{ℕ, ◌<◌}
-use native.Mathlib.Omega.{arith}
-use borrow.Author.Rules.{rules}
+use mathlib.Core.Path.{◌≡◌}
 use lib.ListN.{length, take}
 use Rattle.crc.specs.Bits.{bits_of}
-use Rattle.session.specs.Period.{Lent, Hearing, hear}
-use Rattle.session.proofs.ReceivingCalls.{refusal, progress}
-use Rattle.session.proofs.period.hear.Reads as reads
-use Rattle.session.proofs.period.hear.Lts as lts
-use Rattle.session.proofs.period.last_event.Reads as last-event-reads
-use Rattle.session.proofs.shift.drop_bits.Reads as drop-bits-reads
+use Rattle.session.specs.Period.{Lent, hear}
 use Rattle.session.proofs.period.hear.Given as goal
 
 abbrev pub invariant-loop-left : goal.invariant-loop-left

@@ -6,7 +6,6 @@ use Rattle.crc.specs.Bits.{bits_of}
 use Rattle.crc.proofs.Bytes.{length-bytes_of}
 use Rattle.session.specs.Period.{line_bytes}
 use Rattle.session.proofs.ReceivingCalls.{arrives}
-use borrow.Author.Rules.{rules}
 use Rattle.session.proofs.period.heard_period.Goals as goal
 
 pub disturb-requires : goal.disturb-requires
@@ -21,4 +20,4 @@ pub returns : goal.returns
 returns c = let a = c.args in
     let g = arrives a.kind a.line.now a.count c.requires.0 c.requires.1 in
     let e = rw (c.disturb.ensures, g.bits) at c.hear-heard.ensures in
-    (rw (c.outcome_of.ensures, e.0), e.1)
+    record { value = rw (c.outcome_of.ensures, e.value); store_after = e.store_after }

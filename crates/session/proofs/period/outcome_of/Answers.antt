@@ -1,5 +1,4 @@
 -- `outcome_of` meets its contract: an arm for each end. Assumes nothing.
-use borrow.Author.Rules.{rules}
 use Rattle.session.proofs.period.outcome_of.Goals as goal
 
 pub returns-in-Refused : goal.returns-in-Refused

@@ -1,14 +1,13 @@
 -- `run_period` meets its contract: by what the sending call promises, the receiving calls follow. Assumes nothing.
-use mathlib.Core.Path.{◌≡◌, sym, ap, ◌∙◌}
+use mathlib.Core.Path.{sym, ap, ◌∙◌}
 use native.Mathlib.Omega.{arith}
 use Rattle.session.specs.Period.{PeriodResult}
 use Rattle.session.proofs.PeriodCalls.{not-sent, BlockSent, sent}
-use borrow.Author.Rules.{rules}
 use Rattle.session.proofs.period.run_period.Goals as goal
-use Rattle.session.proofs.period.run_period.Goals.{In-Sent-2}
+use Rattle.session.proofs.period.run_period.Goals.{In-Sent}
 
 -- the block that the call sent
-block-sent : (c : In-Sent-2)
+block-sent : (c : In-Sent)
     → let a = c.args in
     let r = c.reading_of-reading in
     let w = c.send-step in
@@ -18,10 +17,10 @@ block-sent : (c : In-Sent-2)
 block-sent c = sent _ _ _ _ _ _ _ _ _ _ _ _ _ _ c.in-Sent.is
 
 pub overflow_add-setup : goal.overflow_add-setup
-overflow_add-setup c = let g = block-sent (goal.at.overflow_add-setup c).In-Sent-2 in omega (arith, g.count)
+overflow_add-setup c = let g = block-sent (goal.at.overflow_add-setup c).In-Sent in omega (arith, g.count)
 
 pub heard_period-requires : goal.heard_period-requires
-heard_period-requires c = let g = block-sent (goal.at.heard_period-requires c).In-Sent-2 in (g.lent, omega arith)
+heard_period-requires c = let g = block-sent (goal.at.heard_period-requires c).In-Sent in (g.lent, omega arith)
 
 pub returns-in-Refused : goal.returns-in-Refused
 returns-in-Refused c = let a = c.args in
@@ -34,9 +33,9 @@ returns-in-Refused c = let a = c.args in
     record { answers = sym (ap (λ (x : PeriodResult). x.period) m); writes = sym (ap (λ (x : PeriodResult). x.store) m) }
 
 pub returns-in-Sent : goal.returns-in-Sent
-returns-in-Sent c = let g = block-sent (goal.at.returns-in-Sent c).In-Sent-2 in
+returns-in-Sent c = let g = block-sent (goal.at.returns-in-Sent c).In-Sent in
     let h = c.heard_period in
     record {
-      answers = h.ensures.0 ∙ sym (ap (λ (x : PeriodResult). x.period) g.result);
-      writes = h.ensures.1 ∙ sym (ap (λ (x : PeriodResult). x.store) g.result);
+      answers = h.ensures.value ∙ sym (ap (λ (x : PeriodResult). x.period) g.result);
+      writes = h.ensures.store_after ∙ sym (ap (λ (x : PeriodResult). x.store) g.result);
     }

@@ -1,5 +1,4 @@
 -- `shown_reading` meets its contract. Assumes nothing.
-use borrow.Author.Rules.{rules}
 use Rattle.session.proofs.period.shown_reading.Goals as goal
 
 pub returns-then-used : goal.returns-then-used

@@ -1,5 +1,4 @@
 -- `shown_sending` meets its contract. Assumes nothing.
-use borrow.Author.Rules.{rules}
 use Rattle.session.proofs.period.shown_sending.Goals as goal
 
 pub returns-in-Refused : goal.returns-in-Refused

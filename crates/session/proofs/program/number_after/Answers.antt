@@ -1,5 +1,4 @@
 -- `number_after` meets its contract. Assumes nothing.
-use borrow.Author.Rules.{rules}
 use Rattle.session.proofs.program.number_after.Goals as goal
 
 pub returns-in-Outcome : goal.returns-in-Outcome

@@ -1,5 +1,4 @@
 -- `put_yield` meets its contract: nothing, or an outcome's text. Assumes nothing.
-use borrow.Author.Rules.{rules}
 use Rattle.session.proofs.Outputs.{puts_held, puts_nothing}
 use Rattle.session.proofs.program.put_yield.Goals as goal
 

@@ -2,7 +2,7 @@
 use borrow.Author.Rules.{rules}
 use mathlib.Core.Path.{◌≡◌, refl, sym, ap, ◌∙◌}
 use mathlib.Core.List.{List, [], ◌∷◌, ◌++◌, append_assoc, append-nil}
-use Prim.Native.Nat.{ℕ, ◌+◌, ◌-◌, ◌*◌, ◌≤◌, ◌<◌}
+use Prim.Native.Nat.{ℕ, ◌+◌, ◌*◌, ◌≤◌, ◌<◌}
 use native.Mathlib.Numerals.{add-one}
 use native.Mathlib.Omega.{arith}
 use lib.ListN.{length, take, drop, get_or, take-append-drop, drop_of_length-le}
@@ -14,16 +14,7 @@ use Rattle.session.specs.declared.program.Program.{Program}
 use Rattle.session.specs.declared.script.Taken.{Taken}
 use Rattle.session.proofs.Outputs.{as_paste}
 use Rattle.session.proofs.program.read_bytes.Goals as goal
-
--- after i bytes of the part: what is still to come from the program p, and the texts so far in the output's first len bytes
-record Going (p₀ : Program) (part output₀ : List ℕ) (p : Program) (output : List ℕ) (len i : ℕ) : Type 0 where
-  within : i ≤ length part
-  fits : room * length part ≤ length output₀
-  short : len ≤ room * i
-  same : length output ≡ length output₀
-  program : after_bytes p (drop i part) ≡ after_bytes p₀ part
-  text : take len output ++ bytes_text p (drop i part) ≡ bytes_text p₀ part
-  rest : drop len output ≡ drop len output₀
+use Rattle.session.proofs.program.read_bytes.Invariants.{Going}
 
 begins : (p : Program) (part output : List ℕ) → room * length part ≤ length output → Going p part output p output 0 0
 begins p part output h =
@@ -106,10 +97,6 @@ loop-i-init c = let a = c.args in
 pub put_yield-len-requires : goal.put_yield-len-requires
 put_yield-len-requires c = let g = c.loop-i.invariant.2 in
     omega (arith, g.short, g.same, g.fits)
-
-pub overflow_add-i : goal.overflow_add-i
-overflow_add-i c = let g = c.well-formed in
-    omega (arith, c.loop-i-test.true)
 
 pub loop-i-preserved : goal.loop-i-preserved
 loop-i-preserved c = let l = c.loop-i in

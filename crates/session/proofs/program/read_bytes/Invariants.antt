@@ -1,19 +1,22 @@
 -- `read_bytes` meets its contract: a byte a turn, its text behind those before it. Assumes nothing.
-use borrow.Author.Rules.{rules}
-use mathlib.Core.Path.{◌≡◌, refl, sym, ap, ◌∙◌}
-use mathlib.Core.List.{List, [], ◌∷◌, ◌++◌, append_assoc, append-nil}
-use Prim.Native.Nat.{ℕ, ◌+◌, ◌-◌, ◌*◌, ◌≤◌, ◌<◌}
-use native.Mathlib.Numerals.{add-one}
-use native.Mathlib.Omega.{arith}
-use lib.ListN.{length, take, drop, get_or, take-append-drop, drop_of_length-le}
-use lib.Seq.{paste, length-paste, take-paste, drop-paste, take_all, drop-cons, drop-drop, length-take-le}
-use Rattle.session.specs.Program.{keeping, yield_text, number_after, byte_taken, after_byte, after_bytes, bytes_text, Puts, laid}
-use Rattle.session.specs.Session.{Take}
+use mathlib.Core.Path.{◌≡◌}
+use mathlib.Core.List.{List, ◌++◌}
+use Prim.Native.Nat.{ℕ, ◌-◌, ◌*◌, ◌≤◌}
+use lib.ListN.{length, take, drop}
+use Rattle.session.specs.Program.{keeping, after_bytes, bytes_text}
 use Rattle.session.specs.Text.{room}
 use Rattle.session.specs.declared.program.Program.{Program}
-use Rattle.session.specs.declared.script.Taken.{Taken}
-use Rattle.session.proofs.Outputs.{as_paste}
 use Rattle.session.proofs.program.read_bytes.Given as goal
+
+-- after i bytes of the part: what is still to come from the program p, and the texts so far in the output's first len bytes
+pub record Going (p₀ : Program) (part output₀ : List ℕ) (p : Program) (output : List ℕ) (len i : ℕ) : Type 0 where
+  pub within : i ≤ length part
+  pub fits : room * length part ≤ length output₀
+  pub short : len ≤ room * i
+  pub same : length output ≡ length output₀
+  pub program : after_bytes p (drop i part) ≡ after_bytes p₀ part
+  pub text : take len output ++ bytes_text p (drop i part) ≡ bytes_text p₀ part
+  pub rest : drop len output ≡ drop len output₀
 
 abbrev pub invariant-loop-i : goal.invariant-loop-i
 invariant-loop-i l = (length l.order ≡ length l.initial.order) × (length l.store ≡ length l.initial.store)

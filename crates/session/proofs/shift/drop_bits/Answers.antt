@@ -1,11 +1,10 @@
 -- `drop_bits` meets its contract: the bytes so far are those of the moved bits, the others as they were. Assumes nothing.
-use mathlib.Core.Path.{◌≡◌, refl, sym, ◌∙◌}
-use Prim.Native.Nat.{ℕ, ◌-◌, ◌<◌, ◌≤◌}
+use mathlib.Core.Path.{◌≡◌, refl, sym}
 use native.Mathlib.Omega.{arith}
 use borrow.Author.Rules.{rules}
-use lib.ListN.{length, get_or, take, drop, length-set}
+use lib.ListN.{length, length-set}
 use lib.Seq.{take_all}
-use Rattle.crc.specs.Bits.{bits_of, bytes_of}
+use Rattle.crc.specs.Bits.{bytes_of}
 use Rattle.session.proofs.Shifting.{shift_more}
 use Rattle.session.proofs.shift.drop_bits.Goals as goal
 

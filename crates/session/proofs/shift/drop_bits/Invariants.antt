@@ -1,12 +1,8 @@
 -- `drop_bits` meets its contract: the bytes so far are those of the moved bits, the others as they were. Assumes nothing.
-use mathlib.Core.Path.{◌≡◌, refl, sym, ◌∙◌}
+use mathlib.Core.Path.{◌≡◌}
 use Prim.Native.Nat.{ℕ, ◌-◌, ◌<◌, ◌≤◌}
-use native.Mathlib.Omega.{arith}
-use borrow.Author.Rules.{rules}
-use lib.ListN.{length, get_or, take, drop, length-set}
-use lib.Seq.{take_all}
+use lib.ListN.{length, get_or, take, drop}
 use Rattle.crc.specs.Bits.{bits_of, bytes_of}
-use Rattle.session.proofs.Shifting.{shift_more}
 use Rattle.session.proofs.shift.drop_bits.Given as goal
 
 abbrev pub invariant-loop-i : goal.invariant-loop-i

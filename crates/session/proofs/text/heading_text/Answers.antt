@@ -2,11 +2,7 @@
 use native.Mathlib.Omega.{arith}
 use Rattle.session.specs.Text.{heading}
 use Rattle.session.proofs.Appending.{appends_all}
-use borrow.Author.Rules.{rules}
 use Rattle.session.proofs.text.heading_text.Goals as goal
-
-slice-aggregate-word : tie.Need-slice-aggregate-word
-slice-aggregate-word c = search rules
 
 pub word-requires : goal.word-requires
 word-requires c = rw c.new.ensures (omega arith)

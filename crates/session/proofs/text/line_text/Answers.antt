@@ -7,7 +7,6 @@ use Rattle.session.specs.Text.{Appends, empty_text, ascii, decimal, block_text, 
 use Rattle.session.specs.declared.text.Text.{Text}
 use Rattle.session.proofs.Appending.{appends_all, appends_next}
 use Rattle.session.proofs.Decimal.{length-decimal, length-bit}
-use borrow.Author.Rules.{rules}
 use Rattle.session.proofs.text.line_text.Goals as goal
 use Rattle.session.proofs.text.line_text.Goals.{After-block-sent, After-decimal, After-event-heard, After-new, After-reading-read}
 
@@ -18,16 +17,16 @@ newly c = ap (λ (t : Text). t.len) c.new.ensures
 after-period : (c : After-decimal) → c.decimal.result.len ≤ 20
 after-period c =
     omega
-    (arith, newly (goal.at.LEMMA c).After-new, c.decimal.ensures.len, length-decimal 19 c.args.period (omega arith))
+    (arith, ap (λ (t : Text). t.len) c.new.ensures, c.decimal.ensures.len, length-decimal 19 c.args.period (omega arith))
 
 after_block : (c : After-block-sent) → c.block-sent.result.len ≤ 42
-after_block c = omega (arith, after-period (goal.at.LEMMA c).After-decimal, c.byte.ensures.len)
+after_block c = omega (arith, ap (λ (t : Text). t.len) c.new.ensures, c.decimal.ensures.len, length-decimal 19 c.args.period (omega arith), c.byte.ensures.len)
 
 after-reading : (c : After-reading-read) → c.reading-read.result.len ≤ 44
-after-reading c = omega (arith, after_block (goal.at.LEMMA c).After-block-sent, c.byte-2.ensures.len)
+after-reading c = omega (arith, ap (λ (t : Text). t.len) c.new.ensures, c.decimal.ensures.len, length-decimal 19 c.args.period (omega arith), c.byte.ensures.len, c.byte-2.ensures.len)
 
 after-event : (c : After-event-heard) → c.event-heard.result.len ≤ 59
-after-event c = omega (arith, after-reading (goal.at.LEMMA c).After-reading-read, c.byte-3.ensures.len)
+after-event c = omega (arith, ap (λ (t : Text). t.len) c.new.ensures, c.decimal.ensures.len, length-decimal 19 c.args.period (omega arith), c.byte.ensures.len, c.byte-2.ensures.len, c.byte-3.ensures.len)
 
 pub decimal-requires : goal.decimal-requires
 decimal-requires c = omega (arith, newly (goal.at.decimal-requires c).After-new, length-decimal 19 c.args.period (omega arith))
@@ -71,8 +70,8 @@ returns c = let l = c.args.line in
     let period : Appends empty_text (decimal c.args.period) c.decimal.result =
     rw c.new.ensures at c.decimal.ensures in
     let sent : Appends empty_text (decimal c.args.period ++ ascii " " ++ block_text l.block) c.block-sent.result =
-    appends_next _ _ _ _ (appends_next _ _ _ _ period c.byte.ensures) c.block-sent.ensures.0 in
-    let read = appends_next _ _ _ _ (appends_next _ _ _ _ sent c.byte-2.ensures) c.reading-read.ensures.0 in
-    let heard = appends_next _ _ _ _ (appends_next _ _ _ _ read c.byte-3.ensures) c.event-heard.ensures.0 in
+    appends_next _ _ _ _ (appends_next _ _ _ _ period c.byte.ensures) c.block-sent.ensures.appends in
+    let read = appends_next _ _ _ _ (appends_next _ _ _ _ sent c.byte-2.ensures) c.reading-read.ensures.appends in
+    let heard = appends_next _ _ _ _ (appends_next _ _ _ _ read c.byte-3.ensures) c.event-heard.ensures.appends in
     appends_all (line_text c.args.period l) c.byte-5.result
     (appends_next _ _ _ _ (appends_next _ _ _ _ (appends_next _ _ _ _ heard c.byte-4.ensures) c.bit.ensures) c.byte-5.ensures)

@@ -1,5 +1,4 @@
 -- `outcome_text` meets its contract. Assumes nothing.
-use borrow.Author.Rules.{rules}
 use Rattle.session.proofs.text.outcome_text.Goals as goal
 
 pub returns-in-Refused : goal.returns-in-Refused

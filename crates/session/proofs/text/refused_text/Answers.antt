@@ -6,12 +6,8 @@ use Rattle.session.specs.Text.{Appends, empty_text, ascii, refused_text}
 use Rattle.session.specs.declared.text.Text.{Text}
 use Rattle.session.proofs.Appending.{appends_all, appends_next}
 use Rattle.session.proofs.Decimal.{length-decimal}
-use borrow.Author.Rules.{rules}
 use Rattle.session.proofs.text.refused_text.Goals as goal
 use Rattle.session.proofs.text.refused_text.Goals.{After-word}
-
-slice-aggregate-word : tie.Need-slice-aggregate-word
-slice-aggregate-word c = search rules
 
 pub word-requires : goal.word-requires
 word-requires c = rw c.new.ensures (omega arith)

@@ -1,6 +1,5 @@
 -- `LineOne::read_blank` meets its contract: a blank or not. Assumes nothing.
 use borrow.Author.Tests.{eq-eqb, ne_eqb}
-use borrow.Author.Rules.{rules}
 use Rattle.session.proofs.line_one.LineOne.read_blank.Goals as goal
 
 pub returns-then-c-eq32 : goal.returns-then-c-eq32

@@ -1,6 +1,5 @@
 -- `LineOne::read_decimal` meets its contract: a digit or not. Assumes nothing.
 use borrow.Author.Tests.{lt-ltb, le-ltb}
-use borrow.Author.Rules.{rules}
 use Rattle.session.proofs.line_one.LineOne.read_decimal.Goals as goal
 
 pub returns-then-digit-lt10 : goal.returns-then-digit-lt10

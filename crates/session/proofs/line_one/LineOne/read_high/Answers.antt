@@ -1,6 +1,5 @@
 -- `LineOne::read_high` meets its contract: a digit or not. Assumes nothing.
 use borrow.Author.Tests.{lt-ltb, le-ltb}
-use borrow.Author.Rules.{rules}
 use Rattle.session.proofs.line_one.LineOne.read_high.Goals as goal
 
 pub returns-then-digit-lt16 : goal.returns-then-digit-lt16

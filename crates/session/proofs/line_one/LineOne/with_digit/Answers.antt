@@ -1,5 +1,4 @@
 -- `LineOne::with_digit` meets its contract: an arm for each number. Assumes nothing.
-use borrow.Author.Rules.{rules}
 use Rattle.session.proofs.line_one.LineOne.with_digit.Goals as goal
 
 pub returns-in-K : goal.returns-in-K

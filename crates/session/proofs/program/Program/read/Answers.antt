@@ -23,7 +23,7 @@ pub read_part-requires : goal.read_part-requires
 read_part-requires c = let a = c.args in
     let h : length a.part.now ≡ 2048 = search rules in
     let l = length-take-le c.least-n.result a.part.now (omega arith) in
-    (omega arith, omega arith)
+    record { part_nonzero = omega arith; part_len_bound = omega arith }
 
 pub returns : goal.returns
 returns c = let a = c.args in

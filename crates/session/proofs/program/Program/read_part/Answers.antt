@@ -1,5 +1,4 @@
 -- `Program::read_part` meets its contract. Assumes nothing.
-use borrow.Author.Rules.{rules}
 use mathlib.Core.Path.{◌≡◌, refl, sym, ◌∙◌}
 use mathlib.Core.Bool.{Bool}
 use mathlib.Core.List.{List, [], ◌∷◌}
@@ -24,5 +23,5 @@ part_read p part q bytes len b h r v =
 
 pub returns : goal.returns
 returns c = let r = c.read_bytes-reached in
-    part_read c.args.self c.args.part.now _ _ r.result.len c.is_over-over.result c.requires.0 r.ensures
+    part_read c.args.self c.args.part.now _ _ r.result.len c.is_over-over.result c.requires.part_nonzero r.ensures
     c.is_over-over.ensures

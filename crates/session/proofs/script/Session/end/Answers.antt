@@ -2,7 +2,6 @@
 use mathlib.Core.Path.{sym, ap, ◌∙◌}
 use Rattle.session.specs.Session.{ends, ends_store}
 use Rattle.session.specs.declared.script.Place.{Place}
-use borrow.Author.Rules.{rules}
 use Rattle.session.proofs.script.Session.end.Goals as goal
 
 pub returns-in-LineOne : goal.returns-in-LineOne
@@ -19,7 +18,7 @@ returns-in-LineStart c = let p = c.in-LineStart.is in
 pub returns-in-Kind : goal.returns-in-Kind
 unfolding ends ends_store
 returns-in-Kind c = let p = c.in-Kind.is in
-    record { answers = rw p c.line.ensures.0; stores = rw p c.line.ensures.1 }
+    record { answers = rw p c.line.ensures.value; stores = rw p c.line.ensures.store_after }
 
 pub returns-in-Over : goal.returns-in-Over
 unfolding ends ends_store

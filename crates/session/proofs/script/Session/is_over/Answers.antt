@@ -1,7 +1,6 @@
 -- `Session::is_over` meets its contract: an arm for each place. Assumes nothing.
 use mathlib.Core.Path.{sym, ap}
 use Rattle.session.specs.Session.{over}
-use borrow.Author.Rules.{rules}
 use Rattle.session.proofs.script.Session.is_over.Goals as goal
 
 pub returns-in-LineOne : goal.returns-in-LineOne

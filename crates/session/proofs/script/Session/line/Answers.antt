@@ -5,7 +5,6 @@ use lib.ListN.{take}
 use lib.Seq.{length-take-le}
 use Rattle.session.specs.Session.{order_of}
 use Rattle.session.proofs.Parts.{take_least}
-use borrow.Author.Rules.{rules}
 use Rattle.session.proofs.script.Session.line.Goals as goal
 
 pub slice_bounds-run_period-end : goal.slice_bounds-run_period-end
@@ -18,4 +17,4 @@ returns c = let a = c.args in
     ap (λ (m : _). take m a.order.now) n.ensures ∙ take_least a.self.opening.kept a.order.now in
     let p = c.run_period-period.ensures in
     let r = rw l at p.answers in
-    (rw (c.after_period.ensures, r), rw l at p.writes)
+    record { value = rw (c.after_period.ensures, r); store_after = rw l at p.writes }

@@ -2,9 +2,8 @@
 use mathlib.Core.Path.{◌≡◌, sym, ap, ◌∙◌}
 use mathlib.Core.Bool.{true, false}
 use native.Mathlib.Omega.{arith}
-use lib.ListN.{length, take}
+use lib.ListN.{take}
 use lib.Seq.{length-take-le}
-use borrow.Author.Tests.{not-true, not-false}
 use Rattle.block.specs.Answer.{Answer, refused, done}
 use Rattle.line.specs.Sending.{open_sender, opened_answer}
 use Rattle.line.specs.declared.sender.Sender.{Sender}
@@ -12,7 +11,6 @@ use Rattle.session.specs.LineOne.{readable}
 use Rattle.session.specs.Outcomes.{speed, loop_ms, code_size}
 use Rattle.session.specs.Session.{order_of, opens}
 use Rattle.session.proofs.Parts.{take_least}
-use borrow.Author.Rules.{rules}
 use Rattle.session.proofs.script.Session.open.Goals as goal
 use Rattle.session.proofs.script.Session.open.Goals.{After-open-opened, Else-not-is_readable}
 
@@ -21,14 +19,14 @@ read_first : (c : Else-not-is_readable) → readable c.args.self.opening.place �
 read_first c = sym c.is_readable.ensures ∙ c.if-not-is_readable.false
 
 -- how the sender was opened
-opened-as : (c : After-open-opened) (a : Answer Sender) → opened_answer c.«open».result ≡ a
+opened-as : (c : After-open-opened) (a : Answer Sender) → opened_answer c.open-opened.result ≡ a
     → let s = c.args.self in
     open_sender s.opening.k speed loop_ms s.opening.length code_size (order_of s c.args.order.now) ≡ a
 opened-as c a e =
     let s = c.args.self in
     let o = c.args.order.now in
     let l : take c.least-kept.result o ≡ order_of s o = ap (λ (n : _). take n o) c.least-kept.ensures ∙ take_least s.opening.kept o in
-    rw (← l) (sym c.«open».ensures.answers ∙ e)
+    rw (← l) (sym c.open-opened.ensures.answers ∙ e)
 
 pub returns-then-not-is_readable : goal.returns-then-not-is_readable
 unfolding opens

@@ -4,7 +4,6 @@ use mathlib.Core.Path.{◌≡◌, sym, ap, ◌∙◌}
 use Rattle.session.specs.Session.{opens, takes, takes_order, takes_store}
 use Rattle.session.specs.declared.script.Place.{Place}
 use Rattle.session.specs.declared.script.Place.TheVariants as P
-use borrow.Author.Rules.{rules}
 use Rattle.session.proofs.script.Session.read.Goals as goal
 
 pub returns-then-c-eq10 : goal.returns-then-c-eq10
@@ -19,13 +18,13 @@ pub returns-then-c-eq10-2 : goal.returns-then-c-eq10-2
 unfolding takes takes_order takes_store
 returns-then-c-eq10-2 c = let p = c.in-Kind.is in
     let t = eq-eqb _ _ c.if-c-eq10-2.true in
-    record { answers = rw (p, t) c.line.ensures.0; keeps = rw p; stores = rw (p, t) c.line.ensures.1 }
+    record { answers = rw (p, t) c.line.ensures.value; keeps = rw p; stores = rw (p, t) c.line.ensures.store_after }
 
 pub returns-else-c-eq10 : goal.returns-else-c-eq10
 unfolding takes takes_order takes_store
 returns-else-c-eq10 c = let p = c.in-LineOne.is in
     let t = ne_eqb _ _ c.if-c-eq10.false in
-    record { answers = rw (p, t) c.read_line_one.ensures.0; keeps = rw (p, t) c.read_line_one.ensures.1; stores = rw p }
+    record { answers = rw (p, t) c.read_line_one.ensures.value; keeps = rw (p, t) c.read_line_one.ensures.order_after; stores = rw p }
 
 pub returns-in-LineStart : goal.returns-in-LineStart
 unfolding takes takes_order takes_store

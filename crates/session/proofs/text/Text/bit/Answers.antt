@@ -1,5 +1,4 @@
 -- `Text::bit` meets its contract. Assumes nothing.
-use borrow.Author.Rules.{rules}
 use Rattle.session.proofs.text.Text.bit.Goals as goal
 
 pub returns-then-bit : goal.returns-then-bit
