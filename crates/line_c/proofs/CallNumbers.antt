@@ -125,9 +125,9 @@ module _ (P : Bool → ℕ → Type 0) (holds : Numbers P) where
       ∷ (too_short payload k || too_short slice (block_length k), A.short) ∷ [])
       refl (done tt) holds.of_zero
 
-  pub read_number : (k : ℕ) (slice payload : List ℕ) → By read_number (read_block k slice payload)
+  pub read_block-number : (k : ℕ) (slice payload : List ℕ) → By read_number (read_block k slice payload)
   unfolding read_block
-  read_number k slice payload =
+  read_block-number k slice payload =
       let v = verdict (take (block_length k) (bits_of slice)) in
       in_turn (By read_number) is_in_use holds.of_refusal
       ((not (is_length k), A.block) ∷ (too_short slice (block_length k) || too_short payload k, A.short) ∷ [])

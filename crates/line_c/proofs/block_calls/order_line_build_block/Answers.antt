@@ -2,7 +2,6 @@
 use mathlib.Core.Path.{sym, ap, ◌∙◌}
 use Rattle.block.specs.Calls.{built_answer}
 use Rattle.line_c.specs.BlockCalls.{refusal}
-use borrow.Author.Rules.{rules}
 use Rattle.line_c.proofs.block_calls.order_line_build_block.Goals as goal
 
 pub returns-in-Done : goal.returns-in-Done

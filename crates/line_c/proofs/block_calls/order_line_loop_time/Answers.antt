@@ -2,7 +2,6 @@
 use mathlib.Core.Path.{sym, ap, ◌∙◌}
 use Rattle.line.specs.LoopTime.{loop_answer}
 use Rattle.line_c.specs.BlockCalls.{refusal}
-use borrow.Author.Rules.{rules}
 use Rattle.line_c.proofs.block_calls.order_line_loop_time.Goals as goal
 
 pub returns-in-Allowed : goal.returns-in-Allowed

@@ -5,7 +5,6 @@ use Prim.Native.Nat.{ℕ}
 use Rattle.block.specs.Calls.{read_answer, ReadBlock}
 use Rattle.block.specs.declared.Read.{Read}
 use Rattle.line_c.specs.BlockCalls.{read_number, read_remainder, ReadBlockCall}
-use borrow.Author.Rules.{rules}
 use Rattle.line_c.proofs.block_calls.order_line_read_block.Goals as goal
 
 -- what is handed on of an answer that is known

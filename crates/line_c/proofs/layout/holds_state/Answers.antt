@@ -1,7 +1,6 @@
 -- `holds_state`: each return gives what the tests before it make of `holds`. Assumes nothing.
 use borrow.Author.Tests.{lt-leb, le-leb}
 use Rattle.line_c.specs.State.{holds}
-use borrow.Author.Rules.{rules}
 use Rattle.line_c.proofs.layout.holds_state.Goals as goal
 
 pub returns-then-s-size : goal.returns-then-s-size

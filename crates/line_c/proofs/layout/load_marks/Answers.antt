@@ -1,6 +1,5 @@
 -- `load_marks` reads the flag and the size. Assumes nothing.
 use Rattle.line_c.specs.State.{marks_in}
-use borrow.Author.Rules.{rules}
 use Rattle.line_c.proofs.layout.load_marks.Goals as goal
 
 pub returns : goal.returns

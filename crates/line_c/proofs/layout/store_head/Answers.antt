@@ -6,7 +6,6 @@ use native.Mathlib.Omega.{arith}
 use lib.ListN.{length, drop, set, length-set}
 use lib.Seq.{sets, sets-eq}
 use Rattle.line_c.specs.State.{word_bytes, head_size, head_bytes}
-use borrow.Author.Rules.{rules}
 use Rattle.line_c.proofs.layout.store_head.Goals as goal
 
 stored : (s s₁ s₂ s₃ : List ℕ) (x y z d a b c : ℕ) → head_size ≤ length s → s₁ ≡ sets s 0 (word_bytes x)
@@ -28,5 +27,5 @@ pub shape_of-s : goal.shape_of-s
 shape_of-s c = simp length-set (omega arith)
 
 pub returns : goal.returns
-returns c = stored _ _ _ _ _ _ _ _ _ _ _ (search rules) c.Store-word.ensures c.store_word-2.ensures
+returns c = stored _ _ _ _ _ _ _ _ _ _ _ c.requires c.store_word.ensures c.store_word-2.ensures
     c.store_word-3.ensures

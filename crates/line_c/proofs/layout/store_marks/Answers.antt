@@ -4,7 +4,6 @@ use native.Mathlib.Numerals.{add-one}
 use lib.ListN.{length-set}
 use Rattle.line_c.specs.State.{marks_bytes}
 use Rattle.line_c.proofs.Flags.{bool_byte_flag}
-use borrow.Author.Rules.{rules}
 use Rattle.line_c.proofs.layout.store_marks.Goals as goal
 
 pub bounds-s-at-2 : goal.bounds-s-at-2

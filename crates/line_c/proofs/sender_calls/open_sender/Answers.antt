@@ -34,14 +34,14 @@ module _ (k speed loop_ms L : ℕ) (size : CodeSize) (order state : List ℕ) wh
       record { answers = rw (← e, t); writes = rw (← e, t) w }
 
 pub returns-then-state-lt-SENDER_SIZE : goal.returns-then-state-lt-SENDER_SIZE
-returns-then-state-lt-SENDER_SIZE c = short _ _ _ _ _ _ _ _ (ap opened_answer (sym c.in-Opened.is) ∙ (goal.at.returns-then-state-lt-SENDER_SIZE c).After-open.«open».ensures.answers)
+returns-then-state-lt-SENDER_SIZE c = short _ _ _ _ _ _ _ _ (ap opened_answer (sym c.in-Opened.is) ∙ c.«open».ensures.answers)
     c.if-state-lt-SENDER_SIZE.true
 
 pub returns-in-Refused : goal.returns-in-Refused
 returns-in-Refused c = turned _ _ _ _ _ _ _ _
-    (ap opened_answer (sym c.in-Refused.is) ∙ (goal.at.returns-in-Refused c).After-open.«open».ensures.answers)
+    (ap opened_answer (sym c.in-Refused.is) ∙ c.«open».ensures.answers)
 
 pub returns-else-state-lt-SENDER_SIZE : goal.returns-else-state-lt-SENDER_SIZE
 returns-else-state-lt-SENDER_SIZE c = opened _ _ _ _ _ _ _ _ _
-    (ap opened_answer (sym c.in-Opened.is) ∙ (goal.at.returns-else-state-lt-SENDER_SIZE c).After-open.«open».ensures.answers)
+    (ap opened_answer (sym c.in-Opened.is) ∙ c.«open».ensures.answers)
     (search rules) c.store_sender.ensures

@@ -4,7 +4,6 @@ use mathlib.Core.Bool.{Bool, true, false}
 use mathlib.Core.List.{List}
 use Prim.Native.Nat.{ℕ, ◌≤◌}
 use lib.ListN.{length}
-use borrow.Author.Tests.{not-true, not-false}
 use Rattle.block.specs.Answer as A
 use Rattle.block.specs.Answer.{refused, done}
 use Rattle.line.specs.Sending.{Block, synchronising, send, send_state, sent_answer, Send}
@@ -14,9 +13,8 @@ use Rattle.line_c.specs.State.{sender_size, holds_sender, sender_in, sender_of}
 use Rattle.line_c.specs.SenderCalls.{sender_over, sent_word, SendCall}
 use Rattle.line_c.proofs.RoundTrip.{held}
 use Rattle.line_c.proofs.Ranges.{item_fits}
-use borrow.Author.Rules.{rules}
 use Rattle.line_c.proofs.sender_calls.order_line_send.Goals as goal
-use Rattle.line_c.proofs.sender_calls.order_line_send.Goals.{After-next-1, Else-not-holds_sender, Start}
+use Rattle.line_c.proofs.sender_calls.order_line_send.Goals.{Else-not-holds_sender}
 
 module _ (state order : List ℕ) (reading : Bool) (slice : List ℕ) where
   unheld : holds_sender state ≡ false → SendCall state order reading slice A.spoiled state slice
@@ -45,18 +43,12 @@ module _ (state order : List ℕ) (reading : Bool) (slice : List ℕ) where
             writes = rw sender_held p.writes;
           }
 
--- the places where the test was passed and where the function began
-abbrev tested : After-next-1 → Else-not-holds_sender
-tested c = (goal.at.LEMMA c).After-holds_sender
-
-abbrev start : Else-not-holds_sender → Start
-start c = (goal.at.LEMMA c).Start
-
-bytes-held : (c : Else-not-holds_sender) → holds_sender (start c).args.state.now ≡ true
+-- the bytes hold a sender, where the test was passed
+bytes-held : (c : Else-not-holds_sender) → holds_sender c.args.state.now ≡ true
 bytes-held c = sym c.holds_sender.ensures ∙ c.if-not-holds_sender.false
 
-enough : (c : Else-not-holds_sender) → sender_size ≤ length (start c).args.state.now
-enough c = (held sender_size 1 2 1 (start c).args.state.now (bytes-held c)).enough
+enough : (c : Else-not-holds_sender) → sender_size ≤ length c.args.state.now
+enough c = (held sender_size 1 2 1 c.args.state.now (bytes-held c)).enough
 
 pub returns-then-not-holds_sender : goal.returns-then-not-holds_sender
 returns-then-not-holds_sender c = unheld _ _ _ _ (sym c.holds_sender.ensures ∙ c.if-not-holds_sender.true)
@@ -65,24 +57,24 @@ pub load_sender-requires : goal.load_sender-requires
 load_sender-requires c = enough (goal.at.load_sender-requires c).Else-not-holds_sender
 
 pub store_sender-requires : goal.store_sender-requires
-store_sender-requires c = enough (tested (goal.at.store_sender-requires c).After-next-1)
+store_sender-requires c = enough (goal.at.store_sender-requires c).Else-not-holds_sender
 
 pub store_sender-requires-in-Item : goal.store_sender-requires-in-Item
-store_sender-requires-in-Item c = enough (tested (goal.at.store_sender-requires-in-Item c).After-next-1)
+store_sender-requires-in-Item c = enough (goal.at.store_sender-requires-in-Item c).Else-not-holds_sender
 
 pub item_word-requires : goal.item_word-requires
 item_word-requires c = let call = c.send-step in
     item_fits _ _ _ _ _ _ _ _ (sym call.ensures.answers ∙ ap sent_answer c.in-Item.is)
 
 pub returns-in-Refused : goal.returns-in-Refused
-returns-in-Refused c = turned _ _ _ _ _ (bytes-held (tested (goal.at.returns-in-Refused c).After-next-1)) c.load_sender.ensures _ _ c.send-step.ensures _
+returns-in-Refused c = turned _ _ _ _ _ (bytes-held (goal.at.returns-in-Refused c).Else-not-holds_sender) c.load_sender.ensures _ _ c.send-step.ensures _
     (ap sent_answer c.in-Refused.is)
 
 pub returns-in-Synchronising : goal.returns-in-Synchronising
-returns-in-Synchronising c = sent _ _ _ _ _ (bytes-held (tested (goal.at.returns-in-Synchronising c).After-next-1)) c.load_sender.ensures _ _ c.send-step.ensures synchronising _
+returns-in-Synchronising c = sent _ _ _ _ _ (bytes-held (goal.at.returns-in-Synchronising c).Else-not-holds_sender) c.load_sender.ensures _ _ c.send-step.ensures synchronising _
     (ap sent_answer c.in-Synchronising.is) c.store_sender.ensures
 
 pub returns-in-Item : goal.returns-in-Item
 returns-in-Item c = rw c.item_word.ensures
-    (sent _ _ _ _ _ (bytes-held (tested (goal.at.returns-in-Item c).After-next-1)) c.load_sender.ensures _ _ c.send-step.ensures _ _
+    (sent _ _ _ _ _ (bytes-held (goal.at.returns-in-Item c).Else-not-holds_sender) c.load_sender.ensures _ _ c.send-step.ensures _ _
     (ap sent_answer c.in-Item.is) c.store_sender-in-Item.ensures)

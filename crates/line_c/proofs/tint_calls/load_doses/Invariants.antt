@@ -1,17 +1,11 @@
 -- The loop of `load_doses`: the numbers taken so far, those to come, and zeros behind. Assumes nothing.
-use borrow.Author.Rules.{rules}
-use mathlib.Core.List.{List, ◌∷◌, map}
-use mathlib.Core.Path.{◌≡◌, refl, ap, ap₂, sym, ◌∙◌}
-use native.Mathlib.Nat.{sub-zero}
-use native.Mathlib.Omega.{arith}
-use Prim.Native.Nat.{ℕ, suc, ◌+◌, ◌-◌, ◌*◌, ◌≤◌, ◌<◌}
-use lib.ListN.{length, get_or, take, drop}
+use mathlib.Core.List.{List}
+use Prim.Native.Nat.{ℕ, ◌-◌, ◌*◌, ◌≤◌}
+use lib.ListN.{length, take, drop}
 use Rattle.tint.specs.Format.{Dose}
-use Rattle.tint.specs.Calls.{filled_up, canisters_of, steps_of}
-use Rattle.tint.proofs.Entries.{length-map}
-use Rattle.tint.proofs.Arrays.{Filled, filled_more, filled_all}
+use Rattle.tint.specs.Calls.{canisters_of, steps_of}
+use Rattle.tint.proofs.Arrays.{Filled}
 use Rattle.line_c.specs.TintCalls.{doses_of_numbers, doses_held}
-use Rattle.line_c.proofs.DoseNumbers.{dose_first, length-doses_held}
 use Rattle.line_c.proofs.tint_calls.load_doses.Given as goal
 
 -- the doses to come from place i on

@@ -1,5 +1,4 @@
 -- `order_line_read_tint`: what the crate `tint` answers, then a slice too short for the doses. Assumes nothing.
-use borrow.Author.Rules.{rules}
 use mathlib.Core.Path.{◌≡◌, sym, ap, ◌∙◌}
 use native.Mathlib.Omega.{arith}
 use lib.ListN.{length}

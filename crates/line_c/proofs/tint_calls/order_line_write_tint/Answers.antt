@@ -1,5 +1,4 @@
 -- `order_line_write_tint`: too many doses, a slice too short for them, and then what the crate `tint` answers. Assumes nothing.
-use borrow.Author.Rules.{rules}
 use native.Mathlib.Omega.{arith}
 use Rattle.line_c.proofs.HeldDoses.{write_many, write-short, write_refused, write_done}
 use Rattle.line_c.proofs.tint_calls.order_line_write_tint.Goals as goal

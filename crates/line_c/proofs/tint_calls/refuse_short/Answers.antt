@@ -1,5 +1,4 @@
 -- `refuse_short`: no dose, or the doses that are there, judged. Assumes nothing.
-use borrow.Author.Rules.{rules}
 use mathlib.Core.Path.{sym, ap, ◌∙◌}
 use Rattle.tint.specs.Calls.{judged_answer}
 use Rattle.tint.proofs.Entries.{positive}

@@ -1,15 +1,10 @@
 -- The loop of `store_doses`: the numbers written so far, and those to come. Assumes nothing.
-use borrow.Author.Rules.{rules}
-use mathlib.Core.List.{List, [], ◌∷◌, ◌++◌}
-use mathlib.Core.Path.{◌≡◌, refl, ap, sym, ◌∙◌}
-use native.Mathlib.Nat.{sub-zero}
-use native.Mathlib.Omega.{arith}
-use Prim.Native.Nat.{ℕ, ◌+◌, ◌-◌, ◌*◌, ◌≤◌, ◌<◌}
-use lib.ListN.{length, get_or, take, drop, set, length-set}
+use mathlib.Core.List.{List}
+use Prim.Native.Nat.{ℕ, ◌-◌, ◌*◌, ◌≤◌}
+use lib.ListN.{length}
 use Rattle.tint.specs.Calls.{doses_at}
-use Rattle.tint.proofs.Arrays.{doses_first, doses_none, Overwritten, overwritten_more, overwritten_all}
+use Rattle.tint.proofs.Arrays.{Overwritten}
 use Rattle.line_c.specs.TintCalls.{numbers_of}
-use Rattle.line_c.proofs.DoseNumbers.{two_stores}
 use Rattle.line_c.proofs.tint_calls.store_doses.Given as goal
 
 -- the numbers to come from place i on
