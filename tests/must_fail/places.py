@@ -33,22 +33,24 @@ class Places:
         self.crate = crate
         self.imported = re.compile(IMPORTED.format(crate.name), re.MULTILINE)
         self.sources = {str(path.relative_to(crate)): path.read_text() for path in crate.glob("src/**/*.rt")}
-        # The functions of each place: the source file, the start and the end of each.
-        self.functions = {}
+        # The functions of each place: the source file, the start and the end of each. A name of one of them, as rt prints it.
+        self.functions, self.names = {}, {}
         for file, text in self.sources.items():
-            for start, end, place in self.functions_in(file, text):
+            for start, end, place, name in self.functions_in(file, text):
                 self.functions.setdefault(place, []).append((file, start, end))
+                self.names[place] = name
         self.rests_on = self.all_imports()
 
     def functions_in(self, file, text):
-        """The start, the end and the place of each function in a source file. A function ends at the first brace that
+        """The start, the end, the place and the name of each function in a source file. A function ends at the first brace that
         stands as far from the margin as it does. The functions of a cycle of calls have one place."""
         types = [(found.start(), found[1]) for found in TYPE.finditer(text)]
         for found in FUNCTION.finditer(text):
             end = re.compile(rf"^{found[1]}}}", re.MULTILINE).search(text, found.start()).end()
             owner = [name for start, name in types if start < found.start()][-1:] if found[1] else []
             cycle = CYCLE.search(text[: found.start()])
-            yield found.start(), end, self.folder([*module_of(file), *owner], found[2], cycle and cycle[1])
+            names = [*module_of(file), *owner]
+            yield found.start(), end, self.folder(names, found[2], cycle and cycle[1]), "::".join([self.crate.name, *names, found[2]])
 
     def folder(self, names, function, cycle):
         """A function's place. That of functions which call each other, or themselves, is named after the cycle."""

@@ -1,6 +1,7 @@
 """Copies of the crates in which edits are tried, each with the record of checks that rt check keeps."""
 
 import os
+import pathlib
 import shutil
 import subprocess
 import time
@@ -51,13 +52,18 @@ class Tree:
         run = subprocess.run(command, cwd=self.crate, stdout=subprocess.PIPE, stderr=subprocess.STDOUT, text=True, errors="replace")
         return Check(self.crate, run.returncode, run.stdout), time.monotonic() - began
 
-    def check_with(self, texts):
+    def generated(self, made, folder):
+        """Where rattle writes, below the folder made, what it makes of the function with this folder."""
+        part, _, function = folder.partition("/")
+        return pathlib.Path(made) / f"Rattle-{self.name}-{part}" / function
+
+    def check_with(self, texts, *words):
         """The same with other texts of some files; the files are as they were afterwards."""
         before = {path: path.read_text() for path in texts}
         for path, text in texts.items():
             path.write_text(text)
         try:
-            return self.check()
+            return self.check(*words)
         finally:
             for path, text in before.items():
                 path.write_text(text)

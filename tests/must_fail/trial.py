@@ -1,16 +1,40 @@
 """The edits of one crate, tried many in one check over the record of the crate as it is."""
 
+import difflib
 import re
 import shutil
+import tempfile
 import threading
+import typing
 
 from must_fail.edit import edited
 from must_fail.places import Places
 from must_fail.trees import Tree
-from must_fail.verdict import PROVED, REFUSED, judge
+from must_fail.verdict import MISFIT, PROVED, REFUSED, judge
 
 
 NOT_TRIED = "it replaces nothing, is one of a proof, has an old text that is not there once, or changes what a caller sees"
+
+
+# A name that rattle makes of a place in the code, `if-x-y` of `if x <= y`.
+PLACE_NAME = r"[A-Za-z_]\w*(?:-\w+)+"
+
+
+class Generated(typing.NamedTuple):
+    """What rattle makes of a function: the names of what is to be proved, and its names of places in order."""
+
+    goals: list
+    names: list
+
+
+def renaming(before, after):
+    """The names of places that the edited code has in place of others, as far as both have their names in the same order."""
+    found = {}
+    for what, start, end, other, last in difflib.SequenceMatcher(None, before, after, autojunk=False).get_opcodes():
+        if what == "replace" and end - start == last - other:
+            for one, new in zip(before[start:end], after[other:last]):
+                found.setdefault(one, set()).add(new)
+    return {one: min(new) for one, new in found.items() if len(new) == 1 and one not in after}
 
 
 def line(name, shown, seconds=None):
@@ -31,7 +55,8 @@ class Trial:
         self.own = {edit: self.places.of_edit(edit) for edit in self.edits}
         # The crate as it is, with its record, and each worker's copy.
         self.tree, self.copies = None, {}
-        self.generated, self.generating = None, threading.Lock()
+        # What rattle makes of functions as they are.
+        self.generated, self.generating = {}, threading.Lock()
         self.faults = []
 
     def size(self):
@@ -69,14 +94,39 @@ class Trial:
         proved = check.status == 0
         self.say(f", as it is: {PROVED if proved else 'NOT PROVED'} ({seconds:.1f} s)", fault=not proved)
 
-    def goals(self, folder):
-        """What is to be proved of a function, by the text generated from the crate as it is."""
+    def generated_of(self, tree, folder, texts):
+        """What rattle makes of the function with this folder, with these texts."""
+        with tempfile.TemporaryDirectory(dir=tree.folder) as made:
+            tree.check_with(texts, "--start", self.places.names[folder], "--generated", made)
+            found = tree.generated(made, folder)
+            offered, names = (found / "AnswersOffered.antt", found / "Lts.antt")
+            goals = re.findall(r"^pub (\S+) : goal\.", offered.read_text(), re.MULTILINE) if offered.is_file() else []
+            return Generated(goals, re.findall(PLACE_NAME, names.read_text()) if names.is_file() else [])
+
+    def as_it_is(self, folder):
         with self.generating:
-            if not self.generated:
-                self.generated = self.tree.folder / "generated"
-                self.tree.check("--generated", str(self.generated))
-        proof = self.generated / f"Rattle-{self.name}-{folder}" / "Proof.antt"
-        return re.findall(r"^(\S+) : tie\.Need-", proof.read_text(), re.MULTILINE) if proof.is_file() else []
+            if folder not in self.generated:
+                self.generated[folder] = self.generated_of(self.tree, folder, {})
+            return self.generated[folder]
+
+    def goals(self, folder):
+        """The names of what is to be proved of the function with this folder, as it is."""
+        return self.as_it_is(folder).goals if folder in self.places.names else []
+
+    def with_renamed(self, tree, edit, texts):
+        """The edited texts and, with the edited code's names of places, the proofs of the functions that the edit reaches; the
+        edited texts alone if no name differs."""
+        found = dict(texts)
+        for folder in sorted(self.own[edit] & self.places.names.keys()):
+            files = sorted((tree.crate / folder).glob("*.antt"))
+            if files:
+                names = renaming(self.as_it_is(folder).names, self.generated_of(tree, folder, texts).names)
+                for path in files:
+                    text = path.read_text()
+                    new = re.sub(rf"(?<![\w-]){PLACE_NAME}", lambda name: names.get(name[0], name[0]), text)
+                    if new != text:
+                        found[path] = new
+        return found
 
     def judged(self, check, edits):
         return judge(check, self.places, {edit.name: self.own[edit] for edit in edits}, self.goals)
@@ -105,11 +155,25 @@ class Trial:
             self.copies[worker].take_record(self.tree.record)
         return self.copies[worker]
 
-    def try_alone(self, tree, edit):
-        check, seconds = self.check(tree, edit.name, edited(tree.crate, [edit]))
-        tree.take_record(self.tree.record)
-        shown = self.judged(check, [edit])[edit.name]
+    def try_alone(self, tree, edit, is_misfit=False):
+        """Tries one edit. Where the proof does not fit since the edited code's names of places are others, it is tried with
+        these in the proof. is_misfit: whether a check has shown that it does not fit."""
+        texts = edited(tree.crate, [edit])
+        if is_misfit:
+            renamed = self.with_renamed(tree, edit, texts)
+            if renamed != texts:
+                shown, seconds = self.shown_alone(tree, edit, renamed)
+                names = ", with the edited code's names in the proof"
+                return self.say(f"/{line(edit.name, shown, seconds)}{names}", fault=shown.what != REFUSED)
+        shown, seconds = self.shown_alone(tree, edit, texts)
+        if shown.what == MISFIT and not is_misfit:
+            return self.try_alone(tree, edit, is_misfit=True)
         self.say(f"/{line(edit.name, shown, seconds)}", fault=shown.what != REFUSED)
+
+    def shown_alone(self, tree, edit, texts):
+        check, seconds = self.check(tree, edit.name, texts)
+        tree.take_record(self.tree.record)
+        return self.judged(check, [edit])[edit.name], seconds
 
     def try_together(self, tree, edits):
         """Tries edits in one check, and alone those that are not refused there."""
@@ -122,4 +186,4 @@ class Trial:
         self.say(f", {len(edits)} edits in one check ({seconds:.1f} s):{''.join(lines)}")
         for edit in edits:
             if shown[edit.name].what != REFUSED:
-                self.try_alone(tree, edit)
+                self.try_alone(tree, edit, shown[edit.name].what == MISFIT)
