@@ -37,6 +37,14 @@ def renaming(before, after):
     return {one: min(new) for one, new in found.items() if len(new) == 1 and one not in after}
 
 
+def renamed(name, names):
+    """A name with the place that it is of, or ends in, renamed: `returns-then-x-y` is what is to be proved at `then-x-y`."""
+    for start in [0, *(found.end() for found in re.finditer("-", name))]:
+        if name[start:] in names:
+            return name[:start] + names[name[start:]]
+    return name
+
+
 def line(name, shown, seconds=None):
     """What a check shows of an edit, in words."""
     where = f", first at {shown.where}" if shown.where else ""
@@ -101,7 +109,7 @@ class Trial:
             found = tree.generated(made, folder)
             offered, names = (found / "AnswersOffered.antt", found / "Lts.antt")
             goals = re.findall(r"^pub (\S+) : goal\.", offered.read_text(), re.MULTILINE) if offered.is_file() else []
-            return Generated(goals, re.findall(PLACE_NAME, names.read_text()) if names.is_file() else [])
+            return Generated(goals, [*goals, *(re.findall(PLACE_NAME, names.read_text()) if names.is_file() else [])])
 
     def as_it_is(self, folder):
         with self.generating:
@@ -123,7 +131,7 @@ class Trial:
                 names = renaming(self.as_it_is(folder).names, self.generated_of(tree, folder, texts).names)
                 for path in files:
                     text = path.read_text()
-                    new = re.sub(rf"(?<![\w-]){PLACE_NAME}", lambda name: names.get(name[0], name[0]), text)
+                    new = re.sub(rf"(?<![\w-]){PLACE_NAME}", lambda name: renamed(name[0], names), text)
                     if new != text:
                         found[path] = new
         return found
