@@ -8,7 +8,7 @@ fn main() {
         return;
     }
     let here = env::var("CARGO_MANIFEST_DIR").expect("cargo names the package's folder");
-    let folder = format!("{here}/../target/staticlib");
+    let folder = format!("{here}/../crates/line_c/out");
     println!("cargo:rerun-if-changed={folder}/libline_c.a");
     println!("cargo:rustc-link-search=native={folder}");
     println!("cargo:rustc-link-lib=static=line_c");

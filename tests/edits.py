@@ -2,17 +2,17 @@
 """Tries the edits in crates/NAME/must-fail/ and must-fail/further/: the prover must refuse each because a fact fails.
 
     edits.py [NAME ...]                 without a verdict, many edits in one check
-    edits.py --from-nothing [NAME ...]  the verdict, by rt must-fail: a check of a whole crate for each edit
+    edits.py --from-nothing [NAME ...]  by rt must-fail, which also refuses for less: a check for each edit alone
 
 NAME is a crate or an edit; without one, all are tried. First docs/CLAIMS.md must name every edit and no other.
 
-Without a verdict, a crate is checked as it is, over the record that rt dev keeps; then with edits, each time over that same
-record, so that only what they reach is checked again; and at the end as it is once more. This shows where and why an edit is
-refused, which rt must-fail does not judge: a fact must fail in one of the edit's own places (must_fail/places.py). Edits
-that have no place in common go into one check. Whatever is not refused there is tried again alone. Edits that rt ci has
-tried are judged by its logs, if the crate is still the one that it checked.
+Without --from-nothing, a crate is checked as it is, over the record that rt check keeps; then with edits, each time over that
+same record, so that only what they reach is checked again; and at the end as it is once more. This shows where and why an edit
+is refused, which rt must-fail does not judge: a fact must fail in one of the edit's own places (must_fail/places.py). Edits
+that have no place in common go into one check. Whatever is not refused there is tried again alone. rt ci tries the edits right
+in must-fail/ alone; here they are tried with all others.
 
-The work is done on copies, below target/edits; LABEL.log there has a check's output.
+The work is done on copies outside the repository; target/edits/CRATE/LABEL.log has a check's output.
 """
 
 import collections
@@ -24,6 +24,7 @@ import re
 import shutil
 import subprocess
 import sys
+import tempfile
 import time
 
 from must_fail.edit import Edit
@@ -31,7 +32,9 @@ from must_fail.trees import copy_crates
 from must_fail.trial import Trial
 
 ROOT = pathlib.Path(__file__).resolve().parent.parent
-WORK = ROOT / "target" / "edits"
+LOGS = ROOT / "target" / "edits"
+# What a check may take of the memory, in bytes.
+MEMORY = 3_000_000_000
 
 
 def all_edits():
@@ -43,63 +46,86 @@ def all_edits():
     return found
 
 
+def words_of(*patterns):
+    """The words of the crates' files that fit a pattern."""
+    return set(re.findall(r"\w+", " ".join(file.read_text() for pattern in patterns for file in ROOT.glob(f"crates/*/{pattern}"))))
+
+
 def name_faults(edits):
     """What is wrong with the edits' names. A word in backquotes with an underscore in docs/CLAIMS.md names an edit, unless
-    it is a word of the sources."""
+    it is a word of the sources, the definitions or the proofs."""
     claims = set(re.findall(r"`([a-z0-9]+(?:_[a-z0-9]+)+)`", (ROOT / "docs" / "CLAIMS.md").read_text()))
-    words = set(re.findall(r"\w+", " ".join(file.read_text() for file in ROOT.glob("crates/*/src/**/*.rt"))))
+    sources = words_of("src/**/*.rt")
+    words = sources | words_of("specs/**/*.antt", "proofs/**/*.antt")
     names = collections.Counter(edit.name for edit in edits)
     yield from (f"{name}: two edits have this name" for name in names if names[name] > 1)
     yield from (f"{name}: the name of an edit must have an underscore" for name in names if "_" not in name)
-    yield from (f"{name}: the name of an edit may not be a word of the sources" for name in names.keys() & words)
+    yield from (f"{name}: the name of an edit may not be a word of the sources" for name in names.keys() & sources)
     yield from (f"{name}: docs/CLAIMS.md does not name this edit" for name in sorted(names.keys() - claims))
     yield from (f"{name}: docs/CLAIMS.md names this edit, and there is none" for name in sorted(claims - words - names.keys()))
+
+
+def processors():
+    """How many checks go side by side: one for each processor, if the memory holds them."""
+    memory = os.sysconf("SC_PAGE_SIZE") * os.sysconf("SC_PHYS_PAGES")
+    return max(1, min(len(os.sched_getaffinity(0)), memory // MEMORY))
+
+
+def prove(crates):
+    """Has rt check prove the named crates, if it has not, and build those that they stand on."""
+    for name in crates:
+        run = subprocess.run(["rt", "check"], cwd=ROOT / "crates" / name, stdout=subprocess.PIPE, stderr=subprocess.STDOUT, text=True)
+        if run.returncode:
+            sys.exit(f"{run.stdout}edits.py: rt check: {name} is not proved as it is")
 
 
 def try_all(chosen):
     """Tries the chosen edits, by crate: the exit status."""
     began = time.monotonic()
-    if subprocess.run(["rt", "check", *chosen], cwd=ROOT, stdout=subprocess.DEVNULL).returncode:
-        sys.exit("edits.py: rt check: a crate is not proved as it is")
-    trials = sorted((Trial(ROOT, WORK, name, edits) for name, edits in chosen.items()), key=lambda trial: -trial.size())
-    checks = try_trials(trials, os.cpu_count())
+    prove(chosen)
+    with tempfile.TemporaryDirectory(prefix="edits-") as work:
+        trials = [Trial(ROOT, pathlib.Path(work), LOGS, name, edits) for name, edits in chosen.items()]
+        checks = try_trials(sorted(trials, key=lambda trial: -trial.size()), processors())
     tried, faults = sum(map(len, chosen.values())), sum(len(trial.faults) for trial in trials)
     print(f"{tried} edits tried, {checks} checks with edits, {faults} failed ({time.monotonic() - began:.0f} s)")
     return 1 if faults else 0
 
 
-def try_trials(trials, processors):
+def try_trials(trials, workers):
     """Tries the edits of some crates, the longest first; how many groups they made. Each worker has copies of its own."""
-    workers = queue.SimpleQueue()
-    for worker in range(processors):
-        workers.put(worker)
+    free = queue.SimpleQueue()
+    for worker in range(workers):
+        free.put(worker)
 
     def try_group(trial, group):
-        worker = workers.get()
-        trial.try_together(trial.copy_of(worker), group)
-        workers.put(worker)
+        worker = free.get()
+        try:
+            trial.try_together(trial.copy_of(worker), group)
+        finally:
+            free.put(worker)
 
-    with concurrent.futures.ThreadPoolExecutor(processors) as pool:
+    with concurrent.futures.ThreadPoolExecutor(workers) as pool:
         list(pool.map(Trial.start, trials))
         groups = [(trial, group) for trial in trials for group in trial.groups()]
-        groups.sort(key=lambda found: -sum(len(found[0].own[edit]) for edit in found[1]))
+        groups.sort(key=lambda found: (-found[0].size(), -sum(len(found[0].own[edit]) for edit in found[1])))
         list(pool.map(lambda found: try_group(*found), groups))
-        copies = [(trial, tree) for trial in trials for tree in trial.copies.values()]
-        list(pool.map(lambda found: found[0].try_as_it_is(found[1]), copies))
+        list(pool.map(Trial.finish, trials))
     return len(groups)
 
 
 def try_from_nothing(chosen):
     """Has rt must-fail try the chosen edits, by crate: its exit status."""
-    tree = WORK / "from-nothing"
-    copy_crates(ROOT, tree)
-    for name, edits in chosen.items():
-        folder = tree / "crates" / name / "must-fail"
-        shutil.rmtree(folder)
-        folder.mkdir()
-        for edit in edits:
-            shutil.copy(edit.path, folder)
-    return subprocess.run(["rt", "must-fail", *chosen], cwd=tree).returncode
+    with tempfile.TemporaryDirectory(prefix="edits-") as work:
+        tree = pathlib.Path(work) / "from-nothing"
+        copy_crates(ROOT, tree)
+        for folder in (tree / "crates").glob("*/must-fail"):
+            shutil.rmtree(folder)
+        for name, edits in chosen.items():
+            folder = tree / "crates" / name / "must-fail"
+            folder.mkdir()
+            for edit in edits:
+                shutil.copy(edit.path, folder)
+        return subprocess.run(["rt", "must-fail", *chosen], cwd=tree).returncode
 
 
 def chosen_edits(edits, names):

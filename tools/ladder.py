@@ -1,7 +1,9 @@
 #!/usr/bin/env python3
 """Draws a run's output as an SVG ladder: the office on the left, the machine on the right, a row for each period.
 
-    target/bin/run < examples/sessions/search.txt | python3 tools/ladder.py "A search" > search.svg
+    crates/run/out/run < examples/sessions/search.txt | python3 tools/ladder.py "A search" > search.svg
+
+`rt run` in crates/run makes the program.
 
 The arrow to the right is the block, the arrow back is the return bit. A cross on the arrow back marks a request that was
 lost: the return bit is 1 and the office reads 0. It needs nothing but Python 3.

@@ -5,7 +5,7 @@ import re
 import typing
 
 FUNCTION = re.compile(r'^ *(?:pub(?:\(crate\))? )?(?:extern "C" )?fn ')
-CLAUSE = re.compile(r"^ *(?:requires|ensures|ghost) ")
+CLAUSE = re.compile(r"^ *(?:requires|ensures|ghost)\b")
 
 
 class Replacement(typing.NamedTuple):

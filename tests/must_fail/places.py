@@ -13,9 +13,12 @@ import re
 FUNCTION = re.compile(r'^( *)(?:pub(?:\(crate\))? )?(?:extern "C" )?fn (\w+)', re.MULTILINE)
 CONSTANT = re.compile(r"^ *(?:pub(?:\(crate\))? )?const (\w+):.*?;$", re.MULTILINE | re.DOTALL)
 TYPE = re.compile(r"^impl (\w+)", re.MULTILINE)
-MODULE_USED = re.compile(r"\bcrate::(\w+)")
-# A module of the crate's specs or proofs, by its whole name.
-IMPORTED = r"^(?:pub |ghost )*use Rattle·{}·(?:specs|proofs)((?:\.[^.\s{{;]+)+)"
+# The cycle of calls that a function is in, by the attributes right above it.
+CYCLE = re.compile(r"#\[cycle\((\w+)\)\]\s*(?:#\[[^\n]*\]\s*)*\Z")
+MODULE_USED = re.compile(r"\b(\w+)::")
+# A module of the crate's specs or proofs, by its whole name, and one that a function's `#[tactic(..)]` names.
+IMPORTED = r"^(?:pub |ghost )*use Rattle\.{}\.((?:specs|proofs)(?:\.[^.\s{{;]+)+)"
+FOR_TACTICS = re.compile(r"\bcrate::((?:specs|proofs)(?:::\w+)+)::")
 
 
 def module_of(file):
@@ -30,28 +33,30 @@ class Places:
         self.crate = crate
         self.imported = re.compile(IMPORTED.format(crate.name), re.MULTILINE)
         self.sources = {str(path.relative_to(crate)): path.read_text() for path in crate.glob("src/**/*.rt")}
-        self.functions = {}
+        # The functions of each place: the source file, the start and the end of each. A name of one of them, as rt prints it.
+        self.functions, self.names = {}, {}
         for file, text in self.sources.items():
-            for start, end, place in self.functions_in(file, text):
-                self.functions[place] = (file, start, end)
+            for start, end, place, name in self.functions_in(file, text):
+                self.functions.setdefault(place, []).append((file, start, end))
+                self.names[place] = name
         self.rests_on = self.all_imports()
 
     def functions_in(self, file, text):
-        """The start, the end and the place of each function in a source file. A function ends at the first brace that
-        stands as far from the margin as it does."""
+        """The start, the end, the place and the name of each function in a source file. A function ends at the first brace that
+        stands as far from the margin as it does. The functions of a cycle of calls have one place."""
         types = [(found.start(), found[1]) for found in TYPE.finditer(text)]
         for found in FUNCTION.finditer(text):
             end = re.compile(rf"^{found[1]}}}", re.MULTILINE).search(text, found.start()).end()
             owner = [name for start, name in types if start < found.start()][-1:] if found[1] else []
-            yield found.start(), end, self.folder([*module_of(file), *owner], found[2])
+            cycle = CYCLE.search(text[: found.start()])
+            names = [*module_of(file), *owner]
+            yield found.start(), end, self.folder(names, found[2], cycle and cycle[1]), "::".join([self.crate.name, *names, found[2]])
 
-    def folder(self, names, function):
-        """A function's place. That of functions which call each other, or themselves, is named after them all."""
+    def folder(self, names, function, cycle):
+        """A function's place. That of functions which call each other, or themselves, is named after the cycle."""
         parent = pathlib.PurePath("proofs", *names)
-        for path in (self.crate / parent).glob("+*"):
-            if function in path.name.split("+"):
-                return str(parent / path.name)
-        return str(parent / function)
+        itself = (self.crate / parent / f"+{function}").is_dir() and function
+        return str(parent / (f"+{cycle or itself}" if cycle or itself else function))
 
     def place_of(self, path):
         """The place of a file in proofs/, given by its path from the crate's folder."""
@@ -60,18 +65,18 @@ class Places:
 
     def imports(self, text):
         """The places and definition files that the `use` lines of a text name."""
-        for name in self.imported.findall(text):
-            path = name[1:].replace(".", "/")
+        for name in [*self.imported.findall(text), *FOR_TACTICS.findall(text)]:
+            path = name.replace("::", "/").replace(".", "/")
             yield f"{path}.antt" if path.startswith("specs") else self.place_of(f"{path}.antt")
 
     def all_imports(self):
         """What each definition file and each place names."""
         found = {}
-        for path in self.crate.glob("*/**/*.antt"):
+        for path in sorted([*self.crate.glob("specs/**/*.antt"), *self.crate.glob("proofs/**/*.antt")]):
             file = str(path.relative_to(self.crate))
             found.setdefault(self.place_of(file), set()).update(self.imports(path.read_text()))
-        for place, (file, _, _) in self.functions.items():
-            for used in self.files_used(file):
+        for place, parts in self.functions.items():
+            for used in {used for file, _, _ in parts for used in self.files_used(file)}:
                 found.setdefault(place, set()).update(self.imports(self.sources[used]))
         return found
 
@@ -99,14 +104,16 @@ class Places:
         constants = [(found[1], set(word.findall(found[0]))) for text in self.sources.values() for found in CONSTANT.finditer(text)]
         while more := {name for name, words in constants if words & names} - names:
             names |= more
-        texts = {place: self.sources[file][start:end] for place, (file, start, end) in self.functions.items()}
-        return {place for place, text in texts.items() if names & set(word.findall(text))}
+        for place, parts in self.functions.items():
+            if any(names & set(word.findall(self.sources[file][start:end])) for file, start, end in parts):
+                yield place
 
     def of_source(self, file, old):
         """The places of a text of a source file; none where it is in no function and no constant."""
         text = self.sources[file]
         at = text.find(old)
-        inside = {place for place, (other, start, end) in self.functions.items() if other == file and start <= at < end}
+        functions = [(place, part) for place, parts in self.functions.items() for part in parts]
+        inside = {place for place, (other, start, end) in functions if other == file and start <= at < end}
         if inside:
             return inside
         constants = [found[1] for found in CONSTANT.finditer(text) if found.start() < at + len(old) and at < found.end()]

@@ -1,6 +1,7 @@
-"""Copies of the crates in which edits are tried, each with the record of checks that rt dev keeps."""
+"""Copies of the crates in which edits are tried, each with the record of checks that rt check keeps."""
 
 import os
+import pathlib
 import shutil
 import subprocess
 import time
@@ -11,54 +12,65 @@ from must_fail.verdict import Check
 def copy_crates(root, tree):
     """A new tree that holds the crates and no result of a check."""
     shutil.rmtree(tree, ignore_errors=True)
-    shutil.copytree(root / "crates", tree / "crates")
-    shutil.copy(root / "crates.txt", tree)
+    shutil.copytree(root / "crates", tree / "crates", ignore=lambda folder, names: {"out"} & set(names))
+    for name in ("crates.txt", "HANDLES"):
+        if (root / name).is_file():
+            shutil.copy(root / name, tree)
 
 
-def files_below(folder):
-    return {path.relative_to(folder) for path in folder.rglob("*") if path.is_file()}
+def link(one, other):
+    """A second name for a file, or a copy where there can be none."""
+    try:
+        os.link(one, other)
+    except OSError:
+        shutil.copy2(one, other)
+
+
+def link_proved(one, other):
+    """The same of a record's file, but a copy unless it holds what was proved: a check replaces such a file and changes none."""
+    if str(one).endswith(".oantt"):
+        link(one, other)
+    else:
+        shutil.copy2(one, other)
 
 
 class Tree:
-    """A tree in which one crate is checked. What it depends on is taken as rt proved it in root."""
+    """A tree in which one crate is checked. The libraries that it stands on are taken as rt built them in root."""
 
     def __init__(self, root, folder, name):
         copy_crates(root, folder)
-        shutil.copytree(root / "target" / "stamp", folder / "target" / "stamp")
-        (folder / "target" / "rlib").symlink_to(root / "target" / "rlib")
+        for built in (root / "crates").glob("*/out/rlib"):
+            shutil.copytree(built, folder / built.relative_to(root), symlinks=True, copy_function=link)
         self.folder, self.name = folder, name
         self.crate = folder / "crates" / name
-        self.record = folder / "target" / "inc" / name
+        self.record = self.crate / "out" / "incremental"
 
-    def check(self, label, *words):
-        """A check of the crate as it stands, and the seconds it took; LABEL.log has the output."""
+    def check(self, *words):
+        """A check of the crate as it stands, and the seconds it took."""
         began = time.monotonic()
-        command = ["rt", "dev", self.name, *words]
-        run = subprocess.run(command, cwd=self.folder, stdout=subprocess.PIPE, stderr=subprocess.STDOUT, text=True)
-        (self.folder / f"{label}.log").write_text(run.stdout)
+        command = ["rt", "check", "--jobs", "1", *words]
+        run = subprocess.run(command, cwd=self.crate, stdout=subprocess.PIPE, stderr=subprocess.STDOUT, text=True, errors="replace")
         return Check(self.crate, run.returncode, run.stdout), time.monotonic() - began
 
-    def check_with(self, texts, label):
+    def generated(self, made, folder):
+        """Where rattle writes, below the folder made, what it makes of the function with this folder."""
+        part, _, function = folder.partition("/")
+        return pathlib.Path(made) / f"Rattle-{self.name}-{part}" / function
+
+    def check_with(self, texts, *words):
         """The same with other texts of some files; the files are as they were afterwards."""
         before = {path: path.read_text() for path in texts}
         for path, text in texts.items():
             path.write_text(text)
         try:
-            return self.check(label)
+            return self.check(*words)
         finally:
             for path, text in before.items():
                 path.write_text(text)
 
     def take_record(self, of):
-        """Makes the record that of another tree. A check of an edited crate leaves its own results there, in new files, in
-        place of those that the next one could use. The files are shared by links."""
-        wanted = files_below(of.record)
-        for path in files_below(self.record) - wanted:
-            (self.record / path).unlink()
-        for path in wanted:
-            mine, other = self.record / path, of.record / path
-            if mine.exists() and mine.samefile(other):
-                continue
-            mine.parent.mkdir(parents=True, exist_ok=True)
-            mine.unlink(missing_ok=True)
-            os.link(other, mine)
+        """Makes the record another one. A check of an edited crate leaves its own results there, in place of those that the
+        next one could use."""
+        shutil.rmtree(self.record, ignore_errors=True)
+        if of.is_dir():
+            shutil.copytree(of, self.record, symlinks=True, copy_function=link_proved)

@@ -1,14 +1,48 @@
 """The edits of one crate, tried many in one check over the record of the crate as it is."""
 
+import difflib
 import re
+import shutil
+import tempfile
+import threading
+import typing
 
 from must_fail.edit import edited
 from must_fail.places import Places
 from must_fail.trees import Tree
-from must_fail.verdict import PROVED, REFUSED, Check, judge
+from must_fail.verdict import MISFIT, PROVED, REFUSED, judge
 
 
 NOT_TRIED = "it replaces nothing, is one of a proof, has an old text that is not there once, or changes what a caller sees"
+
+
+# A name that rattle makes of a place in the code, `if-x-y` of `if x <= y`.
+PLACE_NAME = r"[A-Za-z_]\w*(?:-\w+)+"
+
+
+class Generated(typing.NamedTuple):
+    """What rattle makes of a function: the names of what is to be proved, and its names of places in order."""
+
+    goals: list
+    names: list
+
+
+def renaming(before, after):
+    """The names of places that the edited code has in place of others, as far as both have their names in the same order."""
+    found = {}
+    for what, start, end, other, last in difflib.SequenceMatcher(None, before, after, autojunk=False).get_opcodes():
+        if what == "replace" and end - start == last - other:
+            for one, new in zip(before[start:end], after[other:last]):
+                found.setdefault(one, set()).add(new)
+    return {one: min(new) for one, new in found.items() if len(new) == 1 and one not in after}
+
+
+def renamed(name, names):
+    """A name with the place that it is of, or ends in, renamed: `returns-then-x-y` is what is to be proved at `then-x-y`."""
+    for start in [0, *(found.end() for found in re.finditer("-", name))]:
+        if name[start:] in names:
+            return name[:start] + names[name[start:]]
+    return name
 
 
 def line(name, shown, seconds=None):
@@ -17,19 +51,11 @@ def line(name, shown, seconds=None):
     return f"{name}: {shown.what}{where}" + ("" if seconds is None else f" ({seconds:.1f} s)")
 
 
-def same_crate(folder, crate, texts):
-    """Whether a folder holds the crate but for these texts."""
-    files = [path for part in ("src", "specs", "proofs") for path in (crate / part).rglob("*") if path.is_file()]
-    wanted = {path.relative_to(crate): texts.get(path) or path.read_text() for path in files}
-    held = {path.relative_to(folder) for path in folder.rglob("*") if path.is_file() and path.name != ".log"}
-    return held == wanted.keys() and all((folder / path).read_text() == text for path, text in wanted.items())
-
-
 class Trial:
-    """The edits of a crate of root, tried below the folder work."""
+    """The edits of a crate of root, tried below the folder work, with the checks' outputs in the folder logs."""
 
-    def __init__(self, root, work, name, edits):
-        self.root, self.work, self.name = root, work, name
+    def __init__(self, root, work, logs, name, edits):
+        self.root, self.work, self.logs, self.name = root, work, logs / name, name
         self.crate = root / "crates" / name
         self.edits = [edit for edit in edits if edited(self.crate, [edit])]
         self.unfit = [edit for edit in edits if edit not in self.edits]
@@ -37,11 +63,13 @@ class Trial:
         self.own = {edit: self.places.of_edit(edit) for edit in self.edits}
         # The crate as it is, with its record, and each worker's copy.
         self.tree, self.copies = None, {}
+        # What rattle makes of functions as they are.
+        self.generated, self.generating = {}, threading.Lock()
         self.faults = []
 
     def size(self):
         """About how long a check of the crate takes, beside others': the bytes of its definitions and proofs."""
-        return sum(path.stat().st_size for path in self.crate.rglob("*.antt"))
+        return sum(path.stat().st_size for part in ("specs", "proofs") for path in (self.crate / part).rglob("*.antt"))
 
     def say(self, text, fault=False):
         print(f"{self.name}{text}", flush=True)
@@ -49,40 +77,75 @@ class Trial:
             self.faults.append(text)
 
     def start(self):
-        """Checks the crate as it is, which makes the record; and, if an edit reaches a function without a proof file, has
-        the text written of what is to be proved."""
+        """Checks a copy of the crate as it is, which makes the record."""
+        shutil.rmtree(self.logs, ignore_errors=True)
+        self.logs.mkdir(parents=True)
         self.tree = Tree(self.root, self.work / self.name, self.name)
+        self.tree.take_record(self.crate / "out" / "incremental")
         self.try_as_it_is(self.tree)
-        functions = set().union(*self.own.values()) & self.places.functions.keys()
-        if any(not (self.crate / place).is_dir() for place in functions):
-            self.tree.check("generated", "--generated", str(self.tree.folder / "generated"))
+
+    def finish(self):
+        """Checks the workers' copies as they are, and removes them all."""
+        for tree in self.copies.values():
+            self.try_as_it_is(tree)
+        for tree in [self.tree, *self.copies.values()]:
+            shutil.rmtree(tree.folder)
+
+    def check(self, tree, label, texts):
+        """A check of a tree with these texts, and the seconds it took; LABEL.log has the output."""
+        check, seconds = tree.check_with(texts)
+        (self.logs / f"{label}.log").write_text(check.output)
+        return check, seconds
 
     def try_as_it_is(self, tree):
-        check, seconds = tree.check("as it is")
+        check, seconds = self.check(tree, "as it is", {})
         proved = check.status == 0
         self.say(f", as it is: {PROVED if proved else 'NOT PROVED'} ({seconds:.1f} s)", fault=not proved)
 
-    def needs(self, folder):
-        """What is to be proved of a function, in order, by the text generated from the crate as it is; or none."""
-        tie = self.tree.folder / "generated" / f"Rattle·{self.name}·proofs" / folder / "Tie.antt"
-        return re.findall(r"pub Need-(\S+)", tie.read_text()) if tie.is_file() else None
+    def generated_of(self, tree, folder, texts):
+        """What rattle makes of the function with this folder, with these texts."""
+        with tempfile.TemporaryDirectory(dir=tree.folder) as made:
+            tree.check_with(texts, "--start", self.places.names[folder], "--generated", made)
+            found = tree.generated(made, folder)
+            offered, names = (found / "AnswersOffered.antt", found / "Lts.antt")
+            goals = re.findall(r"^pub (\S+) : goal\.", offered.read_text(), re.MULTILINE) if offered.is_file() else []
+            return Generated(goals, [*goals, *(re.findall(PLACE_NAME, names.read_text()) if names.is_file() else [])])
+
+    def as_it_is(self, folder):
+        with self.generating:
+            if folder not in self.generated:
+                self.generated[folder] = self.generated_of(self.tree, folder, {})
+            return self.generated[folder]
+
+    def goals(self, folder):
+        """The names of what is to be proved of the function with this folder, as it is."""
+        return self.as_it_is(folder).goals if folder in self.places.names else []
+
+    def with_renamed(self, tree, edit, texts):
+        """The edited texts and, with the edited code's names of places, the proofs of the functions that the edit reaches; the
+        edited texts alone if no name differs."""
+        found = dict(texts)
+        for folder in sorted(self.own[edit] & self.places.names.keys()):
+            files = sorted((tree.crate / folder).glob("*.antt"))
+            if files:
+                names = renaming(self.as_it_is(folder).names, self.generated_of(tree, folder, texts).names)
+                for path in files:
+                    text = path.read_text()
+                    new = re.sub(rf"(?<![\w-]){PLACE_NAME}", lambda name: renamed(name[0], names), text)
+                    if new != text:
+                        found[path] = new
+        return found
 
     def judged(self, check, edits):
-        return judge(check, self.places, {edit.name: self.own[edit] for edit in edits}, self.needs)
-
-    def judged_by_log(self, edit):
-        """What rt ci's check of an edit shows; nothing where there is none of the crate as it stands."""
-        folder = self.root / "target" / "must-fail" / self.name / edit.name
-        if not (folder / ".log").is_file() or not same_crate(folder, self.crate, edited(self.crate, [edit])):
-            return None
-        status = 1 if folder.with_suffix(".res").read_text() == "refused\n" else 0
-        return self.judged(Check(folder, status, (folder / ".log").read_text()), [edit])[edit.name]
+        return judge(check, self.places, {edit.name: self.own[edit] for edit in edits}, self.goals)
 
     def groups(self):
-        """The edits that rt ci's logs do not show to be refused, in as few groups as a greedy choice finds: no two of a
-        group have a place in common. Those with the most places come first."""
+        """The edits in as few groups as a greedy choice finds: no two of a group have a place in common. Those with the most
+        places come first. Edits that cannot be tried are said."""
+        for edit in self.unfit:
+            self.say(f"/{edit.name}: {NOT_TRIED}", fault=True)
         groups = []
-        for edit in sorted(self.left_by_logs(), key=lambda edit: -len(self.own[edit])):
+        for edit in sorted(self.edits, key=lambda edit: -len(self.own[edit])):
             own = self.own[edit]
             for group, taken in groups:
                 if own and taken and not own & taken and edited(self.crate, [*group, edit]):
@@ -93,39 +156,42 @@ class Trial:
                 groups.append(([edit], set(own)))
         return [group for group, _ in groups]
 
-    def left_by_logs(self):
-        """The edits that are to be checked here. What is known of the others is said."""
-        for edit in self.unfit:
-            self.say(f"/{edit.name}: {NOT_TRIED}", fault=True)
-        for edit in self.edits:
-            shown = self.judged_by_log(edit)
-            if shown and shown.what == REFUSED:
-                self.say(f"/{line(edit.name, shown)} (by rt ci)")
-            else:
-                yield edit
-
     def copy_of(self, worker):
         """A worker's own copy of the crate, with the record of the crate as it is."""
         if worker not in self.copies:
             self.copies[worker] = Tree(self.root, self.work / f"{self.name}-{worker}", self.name)
-            self.copies[worker].take_record(self.tree)
+            self.copies[worker].take_record(self.tree.record)
         return self.copies[worker]
 
-    def try_alone(self, tree, edit):
-        check, seconds = tree.check_with(edited(tree.crate, [edit]), edit.name)
-        tree.take_record(self.tree)
-        shown = self.judged(check, [edit])[edit.name]
+    def try_alone(self, tree, edit, is_misfit=False):
+        """Tries one edit. Where the proof does not fit since the edited code's names of places are others, it is tried with
+        these in the proof. is_misfit: whether a check has shown that it does not fit."""
+        texts = edited(tree.crate, [edit])
+        if is_misfit:
+            renamed = self.with_renamed(tree, edit, texts)
+            if renamed != texts:
+                shown, seconds = self.shown_alone(tree, edit, renamed)
+                names = ", with the edited code's names in the proof"
+                return self.say(f"/{line(edit.name, shown, seconds)}{names}", fault=shown.what != REFUSED)
+        shown, seconds = self.shown_alone(tree, edit, texts)
+        if shown.what == MISFIT and not is_misfit:
+            return self.try_alone(tree, edit, is_misfit=True)
         self.say(f"/{line(edit.name, shown, seconds)}", fault=shown.what != REFUSED)
+
+    def shown_alone(self, tree, edit, texts):
+        check, seconds = self.check(tree, edit.name, texts)
+        tree.take_record(self.tree.record)
+        return self.judged(check, [edit])[edit.name], seconds
 
     def try_together(self, tree, edits):
         """Tries edits in one check, and alone those that are not refused there."""
         if len(edits) == 1:
             return self.try_alone(tree, edits[0])
-        check, seconds = tree.check_with(edited(tree.crate, edits), f"{edits[0].name} and {len(edits) - 1} more")
-        tree.take_record(self.tree)
+        check, seconds = self.check(tree, f"{edits[0].name} and {len(edits) - 1} more", edited(tree.crate, edits))
+        tree.take_record(self.tree.record)
         shown = self.judged(check, edits)
         lines = [f"\n    {line(edit.name, shown[edit.name])}" for edit in edits]
         self.say(f", {len(edits)} edits in one check ({seconds:.1f} s):{''.join(lines)}")
         for edit in edits:
             if shown[edit.name].what != REFUSED:
-                self.try_alone(tree, edit)
+                self.try_alone(tree, edit, shown[edit.name].what == MISFIT)

@@ -9,22 +9,23 @@ REFUSED = "refused"
 PROVED = "proved"
 BROKEN = "a file is broken"
 MISFIT = "the proof does not fit"
-OTHER_NEEDS = "other needs than before"
+OTHER_GOALS = "other goals than before"
 ELSEWHERE = "no error in a place of its own"
 
 # A place, the declaration there and the message, which may go on in lines that begin with blanks.
 ERROR = re.compile(r"^(\S+): error[^:]*: (?:`([^`]*)`: )?(.*(?:\n  .*)*)", re.MULTILINE)
 FUNCTION_LINE = re.compile(r"^fn .*", re.MULTILINE)
-OPEN_NEED = re.compile(r"^note: (\S+): it is not proved that ", re.MULTILINE)
-NO_PROOF = re.compile(r"^fn \S+: no proof: expected `[^`]*` in (\S+)/Proof\.antt; `search` does not close")
+OPEN_GOAL = re.compile(r"^note: (\S+): it is not proved that .*?\(`([^`]*)`\)", re.MULTILINE)
+NO_PROOF = re.compile(r"^fn \S+: no proof: expected \S+ in (\S+)/\w+\.antt; `search` did not prove ")
 
 # The declaration names one that was refused: nothing new.
 CONSEQUENCE = "was not admitted"
 # The proof speaks of a place or a name that the edited code does not have. That something printed "is not in scope here" is
 # only a hint on how to paste it.
-UNFIT = re.compile(r"has no field|that can be named from here|is not in scope(?! here, so)")
-# Declarations of a function's proof that hold no fact: a loop's invariant and measure, and the list of the facts.
-NO_FACT = re.compile(r"Inv-|μ-|.*-spec$")
+UNFIT = re.compile(r"has no field|has no `|that can be named from here|is not in scope(?! here, so)")
+# Files and declarations of a function's proof that hold no fact: the loops' invariants and measures, and the list of the facts.
+NO_FACT_FILE = "Invariants.antt"
+NO_FACT = re.compile(r"Inv-|μ-|.*[-_]spec$")
 
 
 class Shown(typing.NamedTuple):
@@ -32,6 +33,11 @@ class Shown(typing.NamedTuple):
 
     what: str
     where: str = ""
+
+
+def kind(goal):
+    """What a goal is of: its name without the places in the code, `returns` of `returns-then-x-y`."""
+    return goal.partition("-")[0]
 
 
 class Check(typing.NamedTuple):
@@ -46,39 +52,36 @@ class Check(typing.NamedTuple):
         the consequence of another."""
         for found, declaration, message in ERROR.findall(self.output):
             if CONSEQUENCE not in message:
-                path, _, column = os.path.relpath(found, self.crate).partition(":")
+                path, _, column = os.path.normpath(found).partition(":")
                 yield path, column, declaration, message
 
     def open_functions(self):
-        """The functions that have no proof file and would need one: the folder from the crate's, and the first need."""
+        """The functions with goals that no file answers and no search proves: the folder from the crate's, and the place and
+        the name of each such goal."""
         start = 0
         for line in FUNCTION_LINE.finditer(self.output):
-            notes = OPEN_NEED.findall(self.output[start : line.start()])
+            goals = OPEN_GOAL.findall(self.output[start : line.start()])
             if found := NO_PROOF.match(line[0]):
-                yield os.path.relpath(found[1], self.crate), os.path.relpath(notes[0], self.crate) if notes else ""
+                yield os.path.normpath(found[1]), goals
             start = line.end()
-
-    def needs(self, folder):
-        """What is to be proved of a function without a proof file, in order, by the help on it."""
-        help_on = f"help: write {self.crate}/{folder}/Proof.antt "
-        return re.findall(r"tie\.Need-(\S+)", self.output.partition(help_on)[2].partition("-spec :")[0])
 
 
 def shown_of_error(path, column, declaration, message):
     if not path.startswith("proofs/"):
         return Shown(BROKEN, f"{path}:{column}")
-    unfit = UNFIT.search(message) or NO_FACT.match(declaration)
+    unfit = UNFIT.search(message) or NO_FACT.match(declaration) or path.endswith(NO_FACT_FILE)
     return Shown(MISFIT if unfit else REFUSED, f"{path}:{column}")
 
 
-def all_shown(check, places, needs):
-    """What a check that ended in not-proved shows, with the place of each. The function needs gives what is to be proved of
-    the function with this folder without an edit."""
+def all_shown(check, places, goals):
+    """What a check that ended in not-proved shows, with the place of each. The function goals gives the names of what is to be
+    proved of the functions of this folder without an edit."""
     for error in check.errors():
         yield places.place_of(error[0]), shown_of_error(*error)
-    for folder, where in check.open_functions():
-        same = where and check.needs(folder) == needs(folder)
-        yield folder, Shown(REFUSED if same else OTHER_NEEDS, where)
+    for folder, found in check.open_functions():
+        kinds = {kind(goal) for goal in goals(folder)}
+        same = [where for where, goal in found if kind(goal) in kinds]
+        yield folder, Shown(REFUSED, same[0]) if same else Shown(OTHER_GOALS, found[0][0] if found else "")
 
 
 def shown_of_edit(own, strays):
@@ -89,14 +92,14 @@ def shown_of_edit(own, strays):
     return Shown(ELSEWHERE, strays[0].where if strays else "")
 
 
-def judge(check, places, owned, needs):
+def judge(check, places, owned, goals):
     """What a check shows of each edit in it; owned has their places, by name. With an error in a place of no edit it cannot
     be told which edit of several it belongs to: none is then refused by this check."""
     if check.status == 0:
         return {name: Shown(PROVED) for name in owned}
     if check.status != 1 or not re.search(r"^logic=not-proved", check.output, re.MULTILINE):
         return {name: Shown(f"no verdict (exit {check.status})") for name in owned}
-    shown = list(all_shown(check, places, needs))
+    shown = list(all_shown(check, places, goals))
     strays = [found for place, found in shown if place not in set().union(*owned.values())]
     if strays and len(owned) > 1:
         return {name: Shown(ELSEWHERE, strays[0].where) for name in owned}

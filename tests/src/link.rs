@@ -1,4 +1,4 @@
-//! The library under test, as other languages link it: `target/staticlib/libline_c.a`.
+//! The library under test, as other languages link it: `crates/line_c/out/libline_c.a`.
 //!
 //! The declarations are those of the wrapper in Rust, so that they stand once; its safe functions
 //! are not used here, since what is compared are the numbers.
