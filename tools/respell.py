@@ -22,6 +22,8 @@ DECLARED = re.compile(r"^(?:\s*)(?:(?:pub|abbrev|unfoldable|private)\s+)*([^\s()
 LIBRARY = set("length take drop append map set get_or replicate add mul sub div mod pow lt le ltb leb eqb and or not min max zero suc cons nil xor cond".split())
 # names that one spelling would make one. A lemma with a dash beside a definition in camel case ends in _lem by itself.
 CLASH = {
+    "not-whole": "not_whole",
+    "read-block": "read_block",
     "sync-block": "reads_sync",
     # fields, and the number of a refusal, beside a definition
     "loop-time": "loop_time",

@@ -122,7 +122,7 @@ pub record Assumptions (k : ℕ) (content : Bits) (es : List Entry) : Type 0 whe
   pub order : All (SameOrder content) es
   pub store : All SameStore es
   pub damage : All Admitted es
-  pub not-whole : All NotWhole es
+  pub not_whole : All NotWhole es
   pub sync_at_last : All SyncAtLast es
   pub sync_not_data : All SyncNotData es
   -- between two lost requests the machine reads at least one good block, an alarm before the second excepted

@@ -19,7 +19,7 @@ refusals_told =
     record {
       loop_time = C.loop_number Told told;
       build_block = C.build_number Told told;
-      read-block = C.read_block-number Told told;
+      read_block = C.read_block-number Told told;
       open_sender = C.open_sender-number Told told;
       send = C.send-number Told told;
       sender_rest = C.rest-number Told told;

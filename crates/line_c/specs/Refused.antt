@@ -28,7 +28,7 @@ pub record RefusalsTold : Type 0 where
   pub loop_time : (k speed loop_ms : ℕ) → is_refusal (refusal (loop_time k speed loop_ms)) ≡ is_refused (loop_time k speed loop_ms)
   pub build_block : (k service : ℕ) (payload slice : List ℕ)
       → is_refusal (refusal (build_block k service payload slice)) ≡ is_refused (build_block k service payload slice)
-  pub read-block : (k : ℕ) (slice payload : List ℕ)
+  pub read_block : (k : ℕ) (slice payload : List ℕ)
       → is_refusal (read_number (read_block k slice payload)) ≡ is_refused (read_block k slice payload)
   pub open_sender : (k speed loop_ms L : ℕ) (size : CodeSize) (order state : List ℕ)
       → is_refusal (refusal (open_sender_in k speed loop_ms L size order state))

@@ -158,7 +158,7 @@ pub record Met (k : ℕ) (content : Bits) (e : Entry) : Type 0 where
   pub order : SameOrder content e
   pub store : SameStore e
   pub damage : Admitted e
-  pub not-whole : NotWhole e
+  pub not_whole : NotWhole e
   pub sync_at_last : SyncAtLast e
   pub sync_not_data : SyncNotData e
 
@@ -173,7 +173,7 @@ sent_meets_lem k content x h =
       order = same_bits_lem x.order content c.0;
       store = tt;
       damage = admits_damage (xor_bits x.arrives x.plain) d.0;
-      not-whole = λ cancel e. differ e (implies_true (is_cancelled x.block) _ d.1 cancel);
+      not_whole = λ cancel e. differ e (implies_true (is_cancelled x.block) _ d.1 cancel);
       sync_at_last = tt;
       sync_not_data = tt;
     }
@@ -197,7 +197,7 @@ heard_meets_lem k content y h =
       order = tt;
       store = same_list eqb eqb-true y.store y.kept b.0;
       damage = tt;
-      not-whole = tt;
+      not_whole = tt;
       sync_at_last = λ e. at_last_lem (and_true _ _ (sync_event (event_of y) _ c.0 e));
       sync_not_data = not-read y.block (meaning y.rule).data_or_end c.1;
     }
@@ -208,9 +208,9 @@ heard_meets_lem k content y h =
 
 entry_meets_lem : (k : ℕ) (content : Bits) (e : Entry) → entry_meets k content e ≡ true → Met k content e
 entry_meets_lem k content (send_refused n) h =
-    record { line = tt; order = tt; store = tt; damage = tt; not-whole = tt; sync_at_last = tt; sync_not_data = tt }
+    record { line = tt; order = tt; store = tt; damage = tt; not_whole = tt; sync_at_last = tt; sync_not_data = tt }
 entry_meets_lem k content (receive_refused n) h =
-    record { line = tt; order = tt; store = tt; damage = tt; not-whole = tt; sync_at_last = tt; sync_not_data = tt }
+    record { line = tt; order = tt; store = tt; damage = tt; not_whole = tt; sync_at_last = tt; sync_not_data = tt }
 entry_meets_lem k content (sent x) h = sent_meets_lem k content x h
 entry_meets_lem k content (heard y) h = heard_meets_lem k content y h
 
@@ -237,7 +237,7 @@ assumed k content es m s =
       order = all_map (λ e c. c.order) es m;
       store = all_map (λ e c. c.store) es m;
       damage = all_map (λ e c. c.damage) es m;
-      not-whole = all_map (λ e c. c.not-whole) es m;
+      not_whole = all_map (λ e c. c.not_whole) es m;
       sync_at_last = all_map (λ e c. c.sync_at_last) es m;
       sync_not_data = all_map (λ e c. c.sync_not_data) es m;
       between_losses = spaced_between es s;

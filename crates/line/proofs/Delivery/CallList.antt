@@ -53,7 +53,7 @@ module _ (o : Session) where
       order = b.0;
       store = c.0;
       damage = d.0;
-      not-whole = f.0;
+      not_whole = f.0;
       sync_at_last = g.0;
       sync_not_data = h.0;
       loss = λ lost quiet. ap bit (spaced_head p e es (s quiet) lost);
@@ -65,7 +65,7 @@ module _ (o : Session) where
 
   pub okays : (es : List Entry) → Assumptions o.k o.content es → Okays o false 0 es
   okays es h =
-      okays_from false false es h.line h.order h.store h.damage h.not-whole h.sync_at_last h.sync_not_data
+      okays_from false false es h.line h.order h.store h.damage h.not_whole h.sync_at_last h.sync_not_data
       (λ q. between_spaced es h.between_losses)
 
 -- ---- whether a request was lost, and whether one pends, after a list

@@ -174,7 +174,7 @@ module _ (o : Session) (fit : Fit o) where
       let y = sends_block o fit w.sender w.receiver l d copy ok.line.1 base.sender_setup fin
       g.idle.basic w.sender.next reading (
         subst (λ (p : Bits). Damage (xor_bits copy p)) plain ok.damage,
-        (λ c e. ok.not-whole c (e ∙ sym plain)),
+        (λ c e. ok.not_whole c (e ∙ sym plain)),
         ok.loss,
       ) in
       record {

@@ -27,7 +27,7 @@ module _ (k : ℕ) (content : Bits) where
         order = all_prefix _ a b h.order;
         store = all_prefix _ a b h.store;
         damage = all_prefix _ a b h.damage;
-        not-whole = all_prefix _ a b h.not-whole;
+        not_whole = all_prefix _ a b h.not_whole;
         sync_at_last = all_prefix _ a b h.sync_at_last;
         sync_not_data = all_prefix _ a b h.sync_not_data;
         between_losses = λ before between behind p q e. h.between_losses before between (behind ++ b) p q (split before between behind p q e);

@@ -37,9 +37,9 @@ rank_high s Sync m b = omega arith
 rank_high s Older m b = omega arith
 rank_high s Newer m b = omega arith
 
-not-whole : (i w : ℕ) → NotWhole (item i w) → w ≡ 1 → ⊥
-not-whole i w (inl p) h = let z : ◌≡◌ {A = ℕ} 0 1 = cc in omega arith
-not-whole i w (inr p) h = let q : item i w ≡ item p.0 0 = p.1 in let z : ◌≡◌ {A = ℕ} w 0 = cc in omega arith
+not_whole : (i w : ℕ) → NotWhole (item i w) → w ≡ 1 → ⊥
+not_whole i w (inl p) h = let z : ◌≡◌ {A = ℕ} 0 1 = cc in omega arith
+not_whole i w (inr p) h = let q : item i w ≡ item p.0 0 = p.1 in let z : ◌≡◌ {A = ℕ} w 0 = cc in omega arith
 
 pub between_of : {N : ℕ} {s : Ends} {n : Next} → Idle N s n → s.lost ≡ 0 → Between s n
 between_of h z = ⊎_elim (λ a. absurd (omega arith)) (λ b. b) h.state
@@ -70,8 +70,8 @@ module _ {N : ℕ} {s t : Ends} {n : Next} where
       → s.search ≡ 0 → s.ended ≡ 0 → (event_kind e).wait ≡ false → (takes_block e ≡ true) ⊎ ((t.back ≡ 0) × (i < s.taken))
   whole-read h (D.under_alarm_lem q r a) w1 n0 z0 e0 nw = absurd (⊎_elim (λ b. omega arith) (λ b. omega arith) h.state)
   whole-read h (D.searches q r d a z) w1 n0 z0 e0 nw = absurd (omega arith)
-  whole-read {i} {w} h (D.bad_step q a lt f r) w1 n0 z0 e0 nw = absurd (not-whole i w f w1)
-  whole-read {i} {w} h (D.bad_eighth q a w' f r) w1 n0 z0 e0 nw = absurd (not-whole i w f w1)
+  whole-read {i} {w} h (D.bad_step q a lt f r) w1 n0 z0 e0 nw = absurd (not_whole i w f w1)
+  whole-read {i} {w} h (D.bad_eighth q a w' f r) w1 n0 z0 e0 nw = absurd (not_whole i w f w1)
   whole-read h (D.accepts q a i e0 m r) w1 n0 z0 e1 nw = inl refl
   whole-read h (D.repeats q a i e0 m r) w1 n0 z0 e1 nw = inr (omega arith)
   whole-read h (D.out_of_sequence q a i e0 m r) w1 n0 z0 e1 nw =

@@ -158,7 +158,7 @@ pub record Assumed (o : Session) (alarm : Bool) (d : ℕ) (e : Entry) : Type 0 w
   pub order : SameOrder o.content e
   pub store : SameStore e
   pub damage : Admitted e
-  pub not-whole : NotWhole e
+  pub not_whole : NotWhole e
   pub sync_at_last : SyncAtLast e
   pub sync_not_data : SyncNotData e
   pub loss : is_lost e ≡ true → alarm ≡ false → d ≡ 0
