@@ -71,18 +71,18 @@ def processors():
     return max(1, min(len(os.sched_getaffinity(0)), memory // MEMORY))
 
 
-def prove(crates):
-    """Has rt check prove the named crates, if it has not, and build those that they stand on."""
-    for name in crates:
-        run = subprocess.run(["rt", "check"], cwd=ROOT / "crates" / name, stdout=subprocess.PIPE, stderr=subprocess.STDOUT, text=True)
+def prove(names):
+    """Has rt check prove these crates, or all, and build those that they stand on; over what it kept, if it has done so."""
+    for folder, words in [(ROOT / "crates" / name, ["check"]) for name in names] or [(ROOT, ["all", "check"])]:
+        run = subprocess.run(["rt", *words], cwd=folder, stdout=subprocess.PIPE, stderr=subprocess.STDOUT, text=True)
         if run.returncode:
-            sys.exit(f"{run.stdout}edits.py: rt check: {name} is not proved as it is")
+            sys.exit(f"{run.stdout}edits.py: rt {' '.join(words)}: not proved as it is")
 
 
-def try_all(chosen):
-    """Tries the chosen edits, by crate: the exit status."""
+def try_all(chosen, is_whole):
+    """Tries the chosen edits, by crate: the exit status. is_whole: whether these are all."""
     began = time.monotonic()
-    prove(chosen)
+    prove([] if is_whole else chosen)
     with tempfile.TemporaryDirectory(prefix="edits-") as work:
         trials = [Trial(ROOT, pathlib.Path(work), LOGS, name, edits) for name, edits in chosen.items()]
         checks = try_trials(sorted(trials, key=lambda trial: -trial.size()), processors())
@@ -151,7 +151,7 @@ def main():
         sys.exit("\n".join(f"edits.py: {fault}" for fault in faults))
     if len(names) < len(sys.argv) - 1:
         return try_by_rt(chosen)
-    return try_all(chosen)
+    return try_all(chosen, is_whole=not names)
 
 
 if __name__ == "__main__":
