@@ -1,16 +1,16 @@
 #!/usr/bin/env python3
 """Tries the edits in crates/NAME/must-fail/ and must-fail/further/: the prover must refuse each because a fact fails.
 
-    edits.py [NAME ...]                 without a verdict, many edits in one check
-    edits.py --from-nothing [NAME ...]  by rt must-fail, which also refuses for less: a check for each edit alone
+    edits.py [NAME ...]          many edits in one check
+    edits.py --by-rt [NAME ...]  by rt must-fail, a check for each edit; it takes any refusal
 
 NAME is a crate or an edit; without one, all are tried. First docs/CLAIMS.md must name every edit and no other.
 
-Without --from-nothing, a crate is checked as it is, over the record that rt check keeps; then with edits, each time over that
+Without --by-rt, a crate is checked as it is, over the record that rt check keeps; then with edits, each time over that
 same record, so that only what they reach is checked again; and at the end as it is once more. This shows where and why an edit
 is refused, which rt must-fail does not judge: a fact must fail in one of the edit's own places (must_fail/places.py). Edits
-that have no place in common go into one check. Whatever is not refused there is tried again alone. rt ci tries the edits right
-in must-fail/ alone; here they are tried with all others.
+that have no place in common go into one check. Whatever is not refused there is tried again alone: where its proof only misses
+names of the code, with those of the edited code.
 
 The work is done on copies outside the repository; target/edits/CRATE/LABEL.log has a check's output.
 """
@@ -71,18 +71,18 @@ def processors():
     return max(1, min(len(os.sched_getaffinity(0)), memory // MEMORY))
 
 
-def prove(crates):
-    """Has rt check prove the named crates, if it has not, and build those that they stand on."""
-    for name in crates:
-        run = subprocess.run(["rt", "check"], cwd=ROOT / "crates" / name, stdout=subprocess.PIPE, stderr=subprocess.STDOUT, text=True)
+def prove(names):
+    """Has rt check prove these crates, or all, and build those that they stand on; over what it kept, if it has done so."""
+    for folder, words in [(ROOT / "crates" / name, ["check"]) for name in names] or [(ROOT, ["all", "check"])]:
+        run = subprocess.run(["rt", *words], cwd=folder, stdout=subprocess.PIPE, stderr=subprocess.STDOUT, text=True)
         if run.returncode:
-            sys.exit(f"{run.stdout}edits.py: rt check: {name} is not proved as it is")
+            sys.exit(f"{run.stdout}edits.py: rt {' '.join(words)}: not proved as it is")
 
 
-def try_all(chosen):
-    """Tries the chosen edits, by crate: the exit status."""
+def try_all(chosen, is_whole):
+    """Tries the chosen edits, by crate: the exit status. is_whole: whether these are all."""
     began = time.monotonic()
-    prove(chosen)
+    prove([] if is_whole else chosen)
     with tempfile.TemporaryDirectory(prefix="edits-") as work:
         trials = [Trial(ROOT, pathlib.Path(work), LOGS, name, edits) for name, edits in chosen.items()]
         checks = try_trials(sorted(trials, key=lambda trial: -trial.size()), processors())
@@ -113,10 +113,10 @@ def try_trials(trials, workers):
     return len(groups)
 
 
-def try_from_nothing(chosen):
+def try_by_rt(chosen):
     """Has rt must-fail try the chosen edits, by crate: its exit status."""
     with tempfile.TemporaryDirectory(prefix="edits-") as work:
-        tree = pathlib.Path(work) / "from-nothing"
+        tree = pathlib.Path(work) / "by-rt"
         copy_crates(ROOT, tree)
         for folder in (tree / "crates").glob("*/must-fail"):
             shutil.rmtree(folder)
@@ -141,7 +141,7 @@ def chosen_edits(edits, names):
 
 
 def main():
-    names = [name for name in sys.argv[1:] if name != "--from-nothing"]
+    names = [name for name in sys.argv[1:] if name != "--by-rt"]
     edits = all_edits()
     if not edits:
         sys.exit("edits.py: there are no edits")
@@ -150,8 +150,8 @@ def main():
     if faults:
         sys.exit("\n".join(f"edits.py: {fault}" for fault in faults))
     if len(names) < len(sys.argv) - 1:
-        return try_from_nothing(chosen)
-    return try_all(chosen)
+        return try_by_rt(chosen)
+    return try_all(chosen, is_whole=not names)
 
 
 if __name__ == "__main__":

@@ -119,9 +119,10 @@ class Places:
         constants = [found[1] for found in CONSTANT.finditer(text) if found.start() < at + len(old) and at < found.end()]
         return set().union(*map(self.naming, constants))
 
+    def of_code(self, edit):
+        """The places of what an edit that fits the crate changes in source files."""
+        return set().union(*(self.of_source(file, old) for file, old, _ in edit.replacements() if file.startswith("src/")))
+
     def of_edit(self, edit):
         """The places of an edit that fits the crate."""
-        found = set()
-        for file, old, _ in edit.replacements():
-            found |= self.of_source(file, old) if file.startswith("src/") else self.resting_on(file)
-        return found
+        return self.of_code(edit).union(*(self.resting_on(file) for file, _, _ in edit.replacements() if not file.startswith("src/")))

@@ -14,8 +14,7 @@ from must_fail.verdict import MISFIT, PROVED, REFUSED, judge
 
 
 NOT_TRIED = "it replaces nothing, is one of a proof, has an old text that is not there once, or changes what a caller sees"
-
-
+RENAMED = ", with the edited code's names in the proof"
 # A name that rattle makes of a place in the code, `if-x-y` of `if x <= y`.
 PLACE_NAME = r"[A-Za-z_]\w*(?:-\w+)+"
 
@@ -121,11 +120,10 @@ class Trial:
         """The names of what is to be proved of the function with this folder, as it is."""
         return self.as_it_is(folder).goals if folder in self.places.names else []
 
-    def with_renamed(self, tree, edit, texts):
-        """The edited texts and, with the edited code's names of places, the proofs of the functions that the edit reaches; the
-        edited texts alone if no name differs."""
-        found = dict(texts)
-        for folder in sorted(self.own[edit] & self.places.names.keys()):
+    def renamed_proofs(self, tree, edit):
+        """The proofs of the functions whose code an edit changes, with its names of places, as far as these are others."""
+        texts, found = edited(tree.crate, [edit]), {}
+        for folder in sorted(self.places.of_code(edit)):
             files = sorted((tree.crate / folder).glob("*.antt"))
             if files:
                 names = renaming(self.as_it_is(folder).names, self.generated_of(tree, folder, texts).names)
@@ -163,35 +161,40 @@ class Trial:
             self.copies[worker].take_record(self.tree.record)
         return self.copies[worker]
 
-    def try_alone(self, tree, edit, is_misfit=False):
-        """Tries one edit. Where the proof does not fit since the edited code's names of places are others, it is tried with
-        these in the proof. is_misfit: whether a check has shown that it does not fit."""
-        texts = edited(tree.crate, [edit])
-        if is_misfit:
-            renamed = self.with_renamed(tree, edit, texts)
-            if renamed != texts:
-                shown, seconds = self.shown_alone(tree, edit, renamed)
-                names = ", with the edited code's names in the proof"
-                return self.say(f"/{line(edit.name, shown, seconds)}{names}", fault=shown.what != REFUSED)
-        shown, seconds = self.shown_alone(tree, edit, texts)
-        if shown.what == MISFIT and not is_misfit:
-            return self.try_alone(tree, edit, is_misfit=True)
-        self.say(f"/{line(edit.name, shown, seconds)}", fault=shown.what != REFUSED)
-
-    def shown_alone(self, tree, edit, texts):
-        check, seconds = self.check(tree, edit.name, texts)
-        tree.take_record(self.tree.record)
-        return self.judged(check, [edit])[edit.name], seconds
-
-    def try_together(self, tree, edits):
-        """Tries edits in one check, and alone those that are not refused there."""
-        if len(edits) == 1:
-            return self.try_alone(tree, edits[0])
-        check, seconds = self.check(tree, f"{edits[0].name} and {len(edits) - 1} more", edited(tree.crate, edits))
-        tree.take_record(self.tree.record)
-        shown = self.judged(check, edits)
-        lines = [f"\n    {line(edit.name, shown[edit.name])}" for edit in edits]
-        self.say(f", {len(edits)} edits in one check ({seconds:.1f} s):{''.join(lines)}")
+    def shown_by(self, tree, label, edits, proofs):
+        """What a check with these edits shows of each, and the seconds it took; proofs holds other texts of proofs, by edit."""
+        texts = edited(tree.crate, edits)
         for edit in edits:
-            if shown[edit.name].what != REFUSED:
-                self.try_alone(tree, edit, shown[edit.name].what == MISFIT)
+            texts.update(proofs.get(edit) or {})
+        check, seconds = self.check(tree, label, texts)
+        tree.take_record(self.tree.record)
+        return self.judged(check, edits), seconds
+
+    def try_alone(self, tree, edit, proofs=None):
+        """Tries one edit, and if the proof does not fit, with the edited code's names of places in it: proofs, once they are
+        known."""
+        shown, seconds = self.shown_by(tree, edit.name, [edit], {edit: proofs})
+        if shown[edit.name].what == MISFIT and proofs is None:
+            proofs = self.renamed_proofs(tree, edit)
+            if proofs:
+                return self.try_alone(tree, edit, proofs)
+        text = line(edit.name, shown[edit.name], seconds)
+        self.say(f"/{text}{RENAMED if proofs else ''}", fault=shown[edit.name].what != REFUSED)
+
+    def try_together(self, tree, edits, proofs={}):
+        """Tries edits in one check. Of those that are not refused there, the ones whose proofs do not fit are tried together with
+        the edited code's names of places in them: proofs, by edit. The others are tried alone."""
+        if len(edits) == 1:
+            return self.try_alone(tree, edits[0], proofs.get(edits[0]))
+        shown, seconds = self.shown_by(tree, f"{edits[0].name} and {len(edits) - 1} more", edits, proofs)
+        lines = [f"\n    {line(edit.name, shown[edit.name])}" for edit in edits]
+        self.say(f", {len(edits)} edits in one check ({seconds:.1f} s){RENAMED if proofs else ''}:{''.join(lines)}")
+        left = [edit for edit in edits if shown[edit.name].what != REFUSED]
+        misfits = [edit for edit in left if shown[edit.name].what == MISFIT and edit not in proofs]
+        others = {edit: self.renamed_proofs(tree, edit) for edit in misfits}
+        again = [edit for edit in misfits if others[edit]]
+        if again:
+            self.try_together(tree, again, others)
+        for edit in left:
+            if edit not in again:
+                self.try_alone(tree, edit, proofs.get(edit, others.get(edit)))
