@@ -1,5 +1,5 @@
 #!/usr/bin/env python3
-"""Tries the edits in crates/NAME/must-fail/ and must-fail/further/: the prover must refuse each because a fact fails.
+"""Tries the edits in crates/NAME/must-fail/ and crates/NAME/further/: the prover must refuse each because a fact fails.
 
     edits.py [NAME ...]          many edits in one check
     edits.py --by-rt [NAME ...]  by rt must-fail, a check for each edit; it takes any refusal
@@ -40,8 +40,8 @@ MEMORY = 3_000_000_000
 def all_edits():
     """The edits by crate, those that rt ci tries first."""
     found = collections.defaultdict(list)
-    for pattern in ("*.edit", "further/*.edit"):
-        for path in sorted(ROOT.glob(f"crates/*/must-fail/{pattern}")):
+    for folder in ("must-fail", "further"):
+        for path in sorted(ROOT.glob(f"crates/*/{folder}/*.edit")):
             found[path.relative_to(ROOT).parts[1]].append(Edit(path))
     return found
 
