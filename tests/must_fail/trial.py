@@ -1,6 +1,5 @@
 """The edits of one crate, tried many in one check over the record of the crate as it is."""
 
-import difflib
 import re
 import shutil
 import tempfile
@@ -17,31 +16,26 @@ NOT_TRIED = "it replaces nothing, is one of a proof, has an old text that is not
 RENAMED = ", with the edited code's names in the proof"
 # A name that rattle makes of a place in the code, `if-x-y` of `if x <= y`.
 PLACE_NAME = r"[A-Za-z_]\w*(?:-\w+)+"
+# The files of a function that rattle makes with such names; the first has what is to be proved.
+MADE = ("AnswersOffered.antt", "Goals.antt", "Lts.antt")
 
 
 class Generated(typing.NamedTuple):
-    """What rattle makes of a function: the names of what is to be proved, and its names of places in order."""
+    """What rattle makes of a function: the names of what is to be proved, and all its names of places in order."""
 
     goals: list
     names: list
 
 
 def renaming(before, after):
-    """The names of places that the edited code has in place of others, as far as both have their names in the same order."""
+    """The names of places that the edited code has in place of others: of those that only one of both has, the names that begin
+    alike, as `if-`, stand for each other in order, if there are as many."""
     found = {}
-    for what, start, end, other, last in difflib.SequenceMatcher(None, before, after, autojunk=False).get_opcodes():
-        if what == "replace" and end - start == last - other:
-            for one, new in zip(before[start:end], after[other:last]):
-                found.setdefault(one, set()).add(new)
-    return {one: min(new) for one, new in found.items() if len(new) == 1 and one not in after}
-
-
-def renamed(name, names):
-    """A name with the place that it is of, or ends in, renamed: `returns-then-x-y` is what is to be proved at `then-x-y`."""
-    for start in [0, *(found.end() for found in re.finditer("-", name))]:
-        if name[start:] in names:
-            return name[:start] + names[name[start:]]
-    return name
+    for head in {name.partition("-")[0] for name in before}:
+        gone, new = ([name for name in dict.fromkeys(one) if name.startswith(f"{head}-") and name not in other] for one, other in ((before, after), (after, before)))
+        if len(gone) == len(new):
+            found.update(zip(gone, new))
+    return found
 
 
 def line(name, shown, seconds=None):
@@ -105,10 +99,9 @@ class Trial:
         """What rattle makes of the function with this folder, with these texts."""
         with tempfile.TemporaryDirectory(dir=tree.folder) as made:
             tree.check_with(texts, "--start", self.places.names[folder], "--generated", made)
-            found = tree.generated(made, folder)
-            offered, names = (found / "AnswersOffered.antt", found / "Lts.antt")
-            goals = re.findall(r"^pub (\S+) : goal\.", offered.read_text(), re.MULTILINE) if offered.is_file() else []
-            return Generated(goals, [*goals, *(re.findall(PLACE_NAME, names.read_text()) if names.is_file() else [])])
+            texts = [path.read_text() for path in (tree.generated(made, folder) / name for name in MADE) if path.is_file()]
+            goals = re.findall(r"^pub (\S+) : goal\.", "".join(texts[:1]), re.MULTILINE)
+            return Generated(goals, [name for text in texts for name in re.findall(PLACE_NAME, text)])
 
     def as_it_is(self, folder):
         with self.generating:
@@ -129,7 +122,7 @@ class Trial:
                 names = renaming(self.as_it_is(folder).names, self.generated_of(tree, folder, texts).names)
                 for path in files:
                     text = path.read_text()
-                    new = re.sub(rf"(?<![\w-]){PLACE_NAME}", lambda name: renamed(name[0], names), text)
+                    new = re.sub(rf"(?<![\w-]){PLACE_NAME}", lambda name: names.get(name[0], name[0]), text)
                     if new != text:
                         found[path] = new
         return found

@@ -19,7 +19,7 @@ OPEN_GOAL = re.compile(r"^note: (\S+): it is not proved that .*?\(`([^`]*)`\)", 
 NO_PROOF = re.compile(r"^fn \S+: no proof: expected \S+ in (\S+)/\w+\.antt; `search` did not prove ")
 
 # The declaration names one that was refused: nothing new.
-CONSEQUENCE = "was not admitted"
+CONSEQUENCE = re.compile(r"was not admitted|was rejected, (?:was|were) not checked")
 # The proof speaks of a place or a name that the edited code does not have. That something printed "is not in scope here" is
 # only a hint on how to paste it.
 UNFIT = re.compile(r"has no field|has no `|that can be named from here|is not in scope(?! here, so)")
@@ -51,7 +51,7 @@ class Check(typing.NamedTuple):
         """The path from the crate's folder, the line and column, the declaration and the message of each error that is not
         the consequence of another."""
         for found, declaration, message in ERROR.findall(self.output):
-            if CONSEQUENCE not in message:
+            if not CONSEQUENCE.search(message):
                 path, _, column = os.path.normpath(found).partition(":")
                 yield path, column, declaration, message
 
