@@ -1,25 +1,25 @@
 -- `Sender::send` turns away as the definition does, and else sends the block that is next. Assumes nothing.
 use borrow.Author.Tests.{ltb-false}
 use mathlib.Core.Path.{◌≡◌, sym, ◌∙◌}
-use mathlib.Core.Bool.{true, false, ◌||◌}
+use mathlib.Core.Bool.{Bool, true, false, ◌||◌}
 use native.Mathlib.Omega.{arith}
 use Rattle.block.specs.Answer.{done}
 use Rattle.block.specs.Lengths.{block_length}
 use Rattle.block.specs.Calls.{too_short}
 use Rattle.block.proofs.Lengths.{length_facts}
+use Rattle.line.specs.declared.sender.Sender.{Sender}
 use Rattle.line.specs.Sending.{sender_in_range, gave_up, transmit, send}
 use Rattle.line.specs.Code.SendSteps.{Lent}
 use Rattle.line.proofs.SenderRange.{in_range, refused_call, sent-call, spoiled-call, rest-call, goes_on, order_call, slice_call, going_call}
 use Rattle.line.proofs.sender.Sender.send.Goals as goal
-use Rattle.line.proofs.sender.Sender.send.Goals.{Else-at_rest, Else-not-in_range, Else-too_short, Else-too_short-2}
+use Rattle.line.proofs.sender.Sender.send.Goals.{Else-not-in_range, Else-too_short, Else-too_short-2}
 
 -- ---- what the tests have shown
 ranged : (c : Else-not-in_range) → sender_in_range c.args.self ≡ true
 ranged c = sym c.in_range.ensures ∙ c.if-not-in_range.false
 
-going : (c : Else-at_rest)
-    → c.args.self.finished || gave_up c.args.self ≡ false
-going c = sym c.at_rest.ensures ∙ c.if-at_rest.false
+going : (s : Sender) {b : Bool} → b ≡ s.finished || gave_up s → b ≡ false → s.finished || gave_up s ≡ false
+going s e f = sym e ∙ f
 
 lent : (c : Else-too_short)
     → too_short c.args.order.now
@@ -41,7 +41,7 @@ returns-then-at_rest c = let a = c.args in
 pub returns-then-too_short : goal.returns-then-too_short
 returns-then-too_short c = let a = c.args in
     refused_call a.self a.order.now a.reading a.block.now _
-    (order_call a.self a.order.now a.reading a.block.now (ranged (goal.at.returns-then-too_short c).Else-not-in_range) (going (goal.at.returns-then-too_short c).Else-at_rest)
+    (order_call a.self a.order.now a.reading a.block.now (ranged (goal.at.returns-then-too_short c).Else-not-in_range) (going c.args.self c.at_rest.ensures c.if-at_rest.false)
     (sym c.too_short.ensures ∙ c.if-too_short.true))
 
 pub overflow_add-setup : goal.overflow_add-setup
@@ -55,7 +55,7 @@ too_short-requires-2 c = let f = length_facts _ (in_range _ (ranged (goal.at.too
 pub returns-then-too_short-2 : goal.returns-then-too_short-2
 returns-then-too_short-2 c = let a = c.args in
     refused_call a.self a.order.now a.reading a.block.now _
-    (slice_call a.self a.order.now a.reading a.block.now (ranged (goal.at.returns-then-too_short-2 c).Else-not-in_range) (going (goal.at.returns-then-too_short-2 c).Else-at_rest) (lent (goal.at.returns-then-too_short-2 c).Else-too_short)
+    (slice_call a.self a.order.now a.reading a.block.now (ranged (goal.at.returns-then-too_short-2 c).Else-not-in_range) (going c.args.self c.at_rest.ensures c.if-at_rest.false) (lent (goal.at.returns-then-too_short-2 c).Else-too_short)
     (sym c.too_short-2.ensures ∙ c.if-too_short-2.true))
 
 -- ---- a block goes out
@@ -65,7 +65,7 @@ room c = sym c.too_short-2.ensures ∙ c.if-too_short-2.false
 prepared : (c : Else-too_short-2) → Lent c.args.self c.args.order.now c.args.block.now
 prepared c =
     record {
-      sender = goes_on c.args.self c.args.order.now c.args.reading c.args.block.now (sym c.in_range.ensures ∙ c.if-not-in_range.false) (sym c.at_rest.ensures ∙ c.if-at_rest.false);
+      sender = goes_on c.args.self c.args.order.now c.args.reading c.args.block.now (sym c.in_range.ensures ∙ c.if-not-in_range.false) (going c.args.self c.at_rest.ensures c.if-at_rest.false);
       order_lent = ltb-false _ _ (sym c.too_short.ensures ∙ c.if-too_short.false);
       room = ltb-false _ _ (room c);
     }
@@ -75,7 +75,7 @@ goes : (c : Else-too_short-2)
     ≡ done (transmit c.args.self c.args.self.next c.args.reading).block
 goes c =
     going_call c.args.self c.args.order.now c.args.reading c.args.block.now
-    (sym c.in_range.ensures ∙ c.if-not-in_range.false) (sym c.at_rest.ensures ∙ c.if-at_rest.false) (sym c.too_short.ensures ∙ c.if-too_short.false) (room c)
+    (sym c.in_range.ensures ∙ c.if-not-in_range.false) (going c.args.self c.at_rest.ensures c.if-at_rest.false) (sym c.too_short.ensures ∙ c.if-too_short.false) (room c)
 
 pub send_sync-requires : goal.send_sync-requires
 send_sync-requires c = let p = prepared (goal.at.send_sync-requires c).Else-too_short-2 in (p.sender, p.room)
