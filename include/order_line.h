@@ -10,8 +10,8 @@
  *   - what a call may write overlaps nothing else that is lent to the same call;
  *   - nobody else touches what is lent while the call runs: no other thread, no interrupt handler, no DMA;
  *   - a bool argument is 0 or 1;
- *   - there is stack enough. No proof bounds it: tests/stack.c found 1,416 bytes for order_line_send, 696 for
- *     order_line_receive and less than 600 for every other call (docs/SPEED.md). Allow 1,500.
+ *   - there is stack enough. No proof bounds it: tests/stack.c found 1,464 bytes for order_line_send, 1,080 for
+ *     order_line_receive and less than 350 for every other call (docs/SPEED.md). Allow 1,600.
  * Nothing else is asked: any bytes, any numbers. What a call only writes may be uninitialised before it: a state before
  * its opening; the block, the data, the tint order or the doses that it makes; the store; every number but *first and
  * *second. A refused call leaves it so. The library keeps nothing between calls and allocates nothing. Of the C library
@@ -21,7 +21,7 @@
  * the pointer's own size: write ORDER_LINE_RECEIVER_BYTES, ORDER_LINE_STORE_BYTES(k) and so on instead, or hand the size
  * on beside the pointer. doses_numbers counts 16-bit numbers, not bytes.
  *
- * libline_c.a is for x86-64 and the System V calling convention; the toolchain compiles for no other processor today.
+ * libline_c.a is for x86-64 processors of the level x86-64-v2 or above and the System V calling convention.
  * Its calls use vector registers, and may use the 128 bytes below the stack pointer (the red zone). So an interrupt
  * handler that makes a call must save the vector registers before it and restore them after it, and no call may run on a
  * stack on which an interrupt, or anything else, may overwrite those 128 bytes.
