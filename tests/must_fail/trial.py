@@ -29,13 +29,20 @@ class Generated(typing.NamedTuple):
 
 def renaming(before, after):
     """The names of places that the edited code has in place of others: of those that only one of both has, the names that begin
-    alike, as `if-`, stand for each other in order, if there are as many."""
+    alike, as `if-`, stand for each other in order, if there are as many. A branch has such names besides, made where a proof
+    asks for them."""
+
+    def left(names, others, head):
+        return [name for name in dict.fromkeys(names) if name.startswith(f"{head}-") and name not in others]
+
     found = {}
     for head in {name.partition("-")[0] for name in before}:
-        gone, new = ([name for name in dict.fromkeys(one) if name.startswith(f"{head}-") and name not in other] for one, other in ((before, after), (after, before)))
+        gone, new = left(before, after, head), left(after, before, head)
         if len(gone) == len(new):
             found.update(zip(gone, new))
-    return found
+    branches = [(old.removeprefix("if-"), new.removeprefix("if-")) for old, new in found.items() if old.startswith("if-")]
+    more = {f"{head}-{old}": f"{head}-{new}" for head in ("then", "else", "Then", "Else") for old, new in branches}
+    return {**more, **found}
 
 
 def line(name, shown, seconds=None):
