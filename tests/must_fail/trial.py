@@ -1,5 +1,6 @@
 """The edits of one crate, tried many in one check over the record of the crate as it is."""
 
+import difflib
 import re
 import shutil
 import tempfile
@@ -27,19 +28,29 @@ class Generated(typing.NamedTuple):
     names: list
 
 
+def base(name):
+    """A name without the number of a second place of the same text."""
+    return re.sub(r"-[2-9]\Z", "", name)
+
+
+def pairs(one, other):
+    """The names of places in the code and in the edited code that stand for each other: by their order, and of the others, those
+    that only one of both has, if there are as many."""
+    found = {}
+    for _, start, end, begin, last in difflib.SequenceMatcher(None, list(map(base, one)), list(map(base, other)), autojunk=False).get_opcodes():
+        if end - start == last - begin:
+            found.update(zip(one[start:end], other[begin:last]))
+    left = [name for name in one if name not in found and name not in other]
+    more = [name for name in other if name not in found.values() and name not in one]
+    return {**found, **(dict(zip(left, more)) if len(left) == len(more) else {})}
+
+
 def renaming(before, after):
-    """The names of places that the edited code has in place of others: of those that only one of both has, the names that begin
-    alike, as `if-`, stand for each other in order, if there are as many. A branch has such names besides, made where a proof
-    asks for them."""
-
-    def left(names, others, head):
-        return [name for name in dict.fromkeys(names) if name.startswith(f"{head}-") and name not in others]
-
+    """The names of places that the edited code has in place of others: each of one that begins alike, as `if-`. A branch has such
+    names besides, made where a proof asks for them."""
     found = {}
     for head in {name.partition("-")[0] for name in before}:
-        gone, new = left(before, after, head), left(after, before, head)
-        if len(gone) == len(new):
-            found.update(zip(gone, new))
+        found.update(pairs(*([name for name in dict.fromkeys(names) if name.startswith(f"{head}-")] for names in (before, after))))
     branches = [(old.removeprefix("if-"), new.removeprefix("if-")) for old, new in found.items() if old.startswith("if-")]
     more = {f"{head}-{old}": f"{head}-{new}" for head in ("then", "else", "Then", "Else") for old, new in branches}
     return {**more, **found}
