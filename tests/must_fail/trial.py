@@ -33,16 +33,27 @@ def base(name):
     return re.sub(r"-[2-9]\Z", "", name)
 
 
+def shape(name):
+    """How many parts a name has, and which of them are numbers."""
+    return tuple(part.isdigit() for part in name.split("-"))
+
+
 def pairs(one, other):
     """The names of places in the code and in the edited code that stand for each other: by their order, and of the others, those
-    that only one of both has, if there are as many."""
+    that only one of both has, if there are as many, or as many of one shape."""
     found = {}
     for _, start, end, begin, last in difflib.SequenceMatcher(None, list(map(base, one)), list(map(base, other)), autojunk=False).get_opcodes():
         if end - start == last - begin:
             found.update(zip(one[start:end], other[begin:last]))
     left = [name for name in one if name not in found and name not in other]
     more = [name for name in other if name not in found.values() and name not in one]
-    return {**found, **(dict(zip(left, more)) if len(left) == len(more) else {})}
+    if len(left) == len(more):
+        return {**found, **dict(zip(left, more))}
+    for form in set(map(shape, left)):
+        some, others = ([name for name in names if shape(name) == form] for names in (left, more))
+        if len(some) == len(others):
+            found.update(zip(some, others))
+    return found
 
 
 def renaming(before, after):
