@@ -126,12 +126,12 @@ fn judge_doses(doses: &[Dose]) -> Result<(), Refusal>
     ensures { judged_answer result ≡ judge_doses doses.now (done tt) }
 {
     if !in_range_and_order(doses) {
-        return Err(Refusal::Entry);
+        Err(Refusal::Entry)
+    } else if MOST_TOTAL < total_steps(doses) {
+        Err(Refusal::Steps)
+    } else {
+        Ok(())
     }
-    if MOST_TOTAL < total_steps(doses) {
-        return Err(Refusal::Steps);
-    }
-    Ok(())
 }
 
 // Whether an order of these doses can be written. Refused in the order 10, 11, 12.
@@ -139,13 +139,11 @@ fn judge_doses(doses: &[Dose]) -> Result<(), Refusal>
 pub fn judge(doses: Doses) -> Result<(), Refusal>
     ensures { Judge doses result }
 {
-    if doses.count == 0 {
-        return Err(Refusal::Format);
+    match doses.count {
+        0 => Err(Refusal::Format),
+        1..=CANISTERS => judge_doses(doses.held()),
+        _ => Err(Refusal::Entry),
     }
-    if CANISTERS < doses.count {
-        return Err(Refusal::Entry);
-    }
-    judge_doses(doses.held())
 }
 
 // ---- writing
@@ -155,6 +153,7 @@ fn write_entries(doses: &[Dose], entries: &mut [u8])
     requires { length doses.now * 3 ≤ length entries.old }
     ensures { entries.new ≡ low_entries doses.now ++ drop (length doses.now * 3) entries.old }
 {
+    // By place: nothing is proved of what is written through `chunks_exact_mut`.
     for (place, dose) in doses.iter().enumerate() {
         let at = place * ENTRY_BYTES;
         entries[at..at + ENTRY_BYTES].copy_from_slice(&dose.entry());
