@@ -6,9 +6,8 @@ use mathlib.Core.Logic.{⊎_elim}
 use Prim.Native.Nat.{ℕ, zero, suc, ◌+◌, ◌*◌, ◌/◌, ◌%◌, ◌≤◌, ◌<◌}
 use native.Mathlib.Omega.{arith}
 use lib.Dec.{eqb, leb, ltb}
-use lib.ListN.{length, take, drop, get_or}
+use lib.ListN.{length, drop}
 use borrow.Author.Tests.{ltb-true, ltb-false, leb-true, eqb-true, eqb-false, not-true, not-false, lt-ltb, le-ltb, eq-eqb, ne_eqb}
-use Rattle.std.proofs.lemmas.List.{take_more, flat_map_more}
 use Rattle.crc.proofs.Bytes.{drop_bytes}
 use Rattle.block.specs.Answer.{Answer, refused, done, refuse_if}
 use Rattle.block.proofs.Truth.{and_true, either}
@@ -16,8 +15,8 @@ use Rattle.block.proofs.Refusals.{passed_test}
 use Rattle.line.specs.WholeOrder.{Bytes}
 use Rattle.tint.specs.Refusals as Refusals
 use Rattle.tint.specs.Format.{format_version, big_endian, from_big_endian, entries, order_bytes, doses_in, is_length_of, is_format, canisters, most_steps, most_total, is_in_range, in_range_and_order, total, judge_doses}
-use Rattle.tint.specs.Calls.{no_dose, judge_counted}
-use Rattle.tint.specs.Code.{head_bytes, low_entry, low_entries}
+use Rattle.tint.specs.Calls.{judge_counted}
+use Rattle.tint.specs.Code.{head_bytes, low_entries}
 use Rattle.tint.specs.declared.Dose.{Dose}
 
 -- ---- entries and their doses
@@ -34,16 +33,6 @@ big_endian_from high low h =
 pub length-entries : (ds : List Dose) → length (entries ds) ≡ length ds * 3
 length-entries [] = refl
 length-entries (d ∷ ds) = omega (arith, length-entries ds)
-
-pub length-low_entries : (ds : List Dose) → length (low_entries ds) ≡ length ds * 3
-length-low_entries [] = refl
-length-low_entries (d ∷ ds) = omega (arith, length-low_entries ds)
-
--- with the next dose's
-pub low_entries-more : (ds : List Dose) (i : ℕ) → i < length ds
-    → low_entries (take i ds) ++ low_entry (get_or ds i no_dose) ≡ low_entries (take (i + 1) ds)
-low_entries-more ds i h =
-    flat_map_more low_entry [] (take i ds) (get_or ds i no_dose) ∙ ap low_entries (sym (take_more ds i no_dose h))
 
 pub doses_of-entries : (ds : List Dose) → doses_in (entries ds) ≡ ds
 doses_of-entries [] = refl
