@@ -86,7 +86,7 @@ pub extern "C" fn order_line_read_tint(order: &[u8], doses: &mut [u16], count: &
             if doses.len() / DOSE_NUMBERS < found.count {
                 return Refusal::Short.into();
             }
-            store_doses(found.held(), doses);
+            store_doses(&found.list[..found.count], doses);
             *count = found.count;
             0
         }

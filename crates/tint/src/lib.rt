@@ -88,7 +88,7 @@ impl Dose {
 }
 
 impl Doses {
-    pub fn held(&self) -> &[Dose]
+    fn held(&self) -> &[Dose]
         requires { self.now.count ≤ 12 }
         ensures { result.now ≡ doses_of self.now }
     {
