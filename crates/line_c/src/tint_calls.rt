@@ -9,7 +9,7 @@ use tint::{CANISTERS, Dose, Doses, Refusal};
 // A dose's numbers.
 const DOSE_NUMBERS: usize = 2;
 
-// The first count doses.
+// The first count doses. One function for this and the crate tint's `load_entries` would take a closure, and be no shorter.
 fn load_doses(count: usize, numbers: &[u16]) -> Doses
     requires { (count ≤ 12) × (count * 2 ≤ length numbers.now) }
     ensures { result ≡ doses_from (doses_held numbers.now count) }

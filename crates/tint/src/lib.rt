@@ -7,7 +7,7 @@ ghost use Rattle.tint.specs.Format.{doses_in, is_format, is_in_range, in_range_a
 ghost use Rattle.tint.specs.Calls.{refusal_number, doses_of, doses_from, judged_answer, Judge, Write, Read};
 ghost use Rattle.tint.specs.Code.{dose_of_entry, head_bytes, low_entry, low_entries};
 
-// Why a call turns its input away, each with its number; docs/PROTOCOL.md, "What the ends turn away".
+// Why a call turns its input away, each with its number; docs/PROTOCOL.md, "Tint orders". Short has the crate block's number.
 #[derive(Clone, Copy, Debug, PartialEq, Eq)]
 pub enum Refusal {
     Short = 6,
