@@ -2,6 +2,7 @@
 -- Assumes nothing.
 use mathlib.Core.Path.{◌≡◌, refl, sym, ap, ◌∙◌, subst}
 use mathlib.Core.Bool.{Bool, true, false, ◌||◌, or-false}
+use Rattle.std.specs.Prelude.{Err}
 use mathlib.Core.List.{List, [], ◌∷◌, ◌++◌}
 use mathlib.Core.Logic.{⊎_elim}
 use Prim.Native.Nat.{ℕ, ◌+◌, ◌-◌, ◌*◌, ◌/◌, ◌%◌, ◌≤◌}
@@ -30,7 +31,7 @@ use Rattle.line.specs.Receiving.{last_bad, after_bad, Rule, reads_sync, check_fa
 use Rattle.line.specs.Code.ReceiveSteps.{rule_of, stepped, handed_back, judged, Handed}
 use Rattle.line.specs.declared.receiver.Receiver.{Receiver}
 use Rattle.line.specs.declared.receiving.Event.TheVariants as E
-use Rattle.line.specs.declared.receiving.Received.TheVariants as R
+use Rattle.line.specs.declared.Refusal.TheVariants as N
 use Rattle.line.specs.declared.receiver.Step.{Step}
 use Rattle.line.specs.declared.rules.Rule as D
 use Rattle.line.specs.declared.rules.Rule.TheVariants as C
@@ -68,7 +69,7 @@ module _ (s : Receiver) (row : Bits) (used : ℕ) (store : List ℕ) (r : Step) 
       (subst (λ (y : Step). Handed s store (stops s rule row used) y store) (sym h) (handed_plain s store (stops s rule row used) n))
 
   -- rule 3, the store short
-  pub handed_short : too_short store (s.taken * s.setup.k + s.setup.k) ≡ true → r ≡ record { state = s; answer = R.Refused A.short }
+  pub handed_short : too_short store (s.taken * s.setup.k + s.setup.k) ≡ true → r ≡ record { state = s; answer = Err N.Short }
       → Handed s store (stops s accepts row used) r store
   handed_short q h =
       subst (λ (y : Step). Handed s store (stops s accepts row used) y store) (sym h)

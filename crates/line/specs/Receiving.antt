@@ -1,6 +1,6 @@
 -- The receiving end: opening a receiver and a receiving call, with their promises. docs/PROTOCOL.md, "Receiving", whose rules
 -- have their numbers here. Assumes nothing.
-use Rattle.std.specs.Prelude.{◌≡◌, Bool, true, false, cond, not, ◌&&◌, ◌||◌, List, [], ◌∷◌, ◌++◌, ℕ, zero, suc, ◌+◌, ◌-◌, ◌*◌, eqb, leb, ltb, length, take, drop, replicate}
+use Rattle.std.specs.Prelude.{◌≡◌, Bool, true, false, cond, not, ◌&&◌, ◌||◌, List, [], ◌∷◌, ◌++◌, ℕ, zero, suc, ◌+◌, ◌-◌, ◌*◌, eqb, leb, ltb, length, take, drop, replicate, Result, Ok, Err}
 use Rattle.std.proofs.Math.Option.{Option, none, some}
 use Rattle.crc.specs.Bits.{Bits, number, bits_of, bytes_of}
 use Rattle.block.specs.Answer as A
@@ -9,6 +9,7 @@ use Rattle.block.specs.Lengths.{is_length, block_length}
 use Rattle.block.specs.Block.{service_of, payload_of, Verdict, passed, failed, verdict, service_sync, sync_sequence}
 use Rattle.block.specs.Calls.{too_short}
 use Rattle.line.specs.Refusals as Refusals
+use Rattle.line.specs.declared.Refusal.{Refusal}
 use Rattle.line.specs.Marks.{marks_of, marks_in_range, is_mark}
 use Rattle.line.specs.Order.{most_items, valid_length, item_count, letter, is_letter, end_service, version}
 use Rattle.line.specs.declared.marks.CodeSize.{CodeSize}
@@ -20,7 +21,6 @@ use Rattle.line.specs.declared.receiving.Phase.TheVariants as P
 use Rattle.line.specs.declared.receiving.Event.{Event}
 use Rattle.line.specs.declared.receiving.Event.TheVariants as E
 use Rattle.line.specs.declared.receiving.Received.{Received}
-use Rattle.line.specs.declared.receiving.Received.TheVariants as R
 use Rattle.line.specs.declared.receiver.Step.{Step}
 use Rattle.line.specs.declared.receiver.Opening.{Opening}
 use Rattle.line.specs.declared.receiver.Opening.TheVariants as O
@@ -434,9 +434,9 @@ abbrev pub reported : Answer Reception → Answer Report
 reported (refused n) = refused n
 reported (done x) = done (record { event = (meaning x.rule).event; used = x.used })
 
-abbrev pub received_answer : Received → Answer Report
-received_answer (R.Used event used) = done (record { event = event; used = used })
-received_answer (R.Refused n) = refused n
+abbrev pub received_answer : Result Received Refusal → Answer Report
+received_answer (Ok r) = done (record { event = r.event; used = r.bits })
+received_answer (Err r) = refused (Refusals.refusal_number r)
 
 pub record Receive (s : Receiver) (line : List ℕ) (count : ℕ) (ready : Bool) (store : List ℕ) (result : Step) (store' : List ℕ) : Type 0 where
   pub answers : received_answer result.answer ≡ reported (receive s line count ready store)

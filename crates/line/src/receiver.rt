@@ -4,16 +4,16 @@ ghost use Rattle.line.specs.Receiving.{OpenReceiver, fresh_receiver, Receive};
 ghost use Rattle.line.specs.ReceivingInPlace.{with_array};
 ghost use Rattle.line.specs.Code.ReceiveSteps.{refused_opening};
 
-use crate::CODE_SIZE;
 use crate::head::Head;
 use crate::marks::{CodeSize, Marks};
-use crate::receiving::{Phase, Received, Setup};
+use crate::receiving::{ARRAY_SIZE, Phase, Received, Setup};
+use crate::{CODE_SIZE, Refusal};
 
 #[derive(Clone, Copy)]
 pub struct Receiver {
     pub setup: Setup,
     // The bits of one unfinished block.
-    pub bits: [u8; 483],
+    pub bits: [u8; ARRAY_SIZE],
     pub held: usize,
     // How many bad blocks came in a row.
     pub bad_row: usize,
@@ -29,7 +29,7 @@ pub struct Receiver {
 #[derive(Clone, Copy)]
 pub struct Step {
     pub state: Receiver,
-    pub answer: Received,
+    pub answer: Result<Received, Refusal>,
 }
 
 #[derive(Clone, Copy)]

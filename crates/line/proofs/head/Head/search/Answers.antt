@@ -30,7 +30,7 @@ pub returns-then-ends_sequence : goal.returns-then-ends_sequence
 returns-then-ends_sequence c = let l = c.loop-used in
     c.after_good.ensures
     ∙ ap handed_back
-    (search_found (with_array c.args.self c.args.array.now) c.args.line.now c.args.bits c.requires.2 (window_bits l.window) l.used _ c.loop-used-test.true
+    (search_found (with_array c.args.self c.args.array.now) c.args.line.now c.args.bits c.requires.1 (window_bits l.window) l.used _ c.loop-used-test.true
     c.bit_at-next.ensures (sym c.ends_sequence.ensures ∙ c.if-ends_sequence.true) ∙ l.invariant.4)
 
 pub loop-used-preserved : goal.loop-used-preserved
@@ -39,7 +39,7 @@ loop-used-preserved c = let l = c.loop-used in (
   l.invariant.1,
   omega arith,
   c.slide-window.ensures.0,
-  search_on (with_array c.args.self c.args.array.now) c.args.line.now c.args.bits c.requires.2 (window_bits l.window) l.used _ c.loop-used-test.true
+  search_on (with_array c.args.self c.args.array.now) c.args.line.now c.args.bits c.requires.1 (window_bits l.window) l.used _ c.loop-used-test.true
       c.bit_at-next.ensures (sym c.ends_sequence.ensures ∙ c.if-ends_sequence.false) _ c.slide-window.ensures.1 ∙ l.invariant.4,
 )
 
@@ -48,4 +48,4 @@ returns c = let l = c.loop-used in
     c.hold_window.ensures
     ∙ ap (λ (array : List ℕ). stepped (S.searching (with_array c.args.self array) (window_bits l.window)) E.None l.used) l.invariant.0
     ∙ ap handed_back
-    (sym (search_end (with_array c.args.self c.args.array.now) c.args.line.now c.args.bits c.requires.2 (window_bits l.window) l.used (omega arith)) ∙ l.invariant.4)
+    (sym (search_end (with_array c.args.self c.args.array.now) c.args.line.now c.args.bits c.requires.1 (window_bits l.window) l.used (omega arith)) ∙ l.invariant.4)

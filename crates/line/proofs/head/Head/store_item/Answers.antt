@@ -4,6 +4,7 @@ use mathlib.Core.Bool.{true, false}
 use mathlib.Core.List.{List, [], ◌++◌}
 use Prim.Native.Nat.{ℕ, ◌+◌, ◌-◌, ◌*◌, ◌/◌, ◌≤◌, ◌<◌}
 use native.Mathlib.Omega.{arith}
+use borrow.Author.Rules.{rules}
 use lib.ListN.{length, take, drop, get_or, length-drop}
 use lib.Seq.{take_all, length-take-le}
 use Rattle.crc.specs.Bits.{Bits, bits_of, bytes_of}
@@ -75,4 +76,4 @@ slice_bounds-move_data-end c = room c.args.self.setup.k c.args.self.taken c.requ
 
 pub returns : goal.returns
 returns c = stored (with_array c.args.self c.args.array.now) c.requires.0.range.known c.args.row.now c.args.store.now c.args.used c.requires.0.held
-    (λ i. (c.slice_known-2-1.given i).fits) c.requires.1 _ _ c.move_data.ensures _ c.stop.ensures
+    (λ i. search rules) c.requires.1 _ _ c.move_data.ensures _ c.stop.ensures
