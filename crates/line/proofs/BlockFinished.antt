@@ -15,7 +15,6 @@ use types.Run.{OneOf, miss}
 use denote.Enum.Declared.{tag_of}
 use Rattle.crc.specs.Bits.{Bits, bits_of, bytes_of}
 use Rattle.crc.proofs.Bytes.{length-bits_of, bits_of-append, bits_of-bytes_of_exact}
-use Rattle.block.specs.Answer as A
 use Rattle.block.specs.Answer.{done}
 use Rattle.block.specs.Lengths.{block_length}
 use Rattle.block.specs.Block.{payload_of, passed, failed, verdict}

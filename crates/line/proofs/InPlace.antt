@@ -5,7 +5,6 @@ use mathlib.Core.List.{List}
 use Prim.Native.Nat.{ℕ}
 use borrow.Author.Tests.{eq-eqb, ne_eqb}
 use lib.ListN.{length}
-use Rattle.block.specs.Answer as A
 use Rattle.line.specs.Receiving.{array_bytes, receive, reported, receive_state, receive_store, Receive}
 use Rattle.line.specs.ReceivingInPlace.{with_array, receive_in_place, ReceiveInPlace}
 use Rattle.line.specs.Code.ReceiveSteps.{step_with, turned_away}

@@ -1,13 +1,13 @@
 // The receiving end in place: a state's array is lent, its other fields, the head, are handed over and back.
 ghost use Rattle.std.specs.Prelude.{◌≡◌, true, false, not, ◌||◌, List, [], ◌++◌, ℕ, ◌+◌, ◌*◌, ◌≤◌, ◌<◌, leb, length, take};
-ghost use Rattle.crc.specs.Bits.{bits_of};
+ghost use Rattle.crc.specs.Bits.{binary, bits_of};
 ghost use Rattle.block.specs.Lengths.{is_length, block_length};
 ghost use Rattle.block.specs.Calls.{too_short};
 ghost use Rattle.line.specs.Order.{most_items};
 ghost use Rattle.line.specs.Receiving as S;
 ghost use Rattle.line.specs.Receiving.{array_bytes, zero_array, receiver_in_range};
 ghost use Rattle.line.specs.ReceivingInPlace.{with_array, ReceiveInPlace};
-ghost use Rattle.line.specs.Code.ReceiveSteps.{WindowInRange, HeadInRange, FinishedBlock, window_bits, rule_of, step_with, stepped, handed_back, judged, turned_away, Handed};
+ghost use Rattle.line.specs.Code.ReceiveSteps.{HeadInRange, FinishedBlock, rule_of, step_with, stepped, handed_back, judged, turned_away, Handed};
 
 use crate::Refusal;
 use crate::hold::put_bits;
@@ -298,12 +298,9 @@ impl Head {
 
     // The search's window back in the array's first two bytes.
     fn hold_window(self, array: &mut [u8; ARRAY_SIZE], window: Window, used: usize) -> HeadStep
-        requires { WindowInRange window }
-        ensures { step_with result array.new ≡ stepped (S.searching (with_array self array.old) (window_bits window)) Event.None used }
+        ensures { step_with result array.new ≡ stepped (S.searching (with_array self array.old) (binary window.held window.number)) Event.None used }
     {
-        let pair = window.store();
-        array[0] = pair.0;
-        array[1] = pair.1;
+        array[..2].copy_from_slice(&window.store());
         HeadStep {
             head: Head {
                 held: window.held,
@@ -322,17 +319,15 @@ impl Head {
         requires { (self.held ≤ 15) × (bits ≤ 8 * length line.now) }
         ensures { step_with result array.new ≡ handed_back (S.search (with_array self array.old) (S.held_bits (with_array self array.old)) (take bits (bits_of line.now)) 0) }
     {
-        let mut window = Window::load(self.held, array[0], array[1]);
-        let mut used = 0;
-        while used < bits {
+        let mut window = Window::load(self.held, [array[0], array[1]]);
+        for used in 0..bits {
             let next = bit_at(line, used);
-            used += 1;
             if window.ends_sequence(next) {
-                return self.after_good(array, self.taken, self.ended, Event::Sync, used);
+                return self.after_good(array, self.taken, self.ended, Event::Sync, used + 1);
             }
             window = window.slide(next);
         }
-        self.hold_window(array, window, used)
+        self.hold_window(array, window, bits)
     }
 
     // A standing alarm: all bits used.

@@ -1,7 +1,7 @@
 -- What the receiver's private functions ask and promise: the code's rules, and what is handed back for a reception.
 -- Assumes nothing.
-use Rattle.std.specs.Prelude.{◌≡◌, Bool, true, List, ℕ, ◌*◌, ◌^◌, ◌≤◌, ◌<◌, length, Err, Ok}
-use Rattle.crc.specs.Bits.{Bits, binary}
+use Rattle.std.specs.Prelude.{◌≡◌, Bool, true, List, ℕ, ◌*◌, ◌≤◌, ◌<◌, length, Err, Ok}
+use Rattle.crc.specs.Bits.{Bits}
 use Rattle.block.specs.Lengths.{is_length, block_length}
 use Rattle.line.specs.declared.Refusal.{Refusal}
 use Rattle.line.specs.declared.receiver.Receiver.{Receiver}
@@ -9,7 +9,6 @@ use Rattle.line.specs.declared.receiving.Event.{Event}
 use Rattle.line.specs.declared.receiver.Step.{Step}
 use Rattle.line.specs.declared.head.Head.{Head}
 use Rattle.line.specs.declared.head.HeadStep.{HeadStep}
-use Rattle.line.specs.declared.window.Window.{Window}
 use Rattle.line.specs.declared.rules.Rule as D
 use Rattle.line.specs.declared.rules.Rule.TheVariants as C
 use Rattle.line.specs.declared.marks.CodeSize.TheVariants as Size
@@ -33,11 +32,6 @@ pub record FinishedBlock (h : Head) (slice : List ℕ) : Type 0 where
   pub range : HeadInRange h
   pub held : block_length h.setup.k ≤ 8 * length slice
 
--- a window of at most 15 bits
-pub record WindowInRange (w : Window) : Type 0 where
-  pub held : w.held ≤ 15
-  pub number : w.number < 2 ^ w.held
-
 -- ---- what they promise
 
 -- the rule that each case of the code's enum stands for
@@ -50,10 +44,6 @@ rule_of C.WrongLength = wrong_length
 rule_of C.EndsAgain = ends_again
 rule_of C.AnythingElse = anything_else
 rule_of C.Waits = waits
-
--- the bits that a window holds
-abbrev pub window_bits : Window → Bits
-window_bits w = binary w.held w.number
 
 -- what a call hands back, its head and the array as one state
 abbrev pub step_with : HeadStep → List ℕ → Step

@@ -5,10 +5,9 @@ use mathlib.Core.List.{List}
 use Prim.Native.Nat.{ℕ}
 use native.Mathlib.Omega.{arith}
 use lib.ListN.{length, take}
-use Rattle.crc.specs.Bits.{Bits, bits_of, bytes_of}
+use Rattle.crc.specs.Bits.{Bits, bits_of}
 use Rattle.block.specs.Lengths.{block_length}
 use Rattle.block.proofs.Lengths.{length_facts}
-use Rattle.line.specs.Receiving.{array_bytes, overwrite}
 use Rattle.line.specs.ReceivingInPlace.{with_array}
 use Rattle.line.specs.Code.ReceiveSteps.{step_with, judged, Handed}
 use Rattle.line.specs.declared.head.Head.{Head}
