@@ -206,7 +206,7 @@ impl Head {
     {
         let m = self.setup.k / 8;
         let start = self.taken * m;
-        block::move_data(m, row, &mut store[start..start + m]);
+        block::move_data(m, row, &mut store[start..start + m]).unwrap();
         self.stop(array, Rule::Accepts, used)
     }
 
@@ -228,9 +228,9 @@ impl Head {
         if looks_sync(k, row) {
             return self.after_good(array, taken, ended, Event::Sync, used);
         }
-        let answer = packed::read_service(k / 8, row);
-        let Read::Passed(service) = answer else {
-            return self.after_bad(array, answer.remainder(), false, used);
+        let service = match packed::read_service(k / 8, row).unwrap() {
+            Read::Passed(service) => service,
+            Read::Failed(remainder) => return self.after_bad(array, remainder, false, used),
         };
         let judged = service_rule(self.setup.marks.in_use, k, taken, ended, service, row);
         let rule = judged.or_wait(ready);
