@@ -4,4 +4,4 @@ use Rattle.crc.proofs.Basis.{byte_feeds}
 use Rattle.crc.proofs.feed_byte.Goals as goal
 
 pub returns : goal.returns
-returns c = byte_feeds c.args.c c.args.b (search rules) (search rules)
+returns c = rw c.from.ensures (byte_feeds c.args.c c.args.b (search rules) (search rules))

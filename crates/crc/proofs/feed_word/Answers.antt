@@ -5,7 +5,7 @@ use Rattle.crc.proofs.Basis.{word_feeds, word_sum, eval}
 use Rattle.crc.proofs.feed_word.Goals as goal
 
 pub returns : goal.returns
-returns c = word_feeds c.args.c c.args.w (search rules) (search rules)
+returns c = rw c.from.ensures (word_feeds c.args.c c.args.w (search rules) (search rules))
 
 pub overflow_cast-result : goal.overflow_cast-result
-overflow_cast-result c = Fits-mask (eval word_sum c.args.c c.args.w) 16 tt
+overflow_cast-result c = Fits-mask (eval word_sum c.from.result c.args.w) 16 tt
