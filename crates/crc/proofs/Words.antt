@@ -7,12 +7,11 @@ use lib.Bits.{bit_xor}
 use lib.ListN.{length, take, drop, get_or, length-append, length-drop, take-append-drop}
 use lib.Seq.{length-take-le}
 use Rattle.std.specs.Int.{from_be_bytes, w64}
-use Rattle.std.specs.List.{range_with_len}
+use Rattle.std.specs.List.{range_with_len, FoldsTo}
 use Rattle.std.specs.Simd.{first_chunks}
-use Rattle.std.proofs.lemmas.List.{map_more}
 use Rattle.std.proofs.lemmas.List.FromFn.{fill_by_all}
 use Rattle.crc.specs.Bits.{Bits, zeros, binary, bits_of, xor_bits}
-use Rattle.crc.specs.Words.{bits_of_words}
+use Rattle.crc.specs.Words.{bits_of_words, left_by}
 use Rattle.crc.specs.Check.{register}
 use Rattle.crc.proofs.Rows.{length-binary, binary-zero, binary-xor, binary_join, xor_bits-append}
 use Rattle.crc.proofs.Bytes.{bits_of-append, take_bytes, drop_bytes}
@@ -42,12 +41,11 @@ pub bits_of_words_one : (w : ℕ) → bits_of_words (w ∷ []) ≡ binary 64 w
 unfolding bits_of_words
 bits_of_words_one w = append-nil (binary 64 w)
 
--- one word behind the others
-pub bits_of_words_last : (ws : List ℕ) (w : ℕ) → bits_of_words (ws ++ w ∷ []) ≡ bits_of_words ws ++ binary 64 w
+pub bits_of_words-append : (ws vs : List ℕ) → bits_of_words (ws ++ vs) ≡ bits_of_words ws ++ bits_of_words vs
 unfolding bits_of_words
-bits_of_words_last [] w = append-nil (binary 64 w)
-bits_of_words_last (v ∷ ws) w =
-    ap (λ (l : Bits). binary 64 v ++ l) (bits_of_words_last ws w) ∙ sym (append_assoc (binary 64 v) (bits_of_words ws) (binary 64 w))
+bits_of_words-append [] vs = refl
+bits_of_words-append (w ∷ ws) vs =
+    ap (λ (l : Bits). binary 64 w ++ l) (bits_of_words-append ws vs) ∙ sym (append_assoc (binary 64 w) (bits_of_words ws) (bits_of_words vs))
 
 -- ---- words of eight bytes
 
@@ -105,38 +103,31 @@ register-zeros (suc k) = register-zeros k
 pub register-zeros_front : (k : ℕ) (l : Bits) → register 0 (zeros k ++ l) ≡ register 0 l
 register-zeros_front k l = register-append 0 (zeros k) l ∙ ap (λ (x : ℕ). register x l) (register-zeros k)
 
-pub register-zero_word : (ws : List ℕ) → register 0 (bits_of_words (0 ∷ ws)) ≡ register 0 (bits_of_words ws)
+pub register-zero_word : (ws : List ℕ) → left_by (0 ∷ ws) ≡ left_by ws
 unfolding bits_of_words
 register-zero_word ws =
     ap (λ (l : Bits). register 0 (l ++ bits_of_words ws)) (binary-zero 64) ∙ register-zeros_front 64 (bits_of_words ws)
 
--- rows that leave the same leave the same with one more behind each
-pub register_behind : (l m r : Bits) → register 0 l ≡ register 0 m → register 0 (l ++ r) ≡ register 0 (m ++ r)
-register_behind l m r e = register-append 0 l r ∙ ap (λ (x : ℕ). register x r) e ∙ sym (register-append 0 m r)
+-- words that leave the same leave the same with others behind them
+pub register-words_behind : (ws vs us : List ℕ) → left_by ws ≡ left_by vs → left_by (ws ++ us) ≡ left_by (vs ++ us)
+register-words_behind ws vs us e =
+    ap (register 0) (bits_of_words-append ws us) ∙ register-append 0 (bits_of_words ws) (bits_of_words us)
+    ∙ ap (λ (x : ℕ). register x (bits_of_words us)) e
+    ∙ sym (register-append 0 (bits_of_words vs) (bits_of_words us)) ∙ sym (ap (register 0) (bits_of_words-append vs us))
 
-pub register_word_behind : (ws vs : List ℕ) (w : ℕ) → register 0 (bits_of_words ws) ≡ register 0 (bits_of_words vs)
-    → register 0 (bits_of_words (ws ++ w ∷ [])) ≡ register 0 (bits_of_words (vs ++ w ∷ []))
-register_word_behind ws vs w e =
-    ap (register 0) (bits_of_words_last ws w) ∙ register_behind (bits_of_words ws) (bits_of_words vs) (binary 64 w) e ∙ sym (ap (register 0) (bits_of_words_last vs w))
-
--- the next word folded into the others
-pub register-next : (start ws vs : List ℕ) (words : List (List ℕ)) (i : ℕ) → i < length words
-    → register 0 (bits_of_words ws) ≡ register 0 (bits_of_words (start ++ map (from_be_bytes w64) (take i words)))
-    → register 0 (bits_of_words vs) ≡ register 0 (bits_of_words (ws ++ from_be_bytes w64 (get_or words i []) ∷ []))
-    → register 0 (bits_of_words vs) ≡ register 0 (bits_of_words (start ++ map (from_be_bytes w64) (take (i + 1) words)))
-register-next start ws vs words i h before e =
-    let so_far : List ℕ = map (from_be_bytes w64) (take i words) in
-    let next : ℕ = from_be_bytes w64 (get_or words i []) in
-    e ∙ register_word_behind ws (start ++ so_far) next before
-    ∙ ap (λ (l : List ℕ). register 0 (bits_of_words l))
-    (append_assoc start so_far (next ∷ []) ∙ ap (λ (l : List ℕ). start ++ l) (sym (map_more (from_be_bytes w64) words i [] h)))
+-- words folded in one after another, each of which leaves what it leaves behind the words before
+pub register-folds : {P : Type 0} (R : P → ℕ → P → Type 0) (words : P → List ℕ)
+    → ((p : P) (w : ℕ) (q : P) → R p w q → left_by (words q) ≡ left_by (words p ++ w ∷ []))
+    → (p : P) (ws : List ℕ) (q : P) → FoldsTo R p ws q → left_by (words q) ≡ left_by (words p ++ ws)
+register-folds R words step p [] q e = ap left_by (ap words (sym e) ∙ sym (append-nil (words p)))
+register-folds R words step p (w ∷ ws) q (j, one, others) =
+    register-folds R words step j ws q others ∙ register-words_behind (words j) (words p ++ w ∷ []) ws (step p w j one)
+    ∙ ap left_by (append_assoc (words p) (w ∷ []) ws)
 
 -- the bytes before the first whole word, as the last word of a window of zeros
-pub register-start : (c w : ℕ) (ws s : List ℕ) (h : ℕ) → register 0 (binary 64 w) ≡ register c (bits_of (take h s)) → bits_of_words ws ≡ bits_of (drop h s)
-    → register 0 (bits_of_words ((0 ∷ 0 ∷ 0 ∷ w ∷ []) ++ ws)) ≡ register c (bits_of s)
-unfolding bits_of_words
+pub register-start : (c w : ℕ) (ws s : List ℕ) (h : ℕ) → left_by (w ∷ []) ≡ register c (bits_of (take h s)) → bits_of_words ws ≡ bits_of (drop h s)
+    → left_by ((0 ∷ 0 ∷ 0 ∷ w ∷ []) ++ ws) ≡ register c (bits_of s)
 register-start c w ws s h e f =
     register-zero_word (0 ∷ 0 ∷ w ∷ ws) ∙ register-zero_word (0 ∷ w ∷ ws) ∙ register-zero_word (w ∷ ws)
-    ∙ register-append 0 (binary 64 w) (bits_of_words ws)
-    ∙ ap₂ register e f
-    ∙ register-rest c s h
+    ∙ ap (register 0) (bits_of_words-append (w ∷ []) ws) ∙ register-append 0 (bits_of_words (w ∷ [])) (bits_of_words ws)
+    ∙ ap₂ register e f ∙ register-rest c s h

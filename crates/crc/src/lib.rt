@@ -4,8 +4,10 @@
 ghost use Rattle.std.specs.Prelude.{◌≡◌, [], ◌∷◌, ◌++◌, ◌+◌, ◌-◌, ◌%◌, ◌^◌, ◌≤◌, ◌<◌, length, map, take};
 ghost use Rattle.std.specs.Int.{from_be_bytes, w64};
 ghost use Rattle.crc.specs.Bits.{binary, bits_of};
-ghost use Rattle.crc.specs.Words.{bits_of_words};
+ghost use Rattle.crc.specs.Words.{left_by};
 ghost use Rattle.crc.specs.Check.{register};
+
+// The steps by four, eight and sixty-four bits have a formula each: one function of any width would take a bit at a time.
 
 // Four bits into the register: the low half of b, its highest bit first.
 pub fn feed_nibble(c: u16, b: u8) -> u16
@@ -41,9 +43,9 @@ pub fn feed_word(c: u16, w: u64) -> u16
 type Window = [u64; 4];
 
 // One word more behind a window, whose first word is folded into the four behind it: the generator's 16th power is
-// x^256 + x^192 + x^80 + 1.
+// x^256 + x^192 + x^80 + 1. Each fold has its own shifts and number of words, so the three are no one function.
 fn fold_four(window: Window, next: u64) -> Window
-    ensures { register 0 (bits_of_words result) ≡ register 0 (bits_of_words (window ++ next ∷ [])) }
+    ensures { left_by result ≡ left_by (window ++ next ∷ []) }
 {
     let [a, b, c, d] = window;
     [b ^ a, c ^ (a >> 48), d ^ (a << 16), next ^ a]
@@ -51,7 +53,7 @@ fn fold_four(window: Window, next: u64) -> Window
 
 // A word folded into the two behind it: the generator's 8th power is x^128 + x^96 + x^40 + 1.
 fn fold_two(a: u64, b: u64, c: u64) -> [u64; 2]
-    ensures { register 0 (bits_of_words result) ≡ register 0 (bits_of_words (a ∷ b ∷ c ∷ [])) }
+    ensures { left_by result ≡ left_by (a ∷ b ∷ c ∷ []) }
 {
     let v = a ^ (a >> 32);
     [b ^ ((v << 32) ^ (v >> 24)), c ^ (v ^ (v << 40))]
@@ -59,7 +61,7 @@ fn fold_two(a: u64, b: u64, c: u64) -> [u64; 2]
 
 // A word folded into the one behind it: the generator's 4th power is x^64 + x^48 + x^20 + 1.
 fn fold_one(a: u64, b: u64) -> u64
-    ensures { register 0 (bits_of_words (result ∷ [])) ≡ register 0 (bits_of_words (a ∷ b ∷ [])) }
+    ensures { left_by (result ∷ []) ≡ left_by (a ∷ b ∷ []) }
 {
     let x = a ^ (a >> 32);
     let y = x ^ (x >> 16) ^ (x >> 44);
@@ -68,7 +70,7 @@ fn fold_one(a: u64, b: u64) -> u64
 
 // What a window leaves in the register.
 fn feed_window(window: Window) -> u16
-    ensures { result ≡ register 0 (bits_of_words window) }
+    ensures { result ≡ left_by window }
 {
     let [a, b, c, d] = window;
     let [e, f] = fold_two(a, b, c);
@@ -78,20 +80,18 @@ fn feed_window(window: Window) -> u16
 
 // Words, each as its eight bytes, folded into a window.
 fn fold_words(start: Window, words: &[[u8; 8]]) -> Window
-    ensures { register 0 (bits_of_words result) ≡ register 0 (bits_of_words (start ++ map (from_be_bytes w64) words.now)) }
+    ensures { left_by result ≡ left_by (start ++ map (from_be_bytes w64) words.now) }
 {
-    let mut window = start;
-    for word in words {
-        let folded = fold_four(window, u64::from_be_bytes(*word));
-        window = folded;
-    }
-    window
+    words
+        .iter()
+        .map(|word| u64::from_be_bytes(*word))
+        .fold(start, fold_four)
 }
 
 // The first bytes of eight as a word, zeros in front, the register added to their first sixteen bits.
 fn load_head(c: u16, bytes: [u8; 8], count: usize) -> u64
     requires { (2 ≤ count) × (count ≤ 8) }
-    ensures { register 0 (binary 64 result) ≡ register c (bits_of (take count bytes)) }
+    ensures { left_by (result ∷ []) ≡ register c (bits_of (take count bytes)) }
 {
     (u64::from_be_bytes(bytes) ^ (u64::from(c) << 48)) >> (64 - 8 * count)
 }

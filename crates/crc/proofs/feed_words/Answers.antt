@@ -1,6 +1,6 @@
 -- `crc::feed_words` meets its contract: the bytes before the first whole word, and then the words. Assumes nothing.
-use mathlib.Core.Path.{◌≡◌, sym, ap, ap₂, ◌∙◌}
-use mathlib.Core.List.{List, [], map}
+use mathlib.Core.Path.{◌≡◌, ap, ap₂, ◌∙◌}
+use mathlib.Core.List.{List, [], ◌∷◌, map}
 use Prim.Native.Nat.{ℕ, ◌+◌, ◌-◌, ◌*◌, ◌/◌, ◌%◌}
 use native.Mathlib.Omega.{arith}
 use borrow.Author.Rules.{rules}
@@ -8,8 +8,8 @@ use lib.ListN.{length, take, drop, get_or, length-drop}
 use lib.Seq.{take-take}
 use Rattle.std.specs.Int.{from_be_bytes, w64}
 use Rattle.std.specs.Simd.{first_chunks}
-use Rattle.crc.specs.Bits.{binary, bits_of}
-use Rattle.crc.specs.Words.{bits_of_words}
+use Rattle.crc.specs.Bits.{bits_of}
+use Rattle.crc.specs.Words.{bits_of_words, left_by}
 use Rattle.crc.specs.Check.{register}
 use Rattle.crc.proofs.Bytes.{drop_bytes}
 use Rattle.crc.proofs.Words.{first_of_chunks, bits_of_words-chunks, register-start}
@@ -22,7 +22,7 @@ returns c = let at : ℕ = c.args.c in
     let words : List ℕ = map (from_be_bytes w64) c.as_chunks-2.result.0.now in
     let front : get_or c.as_chunks.result.0.now 0 [] ≡ take 8 s
     = ap (λ (l : List (List ℕ)). get_or l 0 []) c.as_chunks.ensures.front ∙ first_of_chunks (length s / 8) s (omega arith) in
-    let head : register 0 (binary 64 c.load_head-first.result) ≡ register at (bits_of (take h s))
+    let head : left_by (c.load_head-first.result ∷ []) ≡ register at (bits_of (take h s))
     = c.load_head-first.ensures
     ∙ ap (λ (l : List ℕ). register at (bits_of l)) (ap₂ take c.split_at.ensures.front_len front ∙ take-take h 8 s (omega arith)) in
     let whole : length (drop h s) ≡ 8 * (length (drop h s) / 8) = omega (arith, length-drop h s) in
