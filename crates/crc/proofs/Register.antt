@@ -114,7 +114,7 @@ unfolding bits_of
 register-cons c x s = sym (register-append c (binary 8 x) (bits_of s))
 
 -- byte after byte
-pub register-fold : (c : ℕ) (s : List ℕ) → fold (λ r b. register r (binary 8 b)) c s ≡ register c (bits_of s)
+pub register_by_bytes : (c : ℕ) (s : List ℕ) → fold (λ r b. register r (binary 8 b)) c s ≡ register c (bits_of s)
 unfolding register bits_of
-register-fold c [] = refl
-register-fold c (x ∷ s) = register-fold (register c (binary 8 x)) s ∙ register-cons c x s
+register_by_bytes c [] = refl
+register_by_bytes c (x ∷ s) = register_by_bytes (register c (binary 8 x)) s ∙ register-cons c x s

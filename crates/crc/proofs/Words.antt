@@ -116,12 +116,12 @@ register-words_behind ws vs us e =
     ∙ sym (register-append 0 (bits_of_words vs) (bits_of_words us)) ∙ sym (ap (register 0) (bits_of_words-append vs us))
 
 -- words folded in one after another, each of which leaves what it leaves behind the words before
-pub register-folds : {P : Type 0} (R : P → ℕ → P → Type 0) (words : P → List ℕ)
+pub left_by_folded : {P : Type 0} (R : P → ℕ → P → Type 0) (words : P → List ℕ)
     → ((p : P) (w : ℕ) (q : P) → R p w q → left_by (words q) ≡ left_by (words p ++ w ∷ []))
     → (p : P) (ws : List ℕ) (q : P) → FoldsTo R p ws q → left_by (words q) ≡ left_by (words p ++ ws)
-register-folds R words step p [] q e = ap left_by (ap words (sym e) ∙ sym (append-nil (words p)))
-register-folds R words step p (w ∷ ws) q (j, one, others) =
-    register-folds R words step j ws q others ∙ register-words_behind (words j) (words p ++ w ∷ []) ws (step p w j one)
+left_by_folded R words step p [] q e = ap left_by (ap words (sym e) ∙ sym (append-nil (words p)))
+left_by_folded R words step p (w ∷ ws) q (j, one, others) =
+    left_by_folded R words step j ws q others ∙ register-words_behind (words j) (words p ++ w ∷ []) ws (step p w j one)
     ∙ ap left_by (append_assoc (words p) (w ∷ []) ws)
 
 -- the bytes before the first whole word, as the last word of a window of zeros

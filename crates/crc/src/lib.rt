@@ -10,6 +10,7 @@ ghost use Rattle.crc.specs.Check.{register};
 // The steps by four, eight and sixty-four bits have a formula each: one function of any width would take a bit at a time.
 
 // Four bits into the register: the low half of b, its highest bit first.
+#[tactic(auto, using(crate::proofs::Basis::nibble_feeds))]
 pub fn feed_nibble(c: u16, b: u8) -> u16
     ensures { result ≡ register c (binary 4 b) }
 {
@@ -18,6 +19,7 @@ pub fn feed_nibble(c: u16, b: u8) -> u16
 }
 
 // Eight bits into the register, the earliest in the top bit.
+#[tactic(auto, using(crate::proofs::Basis::byte_feeds))]
 pub fn feed_byte(c: u16, b: u8) -> u16
     ensures { result ≡ register c (binary 8 b) }
 {
@@ -28,6 +30,7 @@ pub fn feed_byte(c: u16, b: u8) -> u16
 
 // Sixty-four bits into the register, the earliest in the top bit: the quotient by the generator from its powers 8, 4, 2
 // and 1, then what the quotient leaves.
+#[tactic(auto, using(crate::proofs::Basis::word_feeds))]
 pub fn feed_word(c: u16, w: u64) -> u16
     ensures { result ≡ register c (binary 64 w) }
 {
@@ -52,6 +55,7 @@ fn fold_four(window: Window, next: u64) -> Window
 }
 
 // A word folded into the two behind it: the generator's 8th power is x^128 + x^96 + x^40 + 1.
+#[tactic(auto, using(crate::proofs::Folding::fold_two))]
 fn fold_two(a: u64, b: u64, c: u64) -> [u64; 2]
     ensures { left_by result ≡ left_by (a ∷ b ∷ c ∷ []) }
 {
@@ -60,6 +64,7 @@ fn fold_two(a: u64, b: u64, c: u64) -> [u64; 2]
 }
 
 // A word folded into the one behind it: the generator's 4th power is x^64 + x^48 + x^20 + 1.
+#[tactic(auto, using(crate::proofs::Folding::fold_one))]
 fn fold_one(a: u64, b: u64) -> u64
     ensures { left_by (result ∷ []) ≡ left_by (a ∷ b ∷ []) }
 {

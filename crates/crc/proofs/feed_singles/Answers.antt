@@ -7,11 +7,11 @@ use Rattle.std.specs.List.{fold}
 use Rattle.std.proofs.iter.runs.Made.{chains}
 use Rattle.crc.specs.Bits.{binary}
 use Rattle.crc.specs.Check.{register}
-use Rattle.crc.proofs.Register.{register-fold}
+use Rattle.crc.proofs.Register.{register_by_bytes}
 use Rattle.crc.proofs.feed_singles.Goals as goal
 
 pub returns : goal.returns
 returns c = let at : ℕ = c.args.c in
     let s : List ℕ = c.args.s.now in
     let e : c.fold.result ≡ fold (λ r b. register r (binary 8 b)) at s = search (rules, chains) in
-    e ∙ register-fold at s
+    e ∙ register_by_bytes at s
