@@ -76,11 +76,7 @@ binary-from_be_bytes s l h =
     one_behind_another : from_be_bytes w64 s ≡ bytes_behind 0 (map (λ k. get_or s k 0) (range_with_len 0 8))
     one_behind_another = omega arith
 
-pub first_of_chunks : (k : ℕ) (s : List ℕ) → 0 < k → get_or (first_chunks 8 k s) 0 [] ≡ take 8 s
-first_of_chunks zero s h = absurd (omega arith)
-first_of_chunks (suc k) s h = refl
-
--- a row of them
+-- bytes in chunks of eight, each read as a word
 pub bits_of_words-chunks : (k : ℕ) (s : List ℕ) → length s ≡ 8 * k → ((i : ℕ) → get_or s i 0 < 256)
     → bits_of_words (map (from_be_bytes w64) (first_chunks 8 k s)) ≡ bits_of s
 unfolding bits_of_words bits_of
@@ -91,6 +87,10 @@ bits_of_words-chunks (suc k) s e h =
     (binary-from_be_bytes (take 8 s) (length-take-le 8 s (omega arith)) (take_bytes 8 s h))
     (bits_of_words-chunks k (drop 8 s) (omega (arith, length-drop 8 s)) (drop_bytes 8 s h))
     ∙ sym (bits_of-append (take 8 s) (drop 8 s)) ∙ ap bits_of (take-append-drop 8 s)
+
+pub first_of_chunks : (k : ℕ) (s : List ℕ) → 0 < k → get_or (first_chunks 8 k s) 0 [] ≡ take 8 s
+first_of_chunks zero s h = absurd (omega arith)
+first_of_chunks (suc k) s h = refl
 
 -- ---- the register
 
