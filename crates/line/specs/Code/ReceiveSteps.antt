@@ -11,12 +11,8 @@ use Rattle.line.specs.declared.head.Head.{Head}
 use Rattle.line.specs.declared.head.HeadStep.{HeadStep}
 use Rattle.line.specs.declared.rules.Rule as D
 use Rattle.line.specs.declared.rules.Rule.TheVariants as C
-use Rattle.line.specs.declared.marks.CodeSize.TheVariants as Size
-use Rattle.line.specs.declared.receiver.Opened.{Opened}
-use Rattle.line.specs.declared.receiver.Opening.TheVariants as O
-use Rattle.line.specs.Marks.{marks_of}
 use Rattle.line.specs.Order.{most_items}
-use Rattle.line.specs.Receiving.{fresh_receiver, last_bad, Rule, accepts, previous, out_of_sequence, ends, wrong_length, ends_again, anything_else, waits, meaning, block_rule, stops, Reception, judge_store, received_answer, reported, receive_state, receive_store}
+use Rattle.line.specs.Receiving.{last_bad, Rule, accepts, previous, out_of_sequence, ends, wrong_length, ends_again, anything_else, waits, meaning, block_rule, stops, Reception, judge_store, received_answer, reported, receive_state, receive_store}
 use Rattle.line.specs.ReceivingInPlace.{with_array}
 
 -- ---- what the private functions ask of their arguments
@@ -59,10 +55,6 @@ stepped s event used = record { state = s; answer = Ok (record { event = event; 
 -- what a call hands back for what it read where nothing is stored
 abbrev pub handed_back : Reception → Step
 handed_back x = stepped x.state (meaning x.rule).event x.used
-
--- what a refused opening hands back
-abbrev pub refused_opening : ℕ → Opened
-refused_opening n = record { state = fresh_receiver 0 (marks_of Size.NotGiven); answer = O.Refused n }
 
 -- what is read where these n bits complete a block
 abbrev pub judged : Receiver → Bits → Bool → ℕ → Reception

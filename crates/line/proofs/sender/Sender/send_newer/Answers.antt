@@ -36,7 +36,7 @@ returns-then-reading c = let b = c.cancel in
     let room : block_length k ≤ 8 * length c.write_item.new.block = rw c.write_item.auto.block c.requires.room in
     rw c.if-reading.true
     (record {
-      answers = c.item.ensures;
+      answers = ap done c.item.ensures;
       state = c.repeated.ensures;
       writes =
           cancels k c.write_item.new.block b.result b.new.block whole room b.ensures
@@ -48,7 +48,7 @@ pub returns : goal.returns
 unfolding transmit sent_bits
 returns c = rw c.if-reading.false
     (record {
-      answers = c.item-2.ensures;
+      answers = ap done c.item-2.ensures;
       state = c.confirmed.ensures;
       writes = c.write_item.ensures;
     })
