@@ -2,7 +2,8 @@
 -- Assumes nothing.
 use mathlib.Core.Path.{◌≡◌, refl, sym, ap, ◌∙◌, subst}
 use mathlib.Core.Bool.{Bool, true, false, ◌||◌, or-false}
-use Rattle.std.specs.Prelude.{Err}
+use Rattle.std.specs.Prelude.{Result, Ok, Err}
+use Rattle.std.specs.Result.{IsOk}
 use mathlib.Core.List.{List, [], ◌∷◌, ◌++◌}
 use mathlib.Core.Logic.{⊎_elim}
 use Prim.Native.Nat.{ℕ, ◌+◌, ◌-◌, ◌*◌, ◌/◌, ◌%◌, ◌≤◌}
@@ -18,9 +19,9 @@ use Rattle.crc.proofs.Bytes.{length-bits_of, bits_of-append, bits_of-bytes_of_ex
 use Rattle.block.specs.Answer.{done}
 use Rattle.block.specs.Lengths.{block_length}
 use Rattle.block.specs.Block.{payload_of, passed, failed, verdict}
-use Rattle.block.specs.Calls.{too_short, read_answer, carried_remainder, moved_bytes, MoveData}
+use Rattle.block.specs.Calls.{too_short, verdict_of, built_answer, read_answer, moved_bytes, MoveData}
 use Rattle.block.specs.Packed.{ServicePacked}
-use Rattle.block.specs.declared.Built.{Built}
+use Rattle.block.specs.declared.Refusal as BlockRefusal
 use Rattle.block.specs.declared.Read.{Read}
 use Rattle.block.specs.declared.Read.TheVariants as B
 use Rattle.block.specs.contracts.Read.{the_type}
@@ -110,26 +111,24 @@ module _ (k : ℕ) (slice : List ℕ) (h : block_length k ≤ 8 * length slice) 
   abbrev row : Bits
   row = take (block_length k) (bits_of slice)
 
-  module _ (whole : k % 8 ≡ 0) (answer : Read) (below : ServicePacked (8 * (k / 8)) slice answer) where
+  module _ (whole : k % 8 ≡ 0) (answer : Result Read BlockRefusal.Refusal) (below : ServicePacked (8 * (k / 8)) slice answer) where
     answered : read_answer answer ≡ done (verdict row)
     answered =
         let p = subst (λ (x : ℕ). ServicePacked x slice answer) (whole_bytes k whole) below in
         p.answers ∙ service_done k slice (le-ltb (8 * length slice) (block_length k) h)
 
-    pub check-passes : (service : ℕ) → answer ≡ B.Passed service → verdict row ≡ passed service
-    check-passes service e =
-        let q : done (passed service) ≡ done (verdict row) = sym (ap read_answer e) ∙ answered in
-        cc
-
-    -- the other answer is that the check fails: nothing is refused here
-    pub check-not_passed : OneOf (1 ∷ 2 ∷ []) (tag_of the_type answer) → verdict row ≡ failed (carried_remainder (read_answer answer))
-    check-not_passed t = go answer answered t
+    -- nothing is refused here
+    pub is_read : IsOk answer
+    is_read = go answer answered
       where
-        go : (a : Read) → read_answer a ≡ done (verdict row) → OneOf (1 ∷ 2 ∷ []) (tag_of the_type a)
-            → verdict row ≡ failed (carried_remainder (read_answer a))
-        go (B.Passed n) e t = ⊎_elim (λ z. absurd (omega arith)) (λ z. absurd (omega arith)) t
-        go (B.Failed r) e t = cc
-        go (B.Refused n) e t = cc
+        go : (a : Result Read BlockRefusal.Refusal) → read_answer a ≡ done (verdict row) → IsOk a
+        go (Ok v) e = refl
+        go (Err r) e = cc
+
+    pub as_read : (read : Read) → answer ≡ Ok read → verdict_of read ≡ verdict row
+    as_read read e =
+        let q : done (verdict_of read) ≡ done (verdict row) = sym (ap read_answer e) ∙ answered in
+        cc
 
   -- the first m data bytes
   same_data : (m : ℕ) → 8 * m ≤ k → payload_of (8 * m) (bits_of slice) ≡ take (8 * m) (payload_of k row)
@@ -143,8 +142,15 @@ module _ (k : ℕ) (slice : List ℕ) (h : block_length k ≤ 8 * length slice) 
       let n : length row ≡ block_length k = length-take-le (block_length k) (bits_of slice) (omega (arith, length-bits_of slice)) in
       length-take-le k (drop 4 row) (omega (arith, length-drop 4 row))
 
-  module _ (m : ℕ) (l : 8 * m ≤ k) (payload : List ℕ) (room : m ≤ length payload) (answer : Built) (payload' : List ℕ)
+  module _ (m : ℕ) (l : 8 * m ≤ k) (payload : List ℕ) (room : m ≤ length payload) (answer : Result (Unit {0}) BlockRefusal.Refusal) (payload' : List ℕ)
       (p : MoveData m slice payload answer payload') where
+    pub is_moved : IsOk answer
+    is_moved = go answer (p.answers ∙ move_done m slice payload (omega arith) room)
+      where
+        go : (a : Result (Unit {0}) BlockRefusal.Refusal) → built_answer a ≡ done tt → IsOk a
+        go (Ok u) e = refl
+        go (Err r) e = cc
+
     pub data_moved : payload' ≡ bytes_of m (take (8 * m) (payload_of k row)) ++ drop m payload
     data_moved =
         p.writes ∙ ap (moved_bytes m slice payload) (move_done m slice payload (omega arith) room)

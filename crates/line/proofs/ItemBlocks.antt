@@ -16,7 +16,8 @@ use Rattle.block.specs.Lengths.{block_length, block_bytes}
 use Rattle.block.specs.Block.{block_bits, sync_block, cancelled}
 use Rattle.block.specs.Calls.{overwritten, built_bytes, sync_bytes, cancel_bytes}
 use Rattle.block.specs.Packed.{build_packed, BuildPacked, held_packed, SyncPacked, CancelPacked}
-use Rattle.block.specs.declared.Built.{Built}
+use Rattle.std.specs.Prelude.{Result}
+use Rattle.block.specs.declared.Refusal.{Refusal}
 use Rattle.block.proofs.Lengths.{whole_bytes}
 use Rattle.block.proofs.Block.{length-cancelled}
 use Rattle.block.proofs.Packing.{bits_overwritten}
@@ -28,7 +29,7 @@ use Rattle.line.proofs.LastItem.{take-zeros, drop-take}
 
 -- ---- the calls
 
-module _ (k : ℕ) (slice : List ℕ) (answer : Built) (slice' : List ℕ) (whole : k % 8 ≡ 0)
+module _ (k : ℕ) (slice : List ℕ) (answer : Result (Unit {0}) Refusal) (slice' : List ℕ) (whole : k % 8 ≡ 0)
     (room : block_length k ≤ 8 * length slice) where
   pub built : (service : ℕ) (payload : List ℕ) → service < 16 → k ≤ 8 * length payload
       → BuildPacked (8 * (k / 8)) service payload slice answer slice'
