@@ -2,10 +2,8 @@
 -- Assumes nothing.
 use mathlib.Core.Path.{◌≡◌, refl, sym, ap, ◌∙◌, subst}
 use mathlib.Core.Bool.{Bool, true, false, ◌||◌, or-false}
-use Rattle.std.specs.Prelude.{Result, Ok, Err}
-use Rattle.std.specs.Result.{IsOk}
+use Rattle.std.specs.Prelude.{Ok, Err, IsOk}
 use mathlib.Core.List.{List, [], ◌∷◌, ◌++◌}
-use mathlib.Core.Logic.{⊎_elim}
 use Prim.Native.Nat.{ℕ, ◌+◌, ◌-◌, ◌*◌, ◌/◌, ◌%◌, ◌≤◌}
 use native.Mathlib.Omega.{arith}
 use borrow.Author.Tests.{le-ltb}
@@ -19,12 +17,11 @@ use Rattle.crc.proofs.Bytes.{length-bits_of, bits_of-append, bits_of-bytes_of_ex
 use Rattle.block.specs.Answer.{done}
 use Rattle.block.specs.Lengths.{block_length}
 use Rattle.block.specs.Block.{payload_of, passed, failed, verdict}
-use Rattle.block.specs.Calls.{too_short, verdict_of, built_answer, read_answer, moved_bytes, MoveData}
+use Rattle.block.specs.Calls.{too_short, built_answer, verdict_of, read_answer, moved_bytes, MoveData}
 use Rattle.block.specs.Packed.{ServicePacked}
-use Rattle.block.specs.declared.Refusal as BlockRefusal
+use Rattle.std.specs.Prelude.{Result}
+use Rattle.block.specs.declared.Refusal.{Refusal}
 use Rattle.block.specs.declared.Read.{Read}
-use Rattle.block.specs.declared.Read.TheVariants as B
-use Rattle.block.specs.contracts.Read.{the_type}
 use Rattle.block.proofs.Lengths.{whole_bytes}
 use Rattle.block.proofs.Refusals.{service_done, move_done}
 use Rattle.line.specs.Receiving.{last_bad, after_bad, Rule, reads_sync, check_fails, accepts, meaning, end_rule, service_rule, looks_sync, judge, or_wait, block_rule, stops, Reception, store_at}
@@ -111,23 +108,23 @@ module _ (k : ℕ) (slice : List ℕ) (h : block_length k ≤ 8 * length slice) 
   abbrev row : Bits
   row = take (block_length k) (bits_of slice)
 
-  module _ (whole : k % 8 ≡ 0) (answer : Result Read BlockRefusal.Refusal) (below : ServicePacked (8 * (k / 8)) slice answer) where
+  module _ (whole : k % 8 ≡ 0) (answer : Result Read Refusal) (below : ServicePacked (8 * (k / 8)) slice answer) where
     answered : read_answer answer ≡ done (verdict row)
     answered =
         let p = subst (λ (x : ℕ). ServicePacked x slice answer) (whole_bytes k whole) below in
         p.answers ∙ service_done k slice (le-ltb (8 * length slice) (block_length k) h)
 
     -- nothing is refused here
-    pub is_read : IsOk answer
-    is_read = go answer answered
+    pub read_ok : IsOk answer
+    read_ok = ok answer answered
       where
-        go : (a : Result Read BlockRefusal.Refusal) → read_answer a ≡ done (verdict row) → IsOk a
-        go (Ok v) e = refl
-        go (Err r) e = cc
+        ok : (a : Result Read Refusal) → read_answer a ≡ done (verdict row) → IsOk a
+        ok (Ok v) e = refl
+        ok (Err r) e = absurd (let z : ◌≡◌ {A = ℕ} 0 1 = cc in omega arith)
 
-    pub as_read : (read : Read) → answer ≡ Ok read → verdict_of read ≡ verdict row
-    as_read read e =
-        let q : done (verdict_of read) ≡ done (verdict row) = sym (ap read_answer e) ∙ answered in
+    pub read_verdict : (v : Read) → answer ≡ Ok v → verdict_of v ≡ verdict row
+    read_verdict v e =
+        let q : done (verdict_of v) ≡ done (verdict row) = sym (ap read_answer e) ∙ answered in
         cc
 
   -- the first m data bytes
@@ -142,14 +139,14 @@ module _ (k : ℕ) (slice : List ℕ) (h : block_length k ≤ 8 * length slice) 
       let n : length row ≡ block_length k = length-take-le (block_length k) (bits_of slice) (omega (arith, length-bits_of slice)) in
       length-take-le k (drop 4 row) (omega (arith, length-drop 4 row))
 
-  module _ (m : ℕ) (l : 8 * m ≤ k) (payload : List ℕ) (room : m ≤ length payload) (answer : Result (Unit {0}) BlockRefusal.Refusal) (payload' : List ℕ)
+  module _ (m : ℕ) (l : 8 * m ≤ k) (payload : List ℕ) (room : m ≤ length payload) (answer : Result (Unit {0}) Refusal) (payload' : List ℕ)
       (p : MoveData m slice payload answer payload') where
-    pub is_moved : IsOk answer
-    is_moved = go answer (p.answers ∙ move_done m slice payload (omega arith) room)
+    pub moved_ok : IsOk answer
+    moved_ok = ok answer (p.answers ∙ move_done m slice payload (omega arith) room)
       where
-        go : (a : Result (Unit {0}) BlockRefusal.Refusal) → built_answer a ≡ done tt → IsOk a
-        go (Ok u) e = refl
-        go (Err r) e = cc
+        ok : (a : Result (Unit {0}) Refusal) → built_answer a ≡ done tt → IsOk a
+        ok (Ok u) e = refl
+        ok (Err r) e = absurd (let z : ◌≡◌ {A = ℕ} 0 1 = cc in omega arith)
 
     pub data_moved : payload' ≡ bytes_of m (take (8 * m) (payload_of k row)) ++ drop m payload
     data_moved =

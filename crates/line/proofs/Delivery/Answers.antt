@@ -2,12 +2,13 @@
 -- the openings and the arguments. Assumes nothing.
 use mathlib.Core.Path.{◌≡◌, refl, ap, ap₂, ◌∙◌}
 use mathlib.Core.Bool.{Bool, true, false, cond, not, ◌&&◌}
+use Rattle.std.specs.Prelude.{Ok, Err}
+use Rattle.std.specs.Prelude as Prelude
 use mathlib.Core.List.{List, [], ◌∷◌}
 use Prim.Native.Nat.{ℕ, ◌+◌, ◌*◌}
 use lib.Dec.{eqb}
 use lib.ListN.{take}
 use Rattle.crc.specs.Bits.{Bits, bits_of}
-use Rattle.std.specs.Prelude as Prelude
 use Rattle.block.specs.Answer as A
 use Rattle.block.specs.Answer.{Answer, refused, done, refuse_if}
 use Rattle.block.specs.Calls.{too_short}
@@ -21,6 +22,8 @@ use Rattle.line.specs.declared.sender.Sender.{Sender}
 use Rattle.line.specs.declared.sender.Step as SenderStep
 use Rattle.line.specs.declared.sender.Sent.{Sent}
 use Rattle.line.specs.declared.sender.Sent.TheVariants as W
+use Rattle.line.specs.declared.Refusal.{Refusal}
+use Rattle.line.specs.declared.Refusal.TheVariants as N
 use Rattle.line.specs.declared.receiver.Receiver.{Receiver}
 use Rattle.line.specs.declared.receiver.Step as ReceiverStep
 use Rattle.line.specs.declared.receiving.Received.{Received}
@@ -108,8 +111,8 @@ unfolding send
 can_send s order reading slice = (_, sent_of_lem _ _ _ _)
 
 received_of : Answer Reception → Prelude.Result Received Refusal
-received_of (refused n) = Prelude.Err (cond (eqb n A.spoiled) N.Spoiled N.Short)
-received_of (done x) = Prelude.Ok (record { event = (meaning x.rule).event; bits = x.used })
+received_of (refused n) = Err (cond (eqb n A.spoiled) N.Spoiled N.Short)
+received_of (done x) = Ok (record { event = (meaning x.rule).event; bits = x.used })
 
 -- what a receiving call refuses has the number of a refusal
 received_of_lem : (r : Receiver) (line : List ℕ) (count : ℕ) (ready : Bool) (store : List ℕ)

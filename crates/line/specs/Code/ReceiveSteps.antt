@@ -1,8 +1,7 @@
 -- What the receiver's private functions ask and promise: the code's rules, and what is handed back for a reception.
 -- Assumes nothing.
-use Rattle.std.specs.Prelude.{◌≡◌, Bool, true, List, ℕ, ◌*◌, ◌≤◌, ◌<◌, length, Err, Ok}
+use Rattle.std.specs.Prelude.{◌≡◌, Bool, List, ℕ, Err, Ok}
 use Rattle.crc.specs.Bits.{Bits}
-use Rattle.block.specs.Lengths.{is_length, block_length}
 use Rattle.line.specs.declared.Refusal.{Refusal}
 use Rattle.line.specs.declared.receiver.Receiver.{Receiver}
 use Rattle.line.specs.declared.receiving.Event.{Event}
@@ -11,8 +10,7 @@ use Rattle.line.specs.declared.head.Head.{Head}
 use Rattle.line.specs.declared.head.HeadStep.{HeadStep}
 use Rattle.line.specs.declared.rules.Rule as D
 use Rattle.line.specs.declared.rules.Rule.TheVariants as C
-use Rattle.line.specs.Order.{most_items}
-use Rattle.line.specs.Receiving.{last_bad, Rule, accepts, previous, out_of_sequence, ends, wrong_length, ends_again, anything_else, waits, meaning, block_rule, stops, Reception, judge_store, received_answer, reported, receive_state, receive_store}
+use Rattle.line.specs.Receiving.{Rule, accepts, previous, out_of_sequence, ends, wrong_length, ends_again, anything_else, waits, meaning, block_rule, stops, Reception, judge_store, received_answer, reported, receive_state, receive_store}
 use Rattle.line.specs.ReceivingInPlace.{with_array}
 
 -- the rule that each case of the code's enum stands for

@@ -32,6 +32,7 @@ returns-then-makes_items c = read_length (goal.at.returns-then-makes_items c).Af
 pub returns : goal.returns
 returns c = read_length (goal.at.returns c).After-end_length-bits _
     (elim c.else-bits-ne0.branch [
-      else-bits-ne0-via-then-bits-ne0+then-bits-le-LONGEST_ORDER+else-makes_items w ↦ length_other _ _ _ (sym w.makes_items.ensures ∙ w.if-makes_items.false)
-    | else-bits-ne0-via-then-bits-ne0+else-bits-le-LONGEST_ORDER w ↦ length_invalid _ _ _ (long_invalid _ w.if-bits-le-LONGEST_ORDER.false)
-    | else-bits-ne0-via-else-bits-ne0 w ↦ length_invalid _ _ _ (empty_invalid _ w.if-bits-ne0.false) ])
+      | else-bits-ne0-via-then-bits-ne0+then-bits-le-LONGEST_ORDER+else-makes_items w ↦ length_other _ _ _ (sym w.makes_items.ensures ∙ w.if-makes_items.false)
+      | else-bits-ne0-via-then-bits-ne0+else-bits-le-LONGEST_ORDER w ↦ length_invalid _ _ _ (long_invalid _ w.if-bits-le-LONGEST_ORDER.false)
+      | else-bits-ne0-via-else-bits-ne0 w ↦ length_invalid _ _ _ (empty_invalid _ w.if-bits-ne0.false)
+    ])

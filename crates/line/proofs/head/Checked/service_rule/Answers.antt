@@ -11,7 +11,7 @@ use Rattle.block.specs.Lengths.{block_length}
 use Rattle.block.specs.Block.{payload_of}
 use Rattle.block.proofs.Lengths.{length_facts}
 use Rattle.line.specs.Receiving.{end_rule, service_rule}
-use Rattle.line.proofs.BlockFinished.{length_data, is_moved, bits_moved, end_first_bits}
+use Rattle.line.proofs.BlockFinished.{length_data, moved_ok, bits_moved, end_first_bits}
 use borrow.Author.Rules.{rules}
 use Rattle.line.proofs.head.Checked.service_rule.Goals as goal
 
@@ -45,4 +45,4 @@ returns c = c.mark_rule.ensures
 pub unwrap-requires : goal.unwrap-requires
 unwrap-requires c = let k : ℕ = c.args.self.head.setup.k in
     let f = length_facts k c.args.self.known in
-    is_moved k c.args.row.now c.requires 5 (omega arith) _ (omega arith) _ c.move_data.new.payload c.move_data.ensures
+    moved_ok k c.args.row.now c.requires 5 (omega arith) _ (omega arith) _ c.move_data.new.payload c.move_data.ensures

@@ -21,7 +21,7 @@ use Rattle.line.specs.Code.ReceiveSteps.{handed_back, Handed}
 use Rattle.line.specs.declared.receiver.Receiver.{Receiver}
 use Rattle.line.specs.declared.receiver.Step.{Step}
 use Rattle.line.proofs.StorePlace.{start-lt, room, put_back, accepted_store}
-use Rattle.line.proofs.BlockFinished.{handed_stored, length_data, is_moved, data_moved}
+use Rattle.line.proofs.BlockFinished.{handed_stored, length_data, moved_ok, data_moved}
 use Rattle.line.proofs.head.Checked.store_item.Goals as goal
 
 module _ (s : Receiver) (known : is_length s.setup.k ≡ true) (slice store : List ℕ) (used : ℕ)
@@ -56,7 +56,7 @@ module _ (s : Receiver) (known : is_length s.setup.k ≡ true) (slice store : Li
   all_data = take_all (8 * (k / 8)) (payload_of k row) (omega (arith, length_bytes k known, length_data k slice h))
 
   moves : (answer : Result (Unit {0}) Refusal) (part : List ℕ) → MoveData (k / 8) slice lent answer part → IsOk answer
-  moves answer part p = is_moved k slice h (k / 8) (omega (arith, length_bytes k known)) lent wide answer part p
+  moves answer part p = moved_ok k slice h (k / 8) (omega (arith, length_bytes k known)) lent wide answer part p
 
   stored : (answer : Result (Unit {0}) Refusal) (part : List ℕ) → MoveData (k / 8) slice lent answer part → (r : Step) → r ≡ handed_back (stops s accepts [] used)
       → Handed s store (stops s accepts row used) r (put_back k s.taken known store n part)

@@ -3,7 +3,6 @@ use mathlib.Core.Path.{◌≡◌, sym, ap, ◌∙◌, subst}
 use mathlib.Core.Bool.{true}
 use mathlib.Core.List.{List}
 use Prim.Native.Nat.{ℕ}
-use borrow.Author.Tests.{ltb-false}
 use lib.ListN.{length}
 use Rattle.line.specs.Receiving.{array_bytes, receiver_in_range}
 use Rattle.line.specs.ReceivingInPlace.{with_array, ReceiveInPlace}
