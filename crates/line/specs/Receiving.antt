@@ -20,7 +20,6 @@ use Rattle.line.specs.declared.receiving.Phase.TheVariants as P
 use Rattle.line.specs.declared.receiving.Event.{Event}
 use Rattle.line.specs.declared.receiving.Event.TheVariants as E
 use Rattle.line.specs.declared.receiving.Received.{Received}
-use Rattle.line.specs.declared.receiving.Received.TheVariants as R
 use Rattle.line.specs.declared.receiver.Step.{Step}
 use Rattle.line.specs.declared.receiver.Opened.{Opened}
 
@@ -432,9 +431,9 @@ abbrev pub reported : Answer Reception → Answer Report
 reported (refused n) = refused n
 reported (done x) = done (record { event = (meaning x.rule).event; used = x.used })
 
-abbrev pub received_answer : Received → Answer Report
-received_answer (R.Used event used) = done (record { event = event; used = used })
-received_answer (R.Refused n) = refused n
+abbrev pub received_answer : Result Received Refusal → Answer Report
+received_answer (Ok r) = done (record { event = r.event; used = r.bits })
+received_answer (Err r) = refused (Refusals.refusal_number r)
 
 pub record Receive (s : Receiver) (line : List ℕ) (count : ℕ) (ready : Bool) (store : List ℕ) (result : Step) (store' : List ℕ) : Type 0 where
   pub answers : received_answer result.answer ≡ reported (receive s line count ready store)

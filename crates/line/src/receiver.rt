@@ -8,13 +8,13 @@ ghost use Rattle.line.specs.ReceivingInPlace.{with_array};
 use crate::Refusal;
 use crate::head::Head;
 use crate::marks::Marks;
-use crate::receiving::{Phase, Received, Setup};
+use crate::receiving::{ARRAY_SIZE, Phase, Received, Setup};
 
 #[derive(Clone, Copy)]
 pub struct Receiver {
     pub setup: Setup,
     // The bits of one unfinished block.
-    pub bits: [u8; 483],
+    pub bits: [u8; ARRAY_SIZE],
     pub held: usize,
     // How many bad blocks came in a row.
     pub bad_row: usize,
@@ -30,7 +30,7 @@ pub struct Receiver {
 #[derive(Clone, Copy)]
 pub struct Step {
     pub state: Receiver,
-    pub answer: Received,
+    pub answer: Result<Received, Refusal>,
 }
 
 // A refused opening hands back a state that every step refuses: its k is 0.

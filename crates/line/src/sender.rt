@@ -191,7 +191,7 @@ impl Sender {
         ensures { (order : List ℕ) (reading : Bool) → Sends self Next.Sync reading order block.old result block.new }
     {
         let setup = self.setup;
-        packed::synchronising(setup.k / 8, block);
+        packed::synchronising(setup.k / 8, block).unwrap();
         Step {
             state: Sender {
                 next: Next::Older,
@@ -227,7 +227,7 @@ impl Sender {
         let newer = self.newer;
         write_item(setup.marks, setup.k, setup.length, newer, order, block);
         if reading {
-            packed::cancel(setup.k / 8, block);
+            packed::cancel(setup.k / 8, block).unwrap();
             return Step {
                 state: self.repeated(),
                 answer: Ok(self.item(newer, true, true)),
