@@ -98,31 +98,16 @@ impl Sender {
     }
 
     // Every field within its range.
+    #[tactic(auto, using(crate::proofs::Items::item_count_fits), unfolding(crate::specs::Sending::sender_in_range, crate::specs::Order::valid_length))]
     fn in_range(self) -> bool
         ensures { result ≡ sender_in_range self }
     {
         let setup = self.setup;
-        let k = setup.k;
-        let length = setup.length;
-        if !block::known_length(k) {
-            return false;
-        }
-        if length == 0 {
-            return false;
-        }
-        if LONGEST_ORDER < length {
-            return false;
-        }
-        if !setup.marks.in_range() {
-            return false;
-        }
-        if self.newer == 0 {
-            return false;
-        }
-        if order_items(k, length) + 1 < self.newer {
-            return false;
-        }
-        self.run <= LAST_RUN
+        block::known_length(setup.k)
+            && (1..=LONGEST_ORDER).contains(&setup.length)
+            && setup.marks.in_range()
+            && (1..=order_items(setup.k, setup.length) + 1).contains(&self.newer)
+            && self.run <= LAST_RUN
     }
 
     // Finished or given up.
@@ -133,6 +118,7 @@ impl Sender {
     }
 
     // Reading 0 of the newer item: the pair moves up by one, or the sender is finished.
+    #[tactic(auto, using(crate::proofs::Items::item_count_fits), unfolding(crate::specs::Sending::sender_in_range, crate::specs::Order::valid_length))]
     fn confirmed(self) -> Sender
         requires { GoingOn self }
         ensures { result ≡ confirmed self }
@@ -185,6 +171,7 @@ impl Sender {
     }
 
     // What a call says of the item that it sent.
+    #[tactic(auto, using(crate::proofs::Items::item_count_fits), unfolding(crate::specs::Sending::sender_in_range, crate::specs::Order::valid_length))]
     fn item(self, number: usize, used: bool, cancelled: bool) -> Sent
         requires { GoingOn self }
         ensures { sent_block result ≡ item_block self number used cancelled }
