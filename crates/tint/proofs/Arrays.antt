@@ -1,96 +1,88 @@
--- Doses in arrays, a place at a time; and arrays and slices filled from the front. Assumes nothing.
+-- Doses in an array, and arrays and slices filled from the front. Assumes nothing.
 use mathlib.Core.Path.{◌≡◌, refl, ap, ap₂, sym, ◌∙◌}
-use mathlib.Core.List.{List, [], ◌∷◌, ◌++◌, append_assoc, append-nil}
-use native.Mathlib.Numerals.{add-one}
+use mathlib.Core.List.{List, [], ◌∷◌, ◌++◌, map, append_assoc}
 use native.Mathlib.Omega.{arith}
-use Prim.Native.Nat.{ℕ, suc, ◌+◌, ◌-◌, ◌≤◌, ◌<◌}
-use lib.ListN.{length, get_or, take, drop, set, replicate, length-set, length-append, length-drop, take-append-drop}
-use lib.Seq.{take-suc-set, drop-set-lt, drop-drop, take-append-add, drop-append-add, take_at, drop_at, length-take-le}
+use borrow.Rule.Slice.PartMut.{put_mid}
+use Prim.Native.Nat.{ℕ, zero, suc, ◌+◌, ◌-◌, ◌*◌, ◌≤◌, ◌<◌}
+use lib.ListN.{length, get_or, take, drop, set, replicate, length-append}
+use lib.Seq.{length-take-le, take_all, take-append_seam, drop-append-add, drop-drop, set-append_seam}
+use Rattle.std.specs.List.{flat_map}
+use Rattle.std.proofs.lemmas.List.{length-map, map_more, take_more, flat_map_more}
 use Rattle.tint.specs.Format.{canisters}
-use Rattle.tint.specs.Calls.{doses_at, filled_up}
+use Rattle.tint.specs.Calls.{no_dose, first_places, filled_up, doses_of, doses_from}
+use Rattle.tint.specs.declared.Dose.{Dose}
+use Rattle.tint.specs.declared.Doses.{Doses}
 
--- ---- doses in arrays
+-- ---- the first places
 
--- the dose at a place, and those behind it
-pub doses_first : (n i : ℕ) (cs ss : List ℕ) → i < n
-    → doses_at (n - i) cs ss i ≡ record { canister = get_or cs i 0; steps = get_or ss i 0 } ∷ doses_at (n - (i + 1)) cs ss (i + 1)
-doses_first n i cs ss h =
-    let e : n - i ≡ suc (n - (i + 1)) = omega arith in
-    ap (λ (m : ℕ). doses_at m cs ss i) e
-    ∙ ap (λ (j : ℕ). record { canister = get_or cs i 0; steps = get_or ss i 0 } ∷ doses_at (n - (i + 1)) cs ss j) (sym (add-one i))
+pub length_first_places : (n : ℕ) (ds : List Dose) → length (first_places n ds) ≡ n
+length_first_places zero ds = refl
+length_first_places (suc n) [] = ap suc (length_first_places n [])
+length_first_places (suc n) (d ∷ ds) = ap suc (length_first_places n ds)
 
--- none behind the last
-pub doses_none : (n i : ℕ) (cs ss : List ℕ) → n ≤ i → doses_at (n - i) cs ss i ≡ []
-doses_none n i cs ss h = let e : n - i ≡ 0 = omega arith in ap (λ (m : ℕ). doses_at m cs ss i) e
+pub first_places-take : (n : ℕ) (ds : List Dose) → n ≤ length ds → take n ds ≡ first_places n ds
+first_places-take zero ds h = refl
+first_places-take (suc n) [] h = absurd (omega arith)
+first_places-take (suc n) (d ∷ ds) h = ap (λ (r : List Dose). d ∷ r) (first_places-take n ds (omega arith))
 
--- ---- an array filled: it has the first i numbers of all, and zeros behind them; the rest is to come
+pub first_places-append : (ds behind : List Dose) → first_places (length ds) (ds ++ behind) ≡ ds
+first_places-append [] behind = refl
+first_places-append (d ∷ ds) behind = ap (λ (r : List Dose). d ∷ r) (first_places-append ds behind)
 
-abbrev pub Filled : List ℕ → List ℕ → List ℕ → ℕ → Type 0
-Filled all rest array i =
-    (length array ≡ canisters) × (take i array ++ rest ≡ all) × (drop i array ≡ replicate (canisters - i) 0)
+pub doses_of-doses_from : (ds : List Dose) → doses_of (doses_from ds) ≡ ds
+doses_of-doses_from ds = first_places-append ds _
 
-pub filled_none : (all : List ℕ) → Filled all all (replicate canisters 0) 0
-filled_none all = (refl, refl, refl)
+-- ---- an array filled from the front
 
-pub filled_more : (all rest rest' array : List ℕ) (i v : ℕ) → i < canisters → rest ≡ v ∷ rest' → Filled all rest array i
-    → Filled all rest' (set array i v) (i + 1)
-filled_more all rest rest' array i v m e has = (
-  length-set array i v ∙ has.0,
-  ap (λ (l : List ℕ). l ++ rest') (ap (λ (n : ℕ). take n (set array i v)) (add-one i) ∙ take-suc-set array i v (omega arith))
-      ∙ append_assoc (take i array) (v ∷ []) rest' ∙ ap (λ (l : List ℕ). take i array ++ l) (sym e) ∙ has.1,
-  drop-set-lt (i + 1) array i v (omega arith) ∙ sym (drop-drop 1 i array) ∙ ap (drop 1) has.2 ∙ fewer,
-)
-  where
-    fewer : drop {A = ℕ} 1 (replicate (canisters - i) 0) ≡ replicate (canisters - (i + 1)) 0
-    fewer = let n : canisters - i ≡ suc (canisters - (i + 1)) = omega arith in ap (λ (k : ℕ). drop {A = ℕ} 1 (replicate k 0)) n
+-- one dose more
+pub filled_more : (ds : List Dose) (i : ℕ) (d : Dose) → i ≡ length ds → i < canisters → set (filled_up ds) i d ≡ filled_up (ds ++ d ∷ [])
+filled_more ds i d e m =
+    let n : canisters - length ds ≡ suc (canisters - (i + 1)) = omega arith in
+    let k : canisters - (i + 1) ≡ canisters - length (ds ++ d ∷ []) = omega (arith, length-append ds (d ∷ [])) in
+    ap₂ (λ (j x : ℕ). set (ds ++ replicate x no_dose) j d) e n ∙ set-append_seam ds no_dose (replicate (canisters - (i + 1)) no_dose) d
+    ∙ sym (append_assoc ds (d ∷ []) (replicate (canisters - (i + 1)) no_dose))
+    ∙ ap (λ (x : ℕ). (ds ++ d ∷ []) ++ replicate x no_dose) k
 
-pub filled_all : (all rest array : List ℕ) (i : ℕ) → rest ≡ [] → length all ≡ i → Filled all rest array i → array ≡ filled_up all
-filled_all all rest array i e n has =
-    sym (take-append-drop i array)
-    ∙ ap₂ (λ (p q : List ℕ). p ++ q) (sym (append-nil (take i array)) ∙ ap (λ (l : List ℕ). take i array ++ l) (sym e) ∙ has.1)
-    (has.2 ∙ ap (λ (k : ℕ). replicate (canisters - k) 0) (sym n))
+module _ (f : List ℕ → Dose) (es : List (List ℕ)) (i : ℕ) (list : List Dose) (e : list ≡ filled_up (map f (take i es))) where
+  -- with the dose of the next one
+  pub filled_turn : (d : Dose) → i < length es → i < canisters → d ≡ f (get_or es i []) → set list i d ≡ filled_up (map f (take (i + 1) es))
+  filled_turn d m few g =
+      let n : i ≡ length (map f (take i es)) = sym (length-map (take i es) f ∙ length-take-le i es (omega arith)) in
+      ap (λ (l : List Dose). set l i d) e ∙ filled_more (map f (take i es)) i d n few
+      ∙ ap (λ (x : Dose). filled_up (map f (take i es) ++ x ∷ [])) g ∙ sym (ap filled_up (map_more f es i [] m))
 
--- ---- a slice overwritten: its first numbers are those of all, the rest of which is to come, and behind them it is as lent
+  -- those of all
+  pub filled_last : length es ≤ i → ◌≡◌ {A = Doses} (record { count = length es; list = list }) (doses_from (map f es))
+  filled_last m =
+      ap₂ (λ (k : ℕ) (l : List Dose). record { count = k; list = l }) (sym (length-map es f))
+      (e ∙ ap (λ (x : List (List ℕ)). filled_up (map f x)) (take_all i es m))
 
-abbrev pub Overwritten : List ℕ → List ℕ → List ℕ → List ℕ → ℕ → Type 0
-Overwritten all rest slice₀ slice at =
-    (length slice ≡ length slice₀) × (drop at slice ≡ drop at slice₀) × (take at slice ++ rest ≡ all)
+-- ---- a slice overwritten from the front, with w numbers of each dose
 
-module _ (all rest rest' slice₀ slice slice' part : List ℕ) (at next : ℕ) (n : next ≡ at + length part) (room : next ≤ length slice)
-    (split : rest ≡ part ++ rest') (e : slice' ≡ take at slice ++ (part ++ drop next slice)) where
-  front : length (take at slice) ≡ at
-  front = length-take-le at slice (omega arith)
+module _ (f : Dose → List ℕ) (w : ℕ) (width : (d : Dose) → length (f d) ≡ w) where
+  pub length_by_dose : (ds : List Dose) → length (flat_map f ds) ≡ length ds * w
+  length_by_dose [] = omega arith
+  length_by_dose (d ∷ ds) = length-append (f d) (flat_map f ds) ∙ omega (arith, width d, length_by_dose ds)
 
-  -- the numbers of one turn, from place at on
-  pub overwritten_more : Overwritten all rest slice₀ slice at → Overwritten all rest' slice₀ slice' next
-  overwritten_more has = (
-    ap length e ∙ length-append (take at slice) (part ++ drop next slice)
-        ∙ omega (arith, front, length-append part (drop next slice), length-drop next slice) ∙ has.0,
-    behind ∙ further,
-    ap (λ (l : List ℕ). l ++ rest') before ∙ append_assoc (take at slice) part rest' ∙ ap (λ (l : List ℕ). take at slice ++ l) (sym split)
-        ∙ has.2,
-  )
-    where
-      place : next ≡ length (take at slice) + length part
-      place = n ∙ ap (λ (k : ℕ). k + length part) (sym front)
+  module _ (ds : List Dose) (i : ℕ) (start slice : List ℕ) (e : slice ≡ flat_map f (take i ds) ++ drop (i * w) start) where
+    pub overwritten_turn : (part : List ℕ) → i < length ds → part ≡ f (get_or ds i no_dose)
+        → put_mid (i * w) (i * w + w - i * w) slice part ≡ flat_map f (take (i + 1) ds) ++ drop ((i + 1) * w) start
+    overwritten_turn part m p =
+        let d : Dose = get_or ds i no_dose in
+        let front : List ℕ = flat_map f (take i ds) in
+        let n : length front ≡ i * w = length_by_dose (take i ds) ∙ ap (λ (k : ℕ). k * w) (length-take-le i ds (omega arith)) in
+        let k : i * w + w - i * w ≡ w = omega arith in
+        let next : i * w + w ≡ (i + 1) * w = omega arith in
+        let v : length (f d) ≡ w = width d in
+        let before : take (i * w) slice ≡ front = ap₂ take (sym n) e ∙ take-append_seam front (drop (i * w) start) in
+        let behind : drop (i * w + w) slice ≡ drop (i * w + w) start =
+        ap₂ (λ (x : ℕ) (s : List ℕ). drop (x + w) s) (sym n) e ∙ drop-append-add front (drop (i * w) start) w ∙ drop-drop w (i * w) start in
+        ap₂ (λ (x : List ℕ) (j : ℕ). x ++ (part ++ drop j (drop (i * w) slice))) before k
+        ∙ ap₂ (λ (x y : List ℕ). front ++ (x ++ y)) p (drop-drop w (i * w) slice ∙ behind) ∙ sym (append_assoc front (f d) (drop (i * w + w) start))
+        ∙ ap (λ (x : List ℕ). x ++ drop (i * w + w) start) (flat_map_more f [] (take i ds) d ∙ ap (flat_map f) (sym (take_more ds i no_dose m)))
+        ∙ ap (λ (j : ℕ). flat_map f (take (i + 1) ds) ++ drop j start) next
 
-      before : take next slice' ≡ take at slice ++ part
-      before =
-          ap₂ take place e ∙ take-append-add (take at slice) (part ++ drop next slice) (length part)
-          ∙ ap (λ (l : List ℕ). take at slice ++ l) (take_at part (drop next slice) (length part) refl)
-
-      behind : drop next slice' ≡ drop next slice
-      behind =
-          ap₂ drop place e ∙ drop-append-add (take at slice) (part ++ drop next slice) (length part)
-          ∙ drop_at part (drop next slice) (length part) refl
-
-      further : drop next slice ≡ drop next slice₀
-      further =
-          ap (λ (k : ℕ). drop k slice) n ∙ sym (drop-drop (length part) at slice) ∙ ap (drop (length part)) has.1
-          ∙ drop-drop (length part) at slice₀ ∙ ap (λ (k : ℕ). drop k slice₀) (sym n)
-
-pub overwritten_all : (all rest slice₀ slice : List ℕ) (at : ℕ) → rest ≡ [] → Overwritten all rest slice₀ slice at
-    → slice ≡ all ++ drop at slice₀
-overwritten_all all rest slice₀ slice at e has =
-    sym (take-append-drop at slice)
-    ∙ ap₂ (λ (p q : List ℕ). p ++ q) (sym (append-nil (take at slice)) ∙ ap (λ (l : List ℕ). take at slice ++ l) (sym e) ∙ has.2) has.1
+    pub overwritten_last : i ≤ length ds → length ds ≤ i → slice ≡ flat_map f ds ++ drop (length ds * w) start
+    overwritten_last a b =
+        let n : i ≡ length ds = omega arith in
+        e ∙ ap₂ (λ (x : List Dose) (k : ℕ). flat_map f x ++ drop (k * w) start) (take_all i ds b) n
