@@ -1,6 +1,9 @@
 // The order line's two ends: loop times, the order as items, the sending end and the receiving end.
 #![tactic(auto)]
 
+ghost use Rattle.std.specs.Prelude.{◌≡◌};
+ghost use Rattle.line.specs.Refusals.{refusal_number};
+
 pub mod head;
 mod hold;
 pub mod loop_time;
@@ -12,15 +15,24 @@ mod rules;
 pub mod sender;
 mod window;
 
-// docs/PROTOCOL.md, "What the ends turn away"; the crate block has the numbers of what it turns away itself.
-pub const SPEED: u8 = 2;
+// Why a call turns its input away, each with its number; docs/PROTOCOL.md, "What the ends turn away".
+#[derive(Clone, Copy, Debug, PartialEq, Eq)]
+pub enum Refusal {
+    Block = 1,
+    Speed = 2,
+    LoopTime = 3,
+    Empty = 4,
+    Long = 5,
+    Short = 6,
+    Spoiled = 7,
+    Rest = 8,
+    CodeSize = 9,
+}
 
-pub const LOOP_TIME: u8 = 3;
+impl From<Refusal> for u8 {
+    ghost from_gives = { λ refusal number. number ≡ refusal_number refusal };
 
-pub const EMPTY: u8 = 4;
-
-pub const LONG: u8 = 5;
-
-pub const REST: u8 = 8;
-
-pub const CODE_SIZE: u8 = 9;
+    fn from(refusal: Refusal) -> u8 {
+        refusal as u8
+    }
+}

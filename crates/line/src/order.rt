@@ -27,27 +27,24 @@ pub(crate) const END: u8 = 0b1000;
 pub(crate) const VERSION: u8 = 1;
 
 // The number of data items that these bits make, 0 if k is 0.
+#[tactic(auto, unfolding(crate::specs::Order::item_count))]
 pub fn item_count(k: usize, bits: usize) -> usize
     ensures { result ≡ item_count k bits }
 {
-    if k == 0 {
-        return 0;
-    }
-    if bits == 0 {
-        return 0;
-    }
-    (bits - 1) / k + 1
+    if k == 0 { 0 } else { bits.div_ceil(k) }
 }
 
-// The same of an order as both ends judge it: the sum fits, and nothing is left to test.
+// The same of an order as both ends judge it, where nothing is left to test.
+#[tactic(auto, unfolding(crate::specs::Order::item_count, block::specs::Lengths::is_length))]
 pub(crate) fn order_items(k: usize, bits: usize) -> usize
     requires { (is_length k ≡ true) × (bits ≤ longest_order) }
     ensures { result ≡ item_count k bits }
 {
-    (bits + k - 1) / k
+    bits.div_ceil(k)
 }
 
 // The letter of item i.
+#[tactic(auto, unfolding(crate::specs::Order::letter))]
 pub(crate) fn letter(i: usize) -> u8
     ensures { result ≡ letter i }
 {
@@ -59,16 +56,17 @@ pub(crate) fn letter(i: usize) -> u8
 }
 
 // The service bits of data item i.
+#[tactic(auto, unfolding(crate::specs::Order::data_service))]
 fn data_service(marks: Marks, i: usize) -> u8
     ensures { result ≡ data_service marks i }
 {
     if !marks.in_use {
-        return letter(i);
+        letter(i)
+    } else if i == 0 {
+        mark(marks.size)
+    } else {
+        letter(i - 1)
     }
-    if i == 0 {
-        return mark(marks.size);
-    }
-    letter(i - 1)
 }
 
 // The first count bits of a byte, zeros behind them.
@@ -86,11 +84,7 @@ fn last_data(order: &[u8], bits: usize, start: usize) -> [u8; 480]
 {
     let mut payload = [0u8; 480];
     let whole = bits / 8 - start;
-    let mut j = 0;
-    while j < whole {
-        payload[j] = order[start + j];
-        j += 1;
-    }
+    payload[..whole].copy_from_slice(&order[start..start + whole]);
     let rest = bits % 8;
     if 0 < rest {
         payload[whole] = keep_first(order[start + whole], rest);
@@ -105,10 +99,7 @@ fn end_data(bits: usize) -> [u8; 480]
 {
     let mut payload = [0u8; 480];
     payload[0] = VERSION;
-    payload[1] = (bits >> 24 & 255) as u8;
-    payload[2] = (bits >> 16 & 255) as u8;
-    payload[3] = (bits >> 8 & 255) as u8;
-    payload[4] = (bits & 255) as u8;
+    payload[1..5].copy_from_slice(&(bits as u32).to_be_bytes());
     payload
 }
 
@@ -118,7 +109,7 @@ fn write_end(k: usize, bits: usize, block: &mut [u8])
     ensures { block.new ≡ overwritten (block_bytes k) (block_bits (binary 4 end_service) (end_payload k bits)) block.old }
 {
     let payload = end_data(bits);
-    packed::build(k / 8, END, &payload, block);
+    packed::build(k / 8, END, &payload, block).unwrap();
 }
 
 // Item i, whose data are all of the order, under these service bits over the first bytes of block.
@@ -128,7 +119,7 @@ fn write_whole(k: usize, i: usize, service: u8, order: &[u8], block: &mut [u8])
 {
     let start = i * (k / 8);
     let end = start + k / 8;
-    packed::build(k / 8, service, &order[start..end], block);
+    packed::build(k / 8, service, &order[start..end], block).unwrap();
 }
 
 // Item i, the order's last bits and the filling behind them, under these service bits over the first bytes of block.
@@ -137,7 +128,7 @@ fn write_last(k: usize, bits: usize, i: usize, service: u8, order: &[u8], block:
     ensures { block.new ≡ overwritten (block_bytes k) (block_bits (binary 4 service) (drop (i * k) (order_bits bits order.now) ++ zeros (i * k + k - bits))) block.old }
 {
     let payload = last_data(order, bits, i * (k / 8));
-    packed::build(k / 8, service, &payload, block);
+    packed::build(k / 8, service, &payload, block).unwrap();
 }
 
 // Item i over the first bytes of block.

@@ -1,11 +1,12 @@
-// What both forms of the receiving end are made of: the phase, what opening fixes, the events and the answer.
+// What both forms of the receiving end are made of: the phase, what opening fixes, the bits lent, the events and the answer.
+ghost use Rattle.std.specs.Prelude.{◌*◌, ◌≤◌, length};
 
 use crate::marks::Marks;
 
 // The bytes of the array that holds one unfinished block.
 pub const ARRAY_SIZE: usize = 483;
 
-#[derive(Clone, Copy)]
+#[derive(Clone, Copy, Debug, PartialEq, Eq)]
 pub enum Phase {
     Search,
     InStep,
@@ -20,7 +21,16 @@ pub struct Setup {
     pub marks: Marks,
 }
 
+// The first bits of a line's bytes.
 #[derive(Clone, Copy)]
+pub(crate) struct Line<'a> {
+    pub bytes: &'a [u8],
+    pub bits: usize,
+    ghost held: { bits ≤ 8 * length bytes.now },
+}
+
+// An event of its own where a call used all bits: order_line_receive answers it with a number, and theorems name it.
+#[derive(Clone, Copy, Debug, PartialEq, Eq)]
 pub enum Event {
     None,
     Sync,
@@ -36,8 +46,9 @@ pub enum Event {
     Wait,
 }
 
-#[derive(Clone, Copy)]
-pub enum Received {
-    Used { event: Event, bits: usize },
-    Refused(u8),
+// What a call read: the event, and the number of bits used.
+#[derive(Clone, Copy, Debug, PartialEq, Eq)]
+pub struct Received {
+    pub event: Event,
+    pub bits: usize,
 }
