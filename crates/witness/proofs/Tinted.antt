@@ -4,7 +4,7 @@ use mathlib.Core.Path.{◌≡◌, refl}
 use mathlib.Core.Bool.{Bool, true, ◌&&◌}
 use mathlib.Core.List.{List, [], ◌∷◌, ◌++◌}
 use native.Mathlib.Omega.{arith}
-use Rattle.std.proofs.Common.{Result, Ok}
+use Rattle.std.proofs.Common.{Result, Ok, None}
 use Prim.Native.Nat.{ℕ, zero, suc, ◌/◌}
 use lib.Dec.{ltb, lit<, lit≤}
 use lib.ListN.{length, take, drop, replicate}
@@ -19,9 +19,7 @@ use Rattle.line.specs.Receiving.{fresh_receiver, open_receiver}
 use Rattle.line.specs.Course.{course, final}
 use Rattle.line.specs.Delivery.{some, is_end, Assumptions, Openings}
 use Rattle.line.specs.WholeOrder.{Bytes}
-use Rattle.line.specs.declared.marks.CodeSize.TheVariants as C
 use Rattle.line.specs.declared.receiver.Opened.{Opened}
-use Rattle.line.specs.declared.receiver.Opening.TheVariants as Opening
 use Rattle.tint.specs.Format.{order_bytes, judge_doses}
 use Rattle.tint.specs.Calls.{doses_of, judge_counted, write, Write, read, Read}
 use Rattle.tint.specs.RoundTrip.{ReadAs}
@@ -112,10 +110,10 @@ tinted_stored = refl
 
 -- both ends opened without marks, at 200 bit/s with loop 0
 abbrev machine : Opened
-machine = record { state = fresh_receiver 240 no_marks; answer = Opening.Opened }
+machine = record { state = fresh_receiver 240 no_marks; answer = Ok tt }
 
 pub tinted_opened :
-    Openings 240 200 0 312 C.NotGiven C.NotGiven order (fresh_sender 240 312 no_marks) machine items.initial_store
+    Openings 240 200 0 312 None None order (fresh_sender 240 312 no_marks) machine items.initial_store
 unfolding open_sender loop_time is_speed has_entry longest_loop block_time open_receiver is_length marks_in_range item_count
 tinted_opened =
     record {
@@ -157,6 +155,6 @@ written_again =
 pub tinted : ReadAs doses result
 unfolding TintDelivery
 tinted =
-    tint_delivery doses slice order 39 written order (bytes order refl) refl 240 200 0 312 C.NotGiven C.NotGiven
+    tint_delivery doses slice order 39 written order (bytes order refl) refl 240 200 0 312 None None
     (fresh_sender 240 312 no_marks) machine items.initial_store refl (bytes items.initial_store refl) tinted_opened
     (all_calls rows) tinted_meets tinted_ended result tinted_read
