@@ -9,7 +9,7 @@ use tint::{CANISTERS, Dose, Doses, Refusal};
 // A dose's numbers.
 const DOSE_NUMBERS: usize = 2;
 
-// The first count doses.
+// The first count doses. One function for this and the crate tint's `load_entries` would take a closure, and be no shorter.
 fn load_doses(count: usize, numbers: &[u16]) -> Doses
     requires { (count ≤ 12) × (count * 2 ≤ length numbers.now) }
     ensures { result ≡ doses_from (doses_held numbers.now count) }
@@ -86,7 +86,7 @@ pub extern "C" fn order_line_read_tint(order: &[u8], doses: &mut [u16], count: &
             if doses.len() / DOSE_NUMBERS < found.count {
                 return Refusal::Short.into();
             }
-            store_doses(found.held(), doses);
+            store_doses(&found.list[..found.count], doses);
             *count = found.count;
             0
         }
