@@ -9,7 +9,7 @@ ghost use Rattle.line.specs.Code.ReceiveSteps.{rule_of};
 
 use crate::marks::is_mark;
 use crate::order::{
-    END, LETTER_A, LETTER_B, LETTER_C, LONGEST_ORDER, MOST_ITEMS, VERSION, letter, order_items,
+    END, LETTER_A, LETTER_B, LETTER_C, LONGEST_ORDER, MOST_ITEMS, VERSION, item_count, letter,
 };
 use block::{SEQUENCE, SYNC};
 
@@ -120,7 +120,7 @@ fn makes_items(k: usize, bits: usize, taken: usize) -> bool
     requires { (is_length k ≡ true) × (bits ≤ longest_order) }
     ensures { result ≡ makes_items k bits taken }
 {
-    order_items(k, bits) == taken
+    item_count(k, bits) == taken
 }
 
 fn end_rule(k: usize, taken: usize, ended: bool, payload: &[u8]) -> Rule
