@@ -1,4 +1,4 @@
--- `Head::stop` gives each rule of the code the state and event of its definition. Assumes nothing.
+-- `Checked::stop` gives each rule of the code the state and event of its definition. Assumes nothing.
 use mathlib.Core.Path.{◌≡◌, sym, ap, ◌∙◌}
 use mathlib.Core.List.{List, []}
 use Prim.Native.Nat.{ℕ}
@@ -8,7 +8,7 @@ use Rattle.line.specs.declared.rules.Rule as D
 use Rattle.line.specs.Receiving.{stops}
 use Rattle.line.specs.ReceivingInPlace.{with_array}
 use Rattle.line.specs.Code.ReceiveSteps.{rule_of, handed_back}
-use Rattle.line.proofs.head.Head.stop.Goals as goal
+use Rattle.line.proofs.head.Checked.stop.Goals as goal
 
 by_rule : (h : Head) (array : List ℕ) (used : ℕ) (r q : D.Rule) (x : Step)
     → x ≡ handed_back (stops (with_array h array) (rule_of q) [] used) → r ≡ q → x ≡ handed_back (stops (with_array h array) (rule_of r) [] used)

@@ -13,35 +13,36 @@ use Rattle.block.proofs.Lengths.{length_facts}
 use Rattle.line.specs.Receiving.{end_rule, service_rule}
 use Rattle.line.proofs.BlockFinished.{length_data, moved_ok, bits_moved, end_first_bits}
 use borrow.Author.Rules.{rules}
-use Rattle.line.proofs.rules.service_rule.Goals as goal
+use Rattle.line.proofs.head.Checked.service_rule.Goals as goal
 
-pub unwrap-requires : goal.unwrap-requires
-unwrap-requires c = let f = length_facts c.args.k c.requires.0 in
-    moved_ok c.args.k c.args.row.now c.requires.2 5 (omega arith) _ (omega arith) _ _ c.move_data.ensures
-
-pub returns-then-ended : goal.returns-then-ended
+pub returns-then-self : goal.returns-then-self
 unfolding service_rule
-returns-then-ended c = sym (simp (sym c.is_letter.ensures ∙ c.if-is_letter.true, c.if-ended.true))
+returns-then-self c = sym (simp (sym c.is_letter.ensures ∙ c.if-is_letter.true, c.if-self.true))
 
 pub returns-then-is_letter : goal.returns-then-is_letter
 unfolding service_rule
-returns-then-is_letter c = c.place_rule.ensures ∙ sym (simp (sym c.is_letter.ensures ∙ c.if-is_letter.true, c.if-ended.false))
+returns-then-is_letter c = c.place_rule.ensures ∙ sym (simp (sym c.is_letter.ensures ∙ c.if-is_letter.true, c.if-self.false))
 
 pub returns-then-service-eq-END : goal.returns-then-service-eq-END
 unfolding service_rule
-returns-then-service-eq-END c = let k : ℕ = c.args.k in
-    let f = length_facts k c.requires.0 in
+returns-then-service-eq-END c = let k : ℕ = c.args.self.head.setup.k in
+    let f = length_facts k c.args.self.known in
     let payload : List ℕ = c.move_data.new.payload in
     let n : length payload ≡ 5 = search rules in
     let d : Bits = payload_of k (take (block_length k) (bits_of c.args.row.now)) in
-    let l : length d ≡ k = length_data k c.args.row.now c.requires.2 in
+    let l : length d ≡ k = length_data k c.args.row.now c.requires in
     c.end_rule.ensures
-    ∙ end_first_bits k c.args.taken c.args.ended (bits_of payload) (omega (arith, length-bits_of payload))
-    ∙ ap (end_rule k c.args.taken c.args.ended) (bits_moved k c.args.row.now c.requires.2 5 (omega arith) _ (omega arith) _ payload c.move_data.ensures)
-    ∙ sym (end_first_bits k c.args.taken c.args.ended d (omega arith))
+    ∙ end_first_bits k c.args.self.head.taken c.args.self.head.ended (bits_of payload) (omega (arith, length-bits_of payload))
+    ∙ ap (end_rule k c.args.self.head.taken c.args.self.head.ended) (bits_moved k c.args.row.now c.requires 5 (omega arith) _ (omega arith) _ payload c.move_data.ensures)
+    ∙ sym (end_first_bits k c.args.self.head.taken c.args.self.head.ended d (omega arith))
     ∙ sym (simp (sym c.is_letter.ensures ∙ c.if-is_letter.false, eq-eqb _ _ c.if-service-eq-END.true))
 
 pub returns : goal.returns
 unfolding service_rule
 returns c = c.mark_rule.ensures
     ∙ sym (simp (sym c.is_letter.ensures ∙ c.if-is_letter.false, ne_eqb _ _ c.if-service-eq-END.false))
+
+pub unwrap-requires : goal.unwrap-requires
+unwrap-requires c = let k : ℕ = c.args.self.head.setup.k in
+    let f = length_facts k c.args.self.known in
+    moved_ok k c.args.row.now c.requires 5 (omega arith) _ (omega arith) _ c.move_data.new.payload c.move_data.ensures
