@@ -14,7 +14,7 @@ use block::packed;
 // The longest order in bits.
 pub const LONGEST_ORDER: usize = 262144;
 
-// The most data items that an order makes: those of the longest at the shortest k.
+// The most data items that an order makes: those of the longest at the shortest k. A constant's value can't call `div_ceil`.
 pub(crate) const MOST_ITEMS: usize = (LONGEST_ORDER + 239) / 240;
 
 pub(crate) const LETTER_A: u8 = 0b0011;
