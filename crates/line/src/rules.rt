@@ -10,7 +10,7 @@ ghost use Rattle.line.specs.Code.ReceiveSteps.{rule_of};
 use crate::head::Checked;
 use crate::marks::is_mark;
 use crate::order::{
-    END, LETTER_A, LETTER_B, LETTER_C, LONGEST_ORDER, MOST_ITEMS, VERSION, letter, order_items,
+    END, LETTER_A, LETTER_B, LETTER_C, LONGEST_ORDER, MOST_ITEMS, VERSION, item_count, letter,
 };
 use block::{SEQUENCE, SYNC};
 
@@ -101,7 +101,7 @@ impl Checked {
         requires { bits ≤ longest_order }
         ensures { result ≡ makes_items self.head.setup.k bits self.head.taken }
     {
-        order_items(self.head.setup.k, bits) == self.head.taken
+        item_count(self.head.setup.k, bits) == self.head.taken
     }
 
     #[tactic(auto, unfolding(crate::specs::Receiving::end_rule))]
