@@ -81,15 +81,22 @@ impl Head {
         }
     }
 
+    // This head, an event and the bits used.
+    fn reports(self, event: Event, bits: usize) -> HeadStep
+        ensures { (array : List ℕ) → step_with result array ≡ stepped (with_array self array) event bits }
+    {
+        HeadStep {
+            head: self,
+            answer: Ok(Received { event, bits }),
+        }
+    }
+
     // This head after an event, with nothing held, and the event.
     fn after(self, array: &mut [u8; ARRAY_SIZE], event: Event, used: usize) -> HeadStep
         ensures { step_with result array.new ≡ stepped (with_array self zero_array) event used }
     {
         *array = [0; ARRAY_SIZE];
-        HeadStep {
-            head: self,
-            answer: Ok(Received { event, bits: used }),
-        }
+        self.reports(event, used)
     }
 
     // In step with return 0.
@@ -140,17 +147,12 @@ impl Head {
         ensures { step_with result array.new ≡ stepped (S.searching (with_array self array.old) (binary window.held window.number)) Event.None used }
     {
         array[..2].copy_from_slice(&window.store());
-        HeadStep {
-            head: Head {
-                held: window.held,
-                back: true,
-                ..self
-            },
-            answer: Ok(Received {
-                event: Event::None,
-                bits: used,
-            }),
-        }
+        let next = Head {
+            held: window.held,
+            back: true,
+            ..self
+        };
+        next.reports(Event::None, used)
     }
 
     // Search: bit by bit, up to the sequence's end or to the last.
@@ -173,29 +175,22 @@ impl Head {
     fn under_alarm(self, alarm: Event, bits: usize) -> HeadStep
         ensures { (array : List ℕ) → step_with result array ≡ stepped (S.under_alarm (with_array self array)) alarm bits }
     {
-        HeadStep {
-            head: Head {
-                bad_row: 0,
-                back: true,
-                ..self
-            },
-            answer: Ok(Received { event: alarm, bits }),
-        }
+        let next = Head {
+            bad_row: 0,
+            back: true,
+            ..self
+        };
+        next.reports(alarm, bits)
     }
 
     // No bits: nothing changed, but a standing alarm is reported.
     fn idle(self) -> HeadStep
         ensures { (array : List ℕ) → step_with result array ≡ handed_back (S.idle (with_array self array)) }
     {
-        let phase = self.phase;
-        let event = match phase {
-            Phase::Search | Phase::InStep => Event::None,
-            Phase::SequenceAlarm => Event::SequenceAlarm,
-            Phase::LengthAlarm => Event::LengthAlarm,
-        };
-        HeadStep {
-            head: self,
-            answer: Ok(Received { event, bits: 0 }),
+        match self.phase {
+            Phase::Search | Phase::InStep => self.reports(Event::None, 0),
+            Phase::SequenceAlarm => self.reports(Event::SequenceAlarm, 0),
+            Phase::LengthAlarm => self.reports(Event::LengthAlarm, 0),
         }
     }
 
@@ -394,16 +389,11 @@ impl Checked {
             return self.finish(array, rest, ready, store);
         }
         put_bits(array, head.held, line);
-        HeadStep {
-            head: Head {
-                held: head.held + line.bits,
-                ..head
-            },
-            answer: Ok(Received {
-                event: Event::None,
-                bits: line.bits,
-            }),
-        }
+        let next = Head {
+            held: head.held + line.bits,
+            ..head
+        };
+        next.reports(Event::None, line.bits)
     }
 
     // The bits of a line up to the next event, or to the last.

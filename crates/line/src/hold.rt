@@ -11,7 +11,7 @@ fn first_bits(x: u8, n: usize) -> u8
     requires { n < 8 }
     ensures { binary n result ≡ take n (binary 8 x) }
 {
-    ((x as u16) >> (8 - n)) as u8
+    (u16::from(x) >> (8 - n)) as u8
 }
 
 // The last n bits of carry, then the first bits of x.
@@ -19,7 +19,7 @@ fn join(carry: u8, n: usize, x: u8) -> u8
     requires { n < 8 }
     ensures { binary 8 result ≡ take 8 (binary n carry ++ binary 8 x) }
 {
-    (((carry as u16) << 8 | x as u16) >> n & 255) as u8
+    ((u16::from(carry) << 8 | u16::from(x)) >> n & 255) as u8
 }
 
 // The first n bits of one byte, then the others of another.

@@ -10,7 +10,7 @@ ghost use Rattle.line.specs.Code.ReceiveSteps.{rule_of};
 use crate::head::Checked;
 use crate::marks::is_mark;
 use crate::order::{
-    END, LETTER_A, LETTER_B, LETTER_C, LONGEST_ORDER, MOST_ITEMS, VERSION, letter, order_items,
+    END, LETTER_A, LETTER_B, LETTER_C, LONGEST_ORDER, MOST_ITEMS, VERSION, item_count, letter,
 };
 use block::{SEQUENCE, SYNC};
 
@@ -33,11 +33,8 @@ impl Rule {
     pub(crate) fn or_wait(self, ready: bool) -> Rule
         ensures { rule_of result ≡ or_wait ready (rule_of self) }
     {
-        if ready {
-            return self;
-        }
         match self {
-            Rule::Accepts | Rule::Ends(_) => Rule::Waits,
+            Rule::Accepts | Rule::Ends(_) if !ready => Rule::Waits,
             _ => self,
         }
     }
@@ -104,7 +101,7 @@ impl Checked {
         requires { bits ≤ longest_order }
         ensures { result ≡ makes_items self.head.setup.k bits self.head.taken }
     {
-        order_items(self.head.setup.k, bits) == self.head.taken
+        item_count(self.head.setup.k, bits) == self.head.taken
     }
 
     #[tactic(auto, unfolding(crate::specs::Receiving::end_rule))]
@@ -140,11 +137,8 @@ impl Checked {
         requires { block_length self.head.setup.k ≤ 8 * length row.now }
         ensures { result ≡ looks_sync self.head.setup.k (take (block_length self.head.setup.k) (bits_of row.now)) }
     {
-        if row[0] >> 4 != SYNC {
-            return false;
-        }
         let m = self.head.setup.k / 8;
-        block::received_check(row[m], row[m + 1], row[m + 2]) == SEQUENCE
+        row[0] >> 4 == SYNC && block::received_check(row[m], row[m + 1], row[m + 2]) == SEQUENCE
     }
 
     // By the service bits; of an end block's data the version and the length are moved out.

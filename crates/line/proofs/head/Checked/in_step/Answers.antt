@@ -29,12 +29,13 @@ pub put_bits-requires : goal.put_bits-requires
 put_bits-requires c = let f = length_facts c.args.self.head.setup.k c.args.self.known in
     omega arith
 
-pub overflow_add-result : goal.overflow_add-result
-overflow_add-result c = let f = length_facts c.args.self.head.setup.k c.args.self.known in
+pub overflow_add-next : goal.overflow_add-next
+overflow_add-next c = let f = length_facts c.args.self.head.setup.k c.args.self.known in
     omega arith
 
 pub returns : goal.returns
 returns c = let a = c.args in
     let n : a.line.bits ≡ length (take a.line.bits (bits_of a.line.bytes.now)) =
     sym (length-take-le a.line.bits (bits_of a.line.bytes.now) (omega (arith, length-bits_of a.line.bytes.now))) in
-    in_step_more (with_array a.self.head a.array.now) (take a.line.bits (bits_of a.line.bytes.now)) a.ready a.store.now _ a.line.bits c.put_bits.ensures n (omega arith)
+    rw (c.reports.ensures c.put_bits.new.array)
+    (in_step_more (with_array a.self.head a.array.now) (take a.line.bits (bits_of a.line.bytes.now)) a.ready a.store.now _ a.line.bits c.put_bits.ensures n (omega arith))
