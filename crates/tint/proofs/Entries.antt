@@ -15,7 +15,9 @@ use Rattle.block.proofs.Refusals.{passed_test}
 use Rattle.line.specs.WholeOrder.{Bytes}
 use Rattle.tint.specs.Refusals as Refusals
 use Rattle.tint.specs.Format.{format_version, big_endian, from_big_endian, entries, order_bytes, doses_in, is_length_of, is_format, canisters, most_steps, most_total, is_in_range, in_range_and_order, total, judge_doses}
-use Rattle.tint.specs.Calls.{judge_counted}
+use Rattle.tint.specs.Calls.{doses_of, judge_counted, Judge}
+use Rattle.tint.specs.declared.Doses.{Doses}
+use Rattle.std.proofs.Common.{Ok}
 use Rattle.tint.specs.Code.{head_bytes, low_entries}
 use Rattle.tint.specs.declared.Dose.{Dose}
 
@@ -198,6 +200,10 @@ module _ {A : Type 0} (ds : List Dose) (next : Answer A) where
         let a = passed_test (eqb count 0) Refusals.format (refuse_if (ltb canisters count) Refusals.entry (judge_doses ds next)) x h in
         let b = passed_test (ltb canisters count) Refusals.entry (judge_doses ds next) x a.1 in
         (positive count (eqb-false count 0 a.0), ltb-false canisters count b.0, b.1)
+
+-- doses that were judged good are twelve at most
+pub judged_few : (d : Doses) → Judge d (Ok tt) → (1 ≤ d.count) × (d.count ≤ canisters)
+judged_few d j = let c = counted_good (doses_of d) (done tt) d.count tt (sym j.answers) in (c.0, c.1)
 
 -- ---- a judgement refuses whatever follows it
 

@@ -171,6 +171,7 @@ fn write_order(doses: &[Dose], order: &mut [u8])
 }
 
 // The order of these doses written over the first bytes of a slice. Refused in the order 10, 11, 12, 6.
+#[tactic(auto, using(crate::proofs::Entries::judged_few, crate::proofs::Arrays::length_first_places))]
 pub fn write(doses: Doses, order: &mut [u8]) -> Result<usize, Refusal>
     ensures { Write doses order.old result order.new }
 {
