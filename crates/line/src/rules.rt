@@ -142,6 +142,7 @@ impl Checked {
     }
 
     // By the service bits; of an end block's data the version and the length are moved out.
+    #[tactic(auto, unfolding(crate::specs::Receiving::service_rule))]
     pub(crate) fn service_rule(self, service: u8, row: &[u8]) -> Rule
         requires { block_length self.head.setup.k ≤ 8 * length row.now }
         ensures { rule_of result ≡ service_rule self.head.setup.marks.in_use self.head.setup.k self.head.taken self.head.ended service (payload_of self.head.setup.k (take (block_length self.head.setup.k) (bits_of row.now))) }
