@@ -3,7 +3,7 @@ use mathlib.Core.Path.{◌≡◌, refl, sym, ap, ◌∙◌}
 use mathlib.Core.Bool.{Bool, true, false}
 use mathlib.Core.List.{List, [], ◌∷◌, ◌++◌, append-nil}
 use mathlib.Core.Logic.{⊎_elim}
-use mathlib.Core.Option.{Option, none, some}
+use Rattle.std.specs.Prelude.{Option, Some, None}
 use Prim.Native.Nat.{ℕ, ◌*◌, ◌≤◌, min}
 use native.Mathlib.Omega.{arith}
 use lib.Dec.{eqb}
@@ -50,7 +50,7 @@ abbrev session : Place → LineOne → Sender → Receiver → Session
 session place o s r = record { place = place; opening = o; sender = s; receiver = r }
 
 -- a line that begins with a letter of no kind, or has more than its letter, is of another kind
-other_letter : (c : ℕ) (ls : List (List ℕ)) (s : Sender) (r : Receiver) (order store : List ℕ) → letter_kind c ≡ none
+other_letter : (c : ℕ) (ls : List (List ℕ)) (s : Sender) (r : Receiver) (order store : List ℕ) → letter_kind c ≡ None
     → periods s r order store (joined c ls) ≡ []
 unfolding periods
 other_letter c [] s r order store e = rw e
@@ -67,16 +67,16 @@ unless_nothing : (o : Outcome) → outcomes_unless_refused o [] ≡ []
 unless_nothing (O.Refused n) = refl
 unless_nothing (O.Line l) = refl
 
-newline_no_letter : letter_kind newline ≡ none
+newline_no_letter : letter_kind newline ≡ None
 unfolding letter_kind
 newline_no_letter = refl
 
-letter_no_newline : (c : ℕ) (kind : Kind) → letter_kind c ≡ some kind → eqb c newline ≡ false
+letter_no_newline : (c : ℕ) (kind : Kind) → letter_kind c ≡ Some kind → eqb c newline ≡ false
 letter_no_newline c kind e = by_test (eqb c newline) refl
   where
     by_test : (t : Bool) → eqb c newline ≡ t → eqb c newline ≡ false
     by_test true h =
-        let n : letter_kind c ≡ none = ap letter_kind (eqb-true c newline h) ∙ newline_no_letter in
+        let n : letter_kind c ≡ None = ap letter_kind (eqb-true c newline h) ∙ newline_no_letter in
         absurd (let z : ◌≡◌ {A = ℕ} 0 1 = cc in omega arith)
     by_test false h = h
 
@@ -99,21 +99,21 @@ module _ (o : LineOne) (order : List ℕ) where
 
   -- a line's first byte, and the rest of it where the byte is a letter
   first_byte : (s : Sender) (r : Receiver) (store : List ℕ) (c : ℕ) (cs : List ℕ) (k : Option Kind) → letter_kind c ≡ k
-      → ((kind : Kind) → letter_kind c ≡ some kind
+      → ((kind : Kind) → letter_kind c ≡ Some kind
       → yields (session (P.Kind kind) o s r) order store cs ≡ periods s r lent store (joined c (lines cs)))
       → yields (session P.LineStart o s r) order store (c ∷ cs) ≡ periods s r lent store (lines (c ∷ cs))
   unfolding yields takes takes_order takes_store periods
-  first_byte s r store c cs none e rest =
+  first_byte s r store c cs None e rest =
       rw e
       (over_silent (session P.LineStart o s r) order store cs
       ∙ ⊎_elim (λ (t : eqb c newline ≡ true). rw t)
       (λ (t : eqb c newline ≡ false). rw t (sym (other_letter c (lines cs) s r lent store e))) (either (eqb c newline)))
-  first_byte s r store c cs (some kind) e rest =
+  first_byte s r store c cs (Some kind) e rest =
       let t : eqb c newline ≡ false = letter_no_newline c kind e in
       rw (e, t) (rest kind e)
 
   -- the input ends behind a letter
-  letter_last : (kind : Kind) (c : ℕ) (s : Sender) (r : Receiver) (store : List ℕ) → letter_kind c ≡ some kind
+  letter_last : (kind : Kind) (c : ℕ) (s : Sender) (r : Receiver) (store : List ℕ) → letter_kind c ≡ Some kind
       → yields (session (P.Kind kind) o s r) order store [] ≡ periods s r lent store (joined c [])
   unfolding yields ends periods
   letter_last kind c s r store e =
@@ -121,7 +121,7 @@ module _ (o : LineOne) (order : List ℕ) where
       rw e (ap (λ (l : List Outcome). out ∷ l) (sym (unless_nothing out)))
 
   -- a byte behind a letter: a newline brings the period and the lines that follow
-  letter_then : (kind : Kind) (c : ℕ) (s : Sender) (r : Receiver) (store : List ℕ) (d : ℕ) (ds : List ℕ) → letter_kind c ≡ some kind
+  letter_then : (kind : Kind) (c : ℕ) (s : Sender) (r : Receiver) (store : List ℕ) (d : ℕ) (ds : List ℕ) → letter_kind c ≡ Some kind
       → (let x : PeriodResult = period kind s r lent store in
       yields (session P.LineStart o x.period.sender x.period.receiver) order x.store ds
       ≡ periods x.period.sender x.period.receiver lent x.store (lines ds))
@@ -146,7 +146,7 @@ module _ (o : LineOne) (order : List ℕ) where
     line_start s r store (c ∷ cs) =
         first_byte s r store c cs (letter_kind c) refl (λ kind e. letter-read kind c e s r store cs)
 
-    letter-read : (kind : Kind) (c : ℕ) → letter_kind c ≡ some kind → (s : Sender) (r : Receiver) (store cs : List ℕ)
+    letter-read : (kind : Kind) (c : ℕ) → letter_kind c ≡ Some kind → (s : Sender) (r : Receiver) (store cs : List ℕ)
         → yields (session (P.Kind kind) o s r) order store cs ≡ periods s r lent store (joined c (lines cs))
     letter-read kind c e s r store [] = letter_last kind c s r store e
     letter-read kind c e s r store (d ∷ ds) =
@@ -224,16 +224,16 @@ periods-kept (l ∷ ls) s r order store h = by_kind (kind_of l)
         → following (take order_room order) (period kind s r order store) ≡ following order (period kind s r order store))
         → line_outcomes s r (take order_room order) store (following (take order_room order)) k
         ≡ line_outcomes s r order store (following order) k
-    by_kind none rest = refl
-    by_kind (some kind) rest = rw (period-kept order_room kind s r order store h, rest kind)
+    by_kind None rest = refl
+    by_kind (Some kind) rest = rw (period-kept order_room kind s r order store h, rest kind)
 
 fresh-length : (s : Sender) (k L : ℕ) (m : Marks) → s ≡ fresh_sender k L m → s.setup.length ≡ L
 unfolding fresh_sender
 fresh-length s k L m e = ap (λ (x : Sender). x.setup.length) e
 
 keep-course : (p : Option Opening) (ls : List (List ℕ)) → opening_outcomes (keep order_room p) ls ≡ opening_outcomes p ls
-keep-course none ls = refl
-keep-course (some o) ls =
+keep-course None ls = refl
+keep-course (Some o) ls =
     let L : ℕ = o.order.bits in
     let bytes : List ℕ = o.order.bytes in
     rw (open_kept o.k L bytes) (by_answer (open_sender o.k speed loop_ms L code_size bytes) refl)

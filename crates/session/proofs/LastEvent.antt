@@ -16,6 +16,7 @@ use Rattle.line.specs.declared.sender.Sender.{Sender}
 use Rattle.line.specs.declared.receiver.Receiver.{Receiver}
 use Rattle.line.specs.declared.receiving.Event.{Event}
 use Rattle.line.specs.declared.receiving.Event.TheVariants as E
+use Rattle.std.specs.Prelude.{Option}
 use Rattle.session.specs.Period.{reading_of, arriving, line_bytes, hear, shown_block, shown_reading, line_of, sent_result, period}
 use Rattle.session.specs.LastEvent.{heard_events, sent_events, period_events, how_many, last_of, shown_events, Tells, LastEvent}
 use Rattle.session.specs.declared.period.Block as B
@@ -24,7 +25,6 @@ use Rattle.session.specs.declared.period.Last.{Last}
 use Rattle.session.specs.declared.period.Last.TheVariants as L
 use Rattle.session.specs.declared.period.Line.{Line}
 use Rattle.session.specs.declared.period.Outcome.TheVariants as O
-use Rattle.session.specs.declared.period.Reading as R
 use Rattle.session.proofs.HeardEvents.{last_events, some_same, not_none, no_event, Told, told}
 use Rattle.session.proofs.ReceivingCalls.{length-arriving}
 use Rattle.session.proofs.Sent.{on_line}
@@ -37,7 +37,7 @@ only_ended e h = rw h (or_yes (is_accepted e))
 
 -- ---- the line of what was heard
 
-module _ (block : B.Block) (reading : R.Reading) (back : Bool) where
+module _ (block : B.Block) (reading : Option Bool) (back : Bool) where
   shown_last : (w : Last) → shown_events (line_of block reading back w) ≡ last_events w
   shown_last (L.Refused n) = refl
   shown_last (L.Event e) = refl

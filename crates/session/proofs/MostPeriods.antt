@@ -2,7 +2,7 @@
 use mathlib.Core.Path.{◌≡◌, refl, ap, ◌∙◌}
 use mathlib.Core.Bool.{Bool, true}
 use mathlib.Core.List.{List, [], ◌∷◌}
-use mathlib.Core.Option.{Option, none, some}
+use Rattle.std.specs.Prelude.{Option, Some, None}
 use Prim.Native.Nat.{ℕ, ◌+◌, ◌*◌, ◌^◌, ◌≤◌, ◌<◌}
 use native.Mathlib.Omega.{arith}
 use lib.ListN.{length, replicate}
@@ -68,8 +68,8 @@ periods_few (l ∷ ls) s r order store =
   where
     by_kind : (k : Option Kind) (next : PeriodResult → List Outcome) → ((c : PeriodResult) → Few (blocks_left c.period.sender) (next c))
         → Few (blocks_left s) (line_outcomes s r order store next k)
-    by_kind none next few = few_none (blocks_left s)
-    by_kind (some kind) next few =
+    by_kind None next few = few_none (blocks_left s)
+    by_kind (Some kind) next few =
         let c : PeriodResult = period kind s r order store in
         few_more (blocks_left s) (blocks_left c.period.sender) c.period.outcome (next c)
         (λ l e. period_lowers kind s r order store l e) (few c)
@@ -97,10 +97,10 @@ module _ (o : Opening) (N : ℕ) (fits : is_length o.k ≡ true → valid_length
       receiver_few s (omega (arith, b, fits g.known g.valid)) (open_receiver o.k code_size)
 
 opening_few : (p : Option Opening) (N : ℕ)
-    → ((o : Opening) → p ≡ some o → is_length o.k ≡ true → valid_length o.order.bits ≡ true → item_count o.k o.order.bits ≤ N)
+    → ((o : Opening) → p ≡ Some o → is_length o.k ≡ true → valid_length o.order.bits ≡ true → item_count o.k o.order.bits ≤ N)
     → (ls : List (List ℕ)) → Few (most N) (opening_outcomes p ls)
-opening_few none N fits ls = few_none (most N)
-opening_few (some o) N fits ls =
+opening_few None N fits ls = few_none (most N)
+opening_few (Some o) N fits ls =
     sender_few o N (fits o refl) ls (open_sender o.k speed loop_ms o.order.bits code_size o.order.bytes) refl
 
 pub most_periods : MostPeriods

@@ -14,9 +14,9 @@ use Rattle.line.specs.declared.receiver.Receiver.{Receiver}
 use Rattle.line.specs.declared.receiving.Event.{Event}
 use Rattle.line.specs.declared.receiving.Event.TheVariants as E
 use Rattle.line.proofs.Readiness.{readiness}
+use Rattle.std.specs.Prelude.{Option}
 use Rattle.session.specs.Period.{line_bytes, reading_of, arriving, last_event, answered, ready, hear, shown_block, shown_reading, line_of, sent_result, period, shows_wait, NeverWaits}
 use Rattle.session.specs.declared.period.Block as B
-use Rattle.session.specs.declared.period.Reading as R
 use Rattle.session.specs.declared.period.Kind.{Kind}
 use Rattle.session.specs.declared.period.Last.{Last}
 use Rattle.session.specs.declared.period.Last.TheVariants as L
@@ -54,7 +54,7 @@ hear_never_waits (suc calls) s (b ∷ bs) store last h =
     by_answer (refused n) e next = refl
     by_answer (done x) e next = next x (readiness.no_wait s (bytes_of line_bytes (b ∷ bs)) (length (b ∷ bs)) store x e)
 
-shown : (block : B.Block) (reading : R.Reading) (back : Bool) (l : Last) → waits_at_last l ≡ false → shows_wait (line_of block reading back l) ≡ false
+shown : (block : B.Block) (reading : Option Bool) (back : Bool) (l : Last) → waits_at_last l ≡ false → shows_wait (line_of block reading back l) ≡ false
 shown block reading back (L.Refused n) h = refl
 shown block reading back (L.Event e) h = h
 

@@ -15,11 +15,11 @@ use Rattle.line.specs.declared.sender.Sender.{Sender}
 use Rattle.line.specs.declared.sender.Step.{Step}
 use Rattle.line.specs.declared.receiver.Receiver.{Receiver}
 use Rattle.line.specs.declared.receiving.Event.TheVariants as E
+use Rattle.std.specs.Prelude.{Option}
 use Rattle.session.specs.Period.{reading_of, line_bytes, Lent, arriving, hear, shown_block, shown_reading, shown_sending, heard_result, period}
 use Rattle.session.specs.declared.period.Block.{Block}
 use Rattle.session.specs.declared.period.Kind.{Kind}
 use Rattle.session.specs.declared.period.Outcome.TheVariants as O
-use Rattle.session.specs.declared.period.Reading.{Reading}
 use Rattle.session.specs.declared.period.Sending.{Sending}
 use Rattle.session.specs.declared.period.Sending.TheVariants as W
 use Rattle.session.proofs.ReceivingCalls.{held_bits_lem, lent_packed}
@@ -30,7 +30,7 @@ shown_refused : (a : Answer S.Block) (reading : Bool) (n : ℕ) → W.Refused n 
 shown_refused (refused m) reading n e = cc
 shown_refused (done b) reading n e = absurd (let z : ◌≡◌ {A = ℕ} 0 1 = cc in omega arith)
 
-shown-sent : (a : Answer S.Block) (reading : Bool) (block : Block) (used : Reading) → W.Sent block used ≡ shown_sending a reading
+shown-sent : (a : Answer S.Block) (reading : Bool) (block : Block) (used : Option Bool) → W.Sent block used ≡ shown_sending a reading
     → (b : S.Block) × ((a ≡ done b) × ((block ≡ shown_block b) × (used ≡ shown_reading b reading)))
 shown-sent (refused m) reading block used e = absurd (let z : ◌≡◌ {A = ℕ} 0 1 = cc in omega arith)
 shown-sent (done b) reading block used e = (b, (refl, (cc, cc)))
@@ -48,14 +48,14 @@ module _ (kind : Kind) (s : Sender) (r : Receiver) (order store : List ℕ) (rea
       sym kept.answers ∙ shown_refused (sent_answer step.answer) reading n (sym a ∙ shown) in
       rw (kept.state, g, ← e, g)
 
-  pub record BlockSent (block : Block) (used : Reading) : Type 0 where
+  pub record BlockSent (block : Block) (used : Option Bool) : Type 0 where
     pub count : s.setup.k ≤ 3840
     pub lent : Lent line (s.setup.k + 20)
     pub result : period kind s r order store
         ≡ heard_result step.state block used
         (hear (s.setup.k + 20) r (arriving kind (take (s.setup.k + 20) (bits_of line))) store E.None)
 
-  sent_at : (b : S.Block) (block : Block) (used : Reading) → sent_answer step.answer ≡ done b → block ≡ shown_block b
+  sent_at : (b : S.Block) (block : Block) (used : Option Bool) → sent_answer step.answer ≡ done b → block ≡ shown_block b
       → used ≡ shown_reading b reading → BlockSent block used
   unfolding period
   sent_at b block used a sb sr =
@@ -71,7 +71,7 @@ module _ (kind : Kind) (s : Sender) (r : Receiver) (order store : List ℕ) (rea
         result = rw (sb, sr, l, ← o.count, held_bits_lem bits m, kept.state, g, ← e, g);
       }
 
-  pub sent : (block : Block) (used : Reading) → sending ≡ W.Sent block used → BlockSent block used
+  pub sent : (block : Block) (used : Option Bool) → sending ≡ W.Sent block used → BlockSent block used
   sent block used a =
       let x = shown-sent (sent_answer step.answer) reading block used (sym a ∙ shown) in
       sent_at x.0 block used x.1.0 x.1.1.0 x.1.1.1

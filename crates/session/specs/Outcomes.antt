@@ -1,7 +1,6 @@
 -- The course of a session, from its input alone: the list of its outcomes, of which each is a period's line, as data, or a
 -- refusal. Assumes nothing.
-use Rattle.std.specs.Prelude.{cond, List, [], ◌∷◌, ℕ, ◌+◌, ◌*◌, ◌/◌, ◌≤◌, eqb, replicate}
-use Rattle.std.proofs.Math.Option.{Option, none, some}
+use Rattle.std.specs.Prelude.{cond, List, [], ◌∷◌, ℕ, ◌+◌, ◌*◌, ◌/◌, ◌≤◌, eqb, replicate, Option, Some, None}
 use Rattle.block.specs.Answer.{Answer, refused, done}
 use Rattle.line.specs.Marks.{marks_of}
 use Rattle.line.specs.MostBlocks.{first_pair, later_pair}
@@ -43,13 +42,13 @@ store_room = (longest_order + 3839) / 3840 * 480
 -- the letters of the three kinds
 unfoldable pub letter_kind : ℕ → Option Kind
 letter_kind c =
-    cond (eqb c 116) (some K.Undisturbed) (cond (eqb c 102) (some K.Turned) (cond (eqb c 100) (some K.Damaged) none))
+    cond (eqb c 116) (Some K.Undisturbed) (cond (eqb c 102) (Some K.Turned) (cond (eqb c 100) (Some K.Damaged) None))
 
 -- a line of one of the kinds is one letter
 abbrev pub kind_of : List ℕ → Option Kind
-kind_of [] = none
+kind_of [] = None
 kind_of (c ∷ []) = letter_kind c
-kind_of (c ∷ d ∷ cs) = none
+kind_of (c ∷ d ∷ cs) = None
 
 -- a refusal ends the run
 abbrev pub outcomes_unless_refused : Outcome → List Outcome → List Outcome
@@ -58,8 +57,8 @@ outcomes_unless_refused (O.Line l) rest = rest
 
 -- a line of another kind ends the run with no outcome
 abbrev pub line_outcomes : Sender → Receiver → List ℕ → List ℕ → (PeriodResult → List Outcome) → Option Kind → List Outcome
-line_outcomes s r order store next none = []
-line_outcomes s r order store next (some kind) =
+line_outcomes s r order store next None = []
+line_outcomes s r order store next (Some kind) =
     let c : PeriodResult = period kind s r order store in
     c.period.outcome ∷ outcomes_unless_refused c.period.outcome (next c)
 
@@ -82,8 +81,8 @@ sender_outcomes o ls (done s) = receiver_outcomes o s ls (open_receiver o.k code
 
 -- line one that cannot be read has no outcome
 abbrev pub opening_outcomes : Option Opening → List (List ℕ) → List Outcome
-opening_outcomes none ls = []
-opening_outcomes (some o) ls =
+opening_outcomes None ls = []
+opening_outcomes (Some o) ls =
     sender_outcomes o ls (open_sender o.k speed loop_ms o.order.bits code_size o.order.bytes)
 
 unfoldable pub outcomes : List ℕ → List Outcome
@@ -99,8 +98,8 @@ line_count (O.Line l ∷ os) = line_count os + 1
 
 -- the number of data items that line one gives; 0 if it cannot be read
 abbrev pub items_of : Option Opening → ℕ
-items_of none = 0
-items_of (some o) = item_count o.k o.order.bits
+items_of None = 0
+items_of (Some o) = item_count o.k o.order.bits
 
 -- Whatever the input, however long: no more than the blocks that the sender sends, 192 + 187 N.
 unfoldable pub MostPeriods : Type 0

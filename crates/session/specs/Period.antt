@@ -1,6 +1,6 @@
 -- One period of a session: a sending call, and receiving calls until the block's bits are used or a call is refused; and
 -- what its line says. Assumes nothing.
-use Rattle.std.specs.Prelude.{◌≡◌, Bool, true, false, cond, not, List, [], ◌∷◌, ℕ, zero, suc, ◌*◌, ◌≤◌, length, get_or, set, take, drop, replicate}
+use Rattle.std.specs.Prelude.{◌≡◌, Bool, true, false, cond, not, List, [], ◌∷◌, ℕ, zero, suc, ◌*◌, ◌≤◌, length, get_or, set, take, drop, replicate, Option, Some, None}
 use Rattle.std.specs.Int.Bits.{bit_xor}
 use Rattle.crc.specs.Bits.{Bits, bits_of, bytes_of}
 use Rattle.block.specs.Answer.{Answer, refused, done}
@@ -22,8 +22,6 @@ use Rattle.session.specs.declared.period.Last.TheVariants as L
 use Rattle.session.specs.declared.period.Outcome.{Outcome}
 use Rattle.session.specs.declared.period.Outcome.TheVariants as O
 use Rattle.session.specs.declared.period.Period.{Period}
-use Rattle.session.specs.declared.period.Reading as Shown
-use Rattle.session.specs.declared.period.Reading.TheVariants as R
 use Rattle.session.specs.declared.period.Sending.{Sending}
 use Rattle.session.specs.declared.period.Sending.TheVariants as W
 
@@ -104,18 +102,18 @@ abbrev pub shown_block : S.Block → Block
 shown_block S.synchronising = B.Synchronising
 shown_block (S.item i end used cancelled) = B.Item i end cancelled
 
-abbrev pub if_used : Bool → Bool → Shown.Reading
-if_used used reading = cond used (R.Used reading) R.Ignored
+abbrev pub if_used : Bool → Bool → Option Bool
+if_used used reading = cond used (Some reading) None
 
-abbrev pub shown_reading : S.Block → Bool → Shown.Reading
-shown_reading S.synchronising reading = R.Ignored
+abbrev pub shown_reading : S.Block → Bool → Option Bool
+shown_reading S.synchronising reading = None
 shown_reading (S.item i end used cancelled) reading = if_used used reading
 
 abbrev pub shown_sending : Answer S.Block → Bool → Sending
 shown_sending (refused n) reading = W.Refused n
 shown_sending (done b) reading = W.Sent (shown_block b) (shown_reading b reading)
 
-abbrev pub line_of : Block → Shown.Reading → Bool → Last → Outcome
+abbrev pub line_of : Block → Option Bool → Bool → Last → Outcome
 line_of block reading back (L.Refused n) = O.Refused n
 line_of block reading back (L.Event e) = O.Line (record { block = block; reading = reading; event = e; back = back })
 
@@ -124,7 +122,7 @@ pub record PeriodResult : Type 0 where
   pub period : Period
   pub store : List ℕ
 
-abbrev pub heard_result : Sender → Block → Shown.Reading → Hearing → PeriodResult
+abbrev pub heard_result : Sender → Block → Option Bool → Hearing → PeriodResult
 heard_result s block reading h =
     record {
       period =

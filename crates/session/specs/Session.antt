@@ -1,7 +1,6 @@
 -- A session one byte of input at a time: its state, what the byte yields, the order's slice and the store; and that what it
 -- yields over an input is the input's course. Assumes nothing.
-use Rattle.std.specs.Prelude.{◌≡◌, Bool, true, false, cond, List, [], ◌∷◌, ◌++◌, ℕ, eqb, length, take, replicate}
-use Rattle.std.proofs.Math.Option.{Option, none, some}
+use Rattle.std.specs.Prelude.{◌≡◌, Bool, true, false, cond, List, [], ◌∷◌, ◌++◌, ℕ, eqb, length, take, replicate, Option, Some, None}
 use Rattle.block.specs.Answer.{Answer, refused, done}
 use Rattle.line.specs.Marks.{marks_of}
 use Rattle.line.specs.Sending.{open_sender, fresh_sender}
@@ -19,8 +18,6 @@ use Rattle.session.specs.declared.script.Place.{Place}
 use Rattle.session.specs.declared.script.Place.TheVariants as P
 use Rattle.session.specs.declared.script.Session.{Session}
 use Rattle.session.specs.declared.script.Taken.{Taken}
-use Rattle.session.specs.declared.script.Yield.{Yield}
-use Rattle.session.specs.declared.script.Yield.TheVariants as Y
 
 -- before the first byte; the ends are not open yet
 unfoldable pub fresh : Session
@@ -35,12 +32,12 @@ fresh =
 abbrev pub placed : Session → Place → Session
 placed s place = record { place = place; opening = s.opening; sender = s.sender; receiver = s.receiver }
 
-abbrev pub yielding : Session → Yield → Taken
+abbrev pub yielding : Session → Option Outcome → Taken
 yielding s y = record { session = s; yielded = y }
 
 -- nothing comes of it
 abbrev pub quiet : Session → Place → Taken
-quiet s place = yielding (placed s place) Y.Nothing
+quiet s place = yielding (placed s place) None
 
 -- the bytes of the order that line one gave
 abbrev pub order_of : Session → List ℕ → List ℕ
@@ -48,7 +45,7 @@ order_of s order = take s.opening.kept order
 
 -- a refusal ends the run
 abbrev pub refused_at : Session → ℕ → Taken
-refused_at s n = yielding (placed s P.Over) (Y.Outcome (O.Refused n))
+refused_at s n = yielding (placed s P.Over) (Some (O.Refused n))
 
 -- ---- line one ends: both ends are opened, the sender first; a refusal ends the run
 
@@ -62,7 +59,7 @@ receiver_opened s sender (done u) =
       sender = sender;
       receiver = fresh_receiver s.opening.k (marks_of code_size);
     })
-    Y.Nothing
+    None
 
 abbrev pub sender_opened : Session → Answer Sender → Taken
 sender_opened s (refused n) = refused_at s n
@@ -89,7 +86,7 @@ period_taken s c =
       sender = c.period.sender;
       receiver = c.period.receiver;
     })
-    (Y.Outcome c.period.outcome)
+    (Some c.period.outcome)
 
 abbrev pub period_of : Session → Kind → List ℕ → List ℕ → PeriodResult
 period_of s kind order store = period kind s.sender s.receiver (order_of s order) store
@@ -98,8 +95,8 @@ period_of s kind order store = period kind s.sender s.receiver (order_of s order
 
 -- a line that begins otherwise is of another kind, which ends the run
 abbrev pub after_letter : Option Kind → Place
-after_letter none = P.Over
-after_letter (some kind) = P.Kind kind
+after_letter None = P.Over
+after_letter (Some kind) = P.Kind kind
 
 abbrev pub kind_at : ℕ → Place
 kind_at c = after_letter (letter_kind c)
@@ -108,7 +105,7 @@ abbrev pub line_one_read : Session → ℕ → ℕ → Taken
 line_one_read s c room =
     yielding
     (record { place = P.LineOne; opening = next s.opening c room; sender = s.sender; receiver = s.receiver })
-    Y.Nothing
+    None
 
 unfoldable pub takes : Session → Place → ℕ → List ℕ → List ℕ → Taken
 takes s P.LineOne c order store = cond (eqb c newline) (opens s order) (line_one_read s c (length order))
@@ -161,9 +158,9 @@ pub record End (s : Session) (order store : List ℕ) (result : Taken) (store' :
 
 -- ---- the bytes of an input and its end
 
-abbrev pub listed : Yield → List Outcome
-listed Y.Nothing = []
-listed (Y.Outcome o) = o ∷ []
+abbrev pub listed : Option Outcome → List Outcome
+listed None = []
+listed (Some o) = o ∷ []
 
 unfoldable pub yields : Session → List ℕ → List ℕ → List ℕ → List Outcome
 yields s order store [] = listed (ends s s.place order store).yielded

@@ -3,7 +3,7 @@ ghost use Rattle.std.specs.Prelude.{◌≡◌, ◌<◌, length, take};
 ghost use Rattle.crc.specs.Bits.{bits_of};
 ghost use Rattle.line.specs.Sending.{sent_answer};
 ghost use Rattle.session.specs.Period as P;
-ghost use Rattle.session.specs.Period.{Lent, reading_of, arriving, disturbed, last_event, if_used, shown_sending, line_of, heard_result, RunPeriod};
+ghost use Rattle.session.specs.Period.{Lent, reading_of, arriving, disturbed, last_event, shown_sending, line_of, heard_result, RunPeriod};
 
 use crate::shift::drop_bits;
 use block::OVERHEAD;
@@ -36,15 +36,10 @@ pub enum Block {
 }
 
 #[derive(Clone, Copy)]
-pub enum Reading {
-    Ignored,
-    Used(bool),
-}
-
-#[derive(Clone, Copy)]
 pub struct Line {
     pub block: Block,
-    pub reading: Reading,
+    // None where the sender did not use it.
+    pub reading: Option<bool>,
     // The period's last event other than none, else none.
     pub event: Event,
     // The return bit afterwards.
@@ -61,7 +56,7 @@ pub enum Outcome {
 #[derive(Clone, Copy)]
 pub enum Sending {
     Refused(u8),
-    Sent { block: Block, reading: Reading },
+    Sent { block: Block, reading: Option<bool> },
 }
 
 // How the receiving calls of a period ended.
@@ -88,9 +83,8 @@ fn reading_of(kind: Kind, back: bool) -> bool
     ensures { result ≡ reading_of kind back }
 {
     match kind {
-        Kind::Undisturbed => back,
         Kind::Turned => !back,
-        Kind::Damaged => back,
+        Kind::Undisturbed | Kind::Damaged => back,
     }
 }
 
@@ -99,24 +93,7 @@ fn last_event(last: Event, event: Event) -> Event
 {
     match event {
         Event::None => last,
-        Event::Sync => event,
-        Event::Bad(_) => event,
-        Event::Accepted => event,
-        Event::Previous => event,
-        Event::SequenceAlarm => event,
-        Event::LengthAlarm => event,
-        Event::Ended(_) => event,
-        Event::Wait => event,
-    }
-}
-
-fn shown_reading(used: bool, reading: bool) -> Reading
-    ensures { result ≡ if_used used reading }
-{
-    if used {
-        Reading::Used(reading)
-    } else {
-        Reading::Ignored
+        _ => event,
     }
 }
 
@@ -127,7 +104,7 @@ fn shown_sending(answer: Sent, reading: bool) -> Sending
         Sent::Refused(number) => Sending::Refused(number),
         Sent::Synchronising => Sending::Sent {
             block: Block::Synchronising,
-            reading: Reading::Ignored,
+            reading: None,
         },
         Sent::Item {
             number,
@@ -140,7 +117,7 @@ fn shown_sending(answer: Sent, reading: bool) -> Sending
                 end,
                 cancelled,
             },
-            reading: shown_reading(used, reading),
+            reading: used.then_some(reading),
         },
     }
 }
@@ -157,8 +134,7 @@ fn hear(receiver: Receiver, line: &mut [u8], count: usize, store: &mut [u8]) -> 
     while 0 < left {
         let step = state.receive(line, left, READY, store);
         state = step.state;
-        let answer = step.answer;
-        match answer {
+        match step.answer {
             Received::Refused(number) => {
                 return Heard {
                     receiver: state,
@@ -183,16 +159,12 @@ fn disturb(kind: Kind, line: &mut [u8])
     requires { 0 < length line.old }
     ensures { line.new ≡ disturbed kind line.old }
 {
-    match kind {
-        Kind::Undisturbed => {}
-        Kind::Turned => {}
-        Kind::Damaged => {
-            line[0] = line[0] ^ 128;
-        }
+    if matches!(kind, Kind::Damaged) {
+        line[0] ^= 128;
     }
 }
 
-fn outcome_of(block: Block, reading: Reading, back: bool, last: Last) -> Outcome
+fn outcome_of(block: Block, reading: Option<bool>, back: bool, last: Last) -> Outcome
     ensures { result ≡ line_of block reading back last }
 {
     match last {
@@ -212,7 +184,7 @@ fn heard_period(
     sender: Sender,
     receiver: Receiver,
     block: Block,
-    reading: Reading,
+    reading: Option<bool>,
     line: &mut [u8],
     count: usize,
     store: &mut [u8],
@@ -223,12 +195,10 @@ fn heard_period(
 {
     disturb(kind, line);
     let heard = hear(receiver, line, count, store);
-    let next = heard.receiver;
-    let last = heard.last;
     Period {
         sender,
-        receiver: next,
-        outcome: outcome_of(block, reading, next.back, last),
+        receiver: heard.receiver,
+        outcome: outcome_of(block, reading, heard.receiver.back, heard.last),
     }
 }
 
@@ -243,27 +213,23 @@ pub fn run_period(
     ensures { RunPeriod kind sender receiver order.now store.old result store.new }
 {
     let reading = reading_of(kind, receiver.back);
-    let setup = sender.setup;
     let mut line = [0u8; 483];
     let step = sender.send(order, reading, &mut line);
-    let next = step.state;
-    let answer = step.answer;
-    let sending = shown_sending(answer, reading);
-    match sending {
+    match shown_sending(step.answer, reading) {
         Sending::Refused(number) => Period {
-            sender: next,
+            sender: step.state,
             receiver,
             outcome: Outcome::Refused(number),
         },
         Sending::Sent { block, reading } => {
             heard_period(
                 kind,
-                next,
+                step.state,
                 receiver,
                 block,
                 reading,
                 &mut line,
-                setup.k + OVERHEAD,
+                sender.setup.k + OVERHEAD,
                 store,
             )
         }

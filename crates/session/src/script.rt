@@ -1,7 +1,7 @@
 // A session read from its input one byte at a time: line one, then a line for each period. A byte yields nothing, a refusal or
 // a period's line, as data; how it is written is for the caller.
-ghost use Rattle.std.specs.Prelude.{◌≡◌, min, length};
-ghost use Rattle.session.specs.Session.{fresh, quiet, refused_at, receiver_opened, opens, after_period, period_taken, period_of, kind_at, line_one_read, over, Take, End};
+ghost use Rattle.std.specs.Prelude.{◌≡◌, length};
+ghost use Rattle.session.specs.Session.{fresh, quiet, refused_at, receiver_opened, opens, after_period, period_taken, period_of, order_of, kind_at, line_one_read, over, Take, End};
 ghost use Rattle.session.specs.LineOne.{next_order};
 ghost use Rattle.line.specs.Receiving.{open_receiver};
 
@@ -44,21 +44,9 @@ pub struct Session {
 
 // What comes of a byte of input, or of its end.
 #[derive(Clone, Copy)]
-pub enum Yield {
-    Nothing,
-    Outcome(Outcome),
-}
-
-#[derive(Clone, Copy)]
 pub struct Taken {
     pub session: Session,
-    pub yielded: Yield,
-}
-
-pub fn least(a: usize, b: usize) -> usize
-    ensures { result ≡ min a b }
-{
-    if a < b { a } else { b }
+    pub yielded: Option<Outcome>,
 }
 
 // What the first byte of a line says.
@@ -83,11 +71,10 @@ fn after_period(outcome: Outcome) -> Place
 }
 
 impl Session {
+    #[tactic(auto, unfolding(crate::specs::Session::fresh, line::specs::Sending::fresh_sender, line::specs::Receiving::open_receiver, block::specs::Lengths::is_length))]
     pub fn new() -> Session
         ensures { result ≡ fresh }
     {
-        let opened = Receiver::open(0, CodeSize::NotGiven);
-        let receiver = opened.state;
         Session {
             place: Place::LineOne,
             opening: LineOne::new(),
@@ -106,7 +93,7 @@ impl Session {
                 next: Next::Sync,
                 finished: false,
             },
-            receiver,
+            receiver: Receiver::open(0, CodeSize::NotGiven).state,
         }
     }
 
@@ -115,8 +102,15 @@ impl Session {
     {
         Taken {
             session: Session { place, ..self },
-            yielded: Yield::Nothing,
+            yielded: None,
         }
+    }
+
+    // The bytes of the order that line one gave.
+    fn order_of<'a>(&self, order: &'a [u8]) -> &'a [u8]
+        ensures { result.now ≡ order_of self.now order.now }
+    {
+        &order[..self.opening.kept.min(order.len())]
     }
 
     // A refusal ends the run.
@@ -128,47 +122,43 @@ impl Session {
                 place: Place::Over,
                 ..self
             },
-            yielded: Yield::Outcome(Outcome::Refused(number)),
+            yielded: Some(Outcome::Refused(number)),
         }
     }
 
     fn open_receiver(self, sender: Sender) -> Taken
         ensures { result ≡ receiver_opened self sender (open_receiver self.opening.k CodeSize.NotGiven) }
     {
-        let opening = self.opening;
-        let opened = Receiver::open(opening.k, CodeSize::NotGiven);
-        let receiver = opened.state;
-        let answer = opened.answer;
-        match answer {
+        let opened = Receiver::open(self.opening.k, CodeSize::NotGiven);
+        match opened.answer {
             Opening::Refused(number) => self.refused(number),
             Opening::Opened => Taken {
                 session: Session {
                     place: Place::LineStart,
-                    opening,
                     sender,
-                    receiver,
+                    receiver: opened.state,
+                    ..self
                 },
-                yielded: Yield::Nothing,
+                yielded: None,
             },
         }
     }
 
     // Line one ends: both ends are opened, the sender first.
+    #[tactic(auto, unfolding(crate::specs::Session::opens))]
     fn open(self, order: &[u8]) -> Taken
         ensures { result ≡ opens self order.now }
     {
-        let opening = self.opening;
-        if !opening.is_readable() {
+        if !self.opening.is_readable() {
             return self.quiet(Place::Over);
         }
-        let kept = least(opening.kept, order.len());
         let opened = Sender::open(
-            opening.k,
+            self.opening.k,
             SPEED,
             LOOP_MS,
-            opening.length,
+            self.opening.length,
             CodeSize::NotGiven,
-            &order[..kept],
+            self.order_of(order),
         );
         match opened {
             Opened::Refused(number) => self.refused(number),
@@ -181,22 +171,16 @@ impl Session {
         ensures value { result ≡ period_taken self (period_of self kind order.now store.old) }
         ensures store_after { store.new ≡ (period_of self kind order.now store.old).store }
     {
-        let opening = self.opening;
-        let kept = least(opening.kept, order.len());
-        let sender = self.sender;
-        let receiver = self.receiver;
-        let period = run_period(kind, sender, receiver, &order[..kept], store);
-        let sender = period.sender;
-        let receiver = period.receiver;
-        let outcome = period.outcome;
+        let lent = self.order_of(order);
+        let period = run_period(kind, self.sender, self.receiver, lent, store);
         Taken {
             session: Session {
-                place: after_period(outcome),
-                opening,
-                sender,
-                receiver,
+                place: after_period(period.outcome),
+                sender: period.sender,
+                receiver: period.receiver,
+                ..self
             },
-            yielded: Yield::Outcome(outcome),
+            yielded: Some(period.outcome),
         }
     }
 
@@ -204,24 +188,22 @@ impl Session {
         ensures value { result ≡ line_one_read self c (length order.old) }
         ensures order_after { order.new ≡ next_order self.opening self.opening.place c order.old }
     {
-        let opening = self.opening;
-        let opening = opening.read(c, order);
         Taken {
             session: Session {
                 place: Place::LineOne,
-                opening,
+                opening: self.opening.read(c, order),
                 ..self
             },
-            yielded: Yield::Nothing,
+            yielded: None,
         }
     }
 
     // What a byte of input brings: the session after it and what it yields.
+    #[tactic(auto, unfolding(crate::specs::Session::takes, crate::specs::Session::takes_order, crate::specs::Session::takes_store))]
     pub fn read(self, c: u8, order: &mut [u8], store: &mut [u8]) -> Taken
         ensures { Take self c order.old store.old result order.new store.new }
     {
-        let place = self.place;
-        match place {
+        match self.place {
             Place::LineOne => {
                 if c == b'\n' {
                     return self.open(order);
@@ -240,11 +222,11 @@ impl Session {
     }
 
     // What the end of the input brings: a last line with no newline counts.
+    #[tactic(auto, unfolding(crate::specs::Session::ends, crate::specs::Session::ends_store))]
     pub fn end(self, order: &[u8], store: &mut [u8]) -> Taken
         ensures { End self order.now store.old result store.new }
     {
-        let place = self.place;
-        match place {
+        match self.place {
             Place::LineOne => self.open(order),
             Place::LineStart => self.quiet(Place::Over),
             Place::Kind(kind) => self.line(kind, order, store),
@@ -255,12 +237,6 @@ impl Session {
     pub fn is_over(self) -> bool
         ensures { result ≡ over self.place }
     {
-        let place = self.place;
-        match place {
-            Place::LineOne => false,
-            Place::LineStart => false,
-            Place::Kind(_) => false,
-            Place::Over => true,
-        }
+        matches!(self.place, Place::Over)
     }
 }

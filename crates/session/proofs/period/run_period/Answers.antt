@@ -11,13 +11,13 @@ block-sent : (c : In-Sent)
     → let a = c.args in
     let r = c.reading_of-reading in
     let w = c.send-step in
-    let g = c.shown_sending-sending in
+    let g = c.shown_sending in
     BlockSent a.kind a.sender a.receiver a.order.now a.store.now r.result w.result w.new.block
     g.result r.ensures w.ensures g.ensures c.in-Sent.block c.in-Sent.reading
 block-sent c = sent _ _ _ _ _ _ _ _ _ _ _ _ _ _ c.in-Sent.is
 
-pub overflow_add-setup : goal.overflow_add-setup
-overflow_add-setup c = let g = block-sent (goal.at.overflow_add-setup c).In-Sent in omega (arith, g.count)
+pub overflow_add-sender : goal.overflow_add-sender
+overflow_add-sender c = let g = block-sent (goal.at.overflow_add-sender c).In-Sent in omega (arith, g.count)
 
 pub heard_period-requires : goal.heard_period-requires
 heard_period-requires c = let g = block-sent (goal.at.heard_period-requires c).In-Sent in (g.lent, omega arith)
@@ -26,7 +26,7 @@ pub returns-in-Refused : goal.returns-in-Refused
 returns-in-Refused c = let a = c.args in
     let r = c.reading_of-reading in
     let w = c.send-step in
-    let g = c.shown_sending-sending in
+    let g = c.shown_sending in
     let m =
     not-sent a.kind a.sender a.receiver a.order.now a.store.now r.result w.result w.new.block
     g.result r.ensures w.ensures g.ensures _ c.in-Refused.is in
