@@ -117,7 +117,7 @@ pub fn refused_text(number: u8) -> Text
     let mut text = Text::new();
     text.append(b"refused ");
     text.decimal(number as u64);
-    text.push(b'\n');
+    text.append(b"\n");
     text
 }
 

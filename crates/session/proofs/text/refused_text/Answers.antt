@@ -20,10 +20,10 @@ worded c = c.append.ensures.len ∙ ap (λ (t : Text). t.len + 8) c.new-text.ens
 pub decimal-requires : goal.decimal-requires
 decimal-requires c = omega (arith, worded (goal.at.decimal-requires c).After-append, length-decimal 19 c.args.number (omega arith))
 
-pub push-requires : goal.push-requires
-push-requires c = omega (
+pub append-requires-2 : goal.append-requires-2
+append-requires-2 c = omega (
   arith,
-  worded (goal.at.push-requires c).After-append,
+  worded (goal.at.append-requires-2 c).After-append,
   c.decimal.ensures.len,
   length-decimal 19 c.args.number (omega arith),
 )
@@ -32,5 +32,5 @@ pub returns : goal.returns
 unfolding refused_text
 returns c = let w : Appends empty_text (ascii "refused ") c.append.new.self =
     rw c.new-text.ensures at c.append.ensures in
-    appends_all (refused_text c.args.number) c.push.new.self
-    (appends_next _ _ _ _ (appends_next _ _ _ _ w c.decimal.ensures) c.push.ensures)
+    appends_all (refused_text c.args.number) c.append-2.new.self
+    (appends_next _ _ _ _ (appends_next _ _ _ _ w c.decimal.ensures) c.append-2.ensures)
