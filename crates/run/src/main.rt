@@ -2,15 +2,13 @@
 // `session`. It has no exit status of its own: whatever it wrote, it ends with 0, unless a read or a write fails.
 #![tactic(auto)]
 
-ghost use Rattle.std.specs.Prelude.{◌≡◌, List, ℕ, ◌≤◌, length, IfOk};
+ghost use Rattle.std.specs.Prelude.{◌≡◌, List, ℕ, IfOk};
 ghost use Rattle.session.specs.Program.{turn};
 
 use session::program::{PART_BYTES, Program, Turn};
 use std::io::{self, Read, Write};
 
-fn write(rt: &HostRuntime, turn: Turn) -> io::Result<()>
-    requires { turn.output.len ≤ length turn.output.bytes }
-{
+fn write(rt: &HostRuntime, turn: &Turn) -> io::Result<()> {
     io::writer(rt).write_all(turn.output.as_slice())
 }
 
@@ -26,13 +24,13 @@ fn read(rt: &HostRuntime, program: Program) -> io::Result<Turn>
 // A proved loop has to end, and nothing says that the input does: no run uses up so many reads.
 fn main(rt: HostRuntime) -> io::Result<()> {
     let mut turn = Program::start();
-    write(&rt, turn)?;
+    write(&rt, &turn)?;
     for _ in 0..u64::MAX {
         if turn.over {
             break;
         }
         turn = read(&rt, turn.program)?;
-        write(&rt, turn)?;
+        write(&rt, &turn)?;
     }
     Ok(())
 }

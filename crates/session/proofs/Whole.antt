@@ -12,10 +12,10 @@ use Rattle.block.proofs.Truth.{either}
 use Rattle.std.specs.Prelude.{Option, Some, None}
 use Rattle.session.specs.Buffer.{held}
 use Rattle.session.specs.Program.{keeping, at_start, yield_text, number_after, byte_taken, after_byte, after_bytes, bytes_text, end_text, output_room, output_of, turn_to, turn, outputs, input_of, Whole}
+use Rattle.session.specs.Period.{Outcome}
 use Rattle.session.specs.Run.{rendered, run_text}
 use Rattle.session.specs.Session.{placed, takes, takes_order, takes_store, ends, over, listed, yields, ByBytes}
 use Rattle.session.specs.Text.{heading, outcome_text}
-use Rattle.session.specs.declared.period.Outcome.{Outcome}
 use Rattle.session.specs.declared.program.Program.{Program}
 use Rattle.session.specs.declared.program.Turn.{Turn}
 use Rattle.session.specs.declared.script.Place.{Place}

@@ -4,15 +4,14 @@ use Rattle.std.specs.Prelude.{◌≡◌, cond, List, [], ◌∷◌, ◌++◌, �
 use Rattle.session.specs.Buffer.{held, filled}
 use Rattle.session.specs.Outcomes.{order_room, store_room}
 use Rattle.session.specs.Run.{run_text}
-use Rattle.session.specs.Session.{placed, fresh, takes, takes_order, takes_store, ends, ends_store, over}
+use Rattle.session.specs.Period.{Outcome}
+use Rattle.session.specs.Session.{After, placed, fresh, takes, takes_order, takes_store, ends, ends_store, over}
 use Rattle.session.specs.Text.{room, heading, outcome_text}
 use Rattle.session.specs.declared.buffer.Buffer.{Buffer}
-use Rattle.session.specs.declared.period.Outcome.{Outcome}
 use Rattle.session.specs.declared.program.Program.{Program}
 use Rattle.session.specs.declared.program.Turn.{Turn}
 use Rattle.session.specs.declared.script.Place.TheVariants as P
 use Rattle.session.specs.declared.script.Session.{Session}
-use Rattle.session.specs.declared.script.Taken.{Taken}
 
 -- the most bytes of a part, which is what one read of the input brings; a byte brings a text at most
 abbrev pub part_room : ℕ
@@ -45,7 +44,7 @@ number_after n (Some o) = counted n
 
 -- ---- the bytes of a part
 
-abbrev pub byte_taken : Program → ℕ → Taken
+abbrev pub byte_taken : Program → ℕ → After
 byte_taken p c = takes p.session p.session.place c p.order p.store
 
 abbrev pub after_byte : Program → ℕ → Program
@@ -64,7 +63,7 @@ bytes_text p (c ∷ cs) = yield_text p.number (byte_taken p c).yielded ++ bytes_
 
 -- ---- the end of the input, after which nothing more is read
 
-abbrev pub end_taken : Program → Taken
+abbrev pub end_taken : Program → After
 end_taken p = ends p.session p.session.place p.order p.store
 
 abbrev pub end_text : Program → List ℕ

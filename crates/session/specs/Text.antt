@@ -4,13 +4,13 @@ use Prim.Native.Char.{code}
 use Prim.Native.String as S
 use Rattle.line.specs.declared.receiving.Event.{Event}
 use Rattle.line.specs.declared.receiving.Event.TheVariants as E
+use Rattle.block.specs.Answer.{refused, done}
 use Rattle.session.specs.Buffer.{held, empty, filled}
+use Rattle.session.specs.Period.{Outcome}
 use Rattle.session.specs.declared.buffer.Buffer.{Buffer}
 use Rattle.session.specs.declared.period.Block.{Block}
 use Rattle.session.specs.declared.period.Block.TheVariants as B
 use Rattle.session.specs.declared.period.Line.{Line}
-use Rattle.session.specs.declared.period.Outcome.{Outcome}
-use Rattle.session.specs.declared.period.Outcome.TheVariants as O
 
 -- the bytes of a text array
 abbrev pub room : ℕ
@@ -91,9 +91,9 @@ refused_text n = ascii "refused " ++ decimal n ++ ascii "\n"
 -- period, sent, read, event and back, a blank between two
 unfoldable pub line_text : ℕ → Line → List ℕ
 line_text period l =
-    decimal period ++ ascii " " ++ block_text l.block ++ ascii " " ++ reading_text l.reading ++ ascii " "
+    decimal period ++ ascii " " ++ block_text l.sent.block ++ ascii " " ++ reading_text l.sent.reading ++ ascii " "
     ++ event_text l.event ++ ascii " " ++ bit_text l.back ++ ascii "\n"
 
 abbrev pub outcome_text : ℕ → Outcome → List ℕ
-outcome_text period (O.Refused n) = refused_text n
-outcome_text period (O.Line l) = line_text period l
+outcome_text period (refused n) = refused_text n
+outcome_text period (done l) = line_text period l

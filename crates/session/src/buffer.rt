@@ -20,10 +20,9 @@ impl<const N: usize> Buffer<N> {
 
     // The bytes held.
     pub fn as_slice(&self) -> &[u8]
-        requires { self.now.len ≤ N }
         ensures { result.now ≡ held self.now }
     {
-        &self.bytes[..self.len]
+        &self.bytes[..self.len.min(N)]
     }
 
     pub(crate) fn push(&mut self, byte: u8)

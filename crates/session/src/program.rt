@@ -2,6 +2,7 @@
 // alone: a caller reads the parts, writes the outputs and decides nothing.
 ghost use Rattle.std.specs.Prelude.{◌≡◌, ◌+◌, ◌*◌, ◌≤◌, length, take};
 ghost use Rattle.session.specs.Buffer.{Appends};
+ghost use Rattle.session.specs.Session.{yielded_answer};
 ghost use Rattle.session.specs.Text.{room};
 ghost use Rattle.session.specs.Program.{output_room, yield_text, number_after, byte_taken, after_byte, after_bytes, bytes_text, end_text, after_end, first_turn, turn};
 
@@ -37,7 +38,7 @@ pub struct Turn {
 }
 
 fn number_after(number: u64, yielded: Option<Outcome>) -> u64
-    ensures { result ≡ number_after number yielded }
+    ensures { result ≡ number_after number (yielded_answer yielded) }
 {
     match yielded {
         Some(_) => number.saturating_add(1),
@@ -47,8 +48,8 @@ fn number_after(number: u64, yielded: Option<Outcome>) -> u64
 
 fn put_yield(number: u64, yielded: Option<Outcome>, output: &mut Output)
     requires { output.old.len + room ≤ output_room }
-    ensures fits { length (yield_text number yielded) ≤ room }
-    ensures appends { Appends output.old (yield_text number yielded) output.new }
+    ensures fits { length (yield_text number (yielded_answer yielded)) ≤ room }
+    ensures appends { Appends output.old (yield_text number (yielded_answer yielded)) output.new }
 {
     if let Some(outcome) = yielded {
         output.append(outcome_text(number, outcome).as_slice());

@@ -1,10 +1,13 @@
 // What the run program writes, each text in fixed memory.
 ghost use Rattle.std.specs.Prelude.{◌≡◌, ◌+◌, ◌<◌, ◌≤◌, length};
+ghost use Rattle.line.specs.Refusals.{refusal_number};
 ghost use Rattle.session.specs.Buffer.{Appends};
+ghost use Rattle.session.specs.Period.{answer_of};
 ghost use Rattle.session.specs.Text.{decimal, bit_text, block_text, mark_text, item_text, reading_text, event_text, holding, heading, refused_text, line_text, outcome_text};
 
 use crate::buffer::Buffer;
 use crate::period::{Block, Line, Outcome};
+use line::Refusal;
 use line::receiving::Event;
 
 // The longest line has 62 bytes.
@@ -111,12 +114,12 @@ pub fn heading_text() -> Text
     text
 }
 
-pub fn refused_text(number: u8) -> Text
-    ensures { result ≡ holding (refused_text number) }
+pub fn refused_text(refusal: Refusal) -> Text
+    ensures { result ≡ holding (refused_text (refusal_number refusal)) }
 {
     let mut text = Text::new();
     text.append(b"refused ");
-    text.decimal(number as u64);
+    text.decimal(u64::from(u8::from(refusal)));
     text.append(b"\n");
     text
 }
@@ -127,9 +130,9 @@ pub fn line_text(period: u64, line: Line) -> Text
     let mut text = Text::new();
     text.decimal(period);
     text.push(b' ');
-    text.block(line.block);
+    text.block(line.sent.block);
     text.push(b' ');
-    text.reading(line.reading);
+    text.reading(line.sent.reading);
     text.push(b' ');
     text.event(line.event);
     text.push(b' ');
@@ -140,10 +143,10 @@ pub fn line_text(period: u64, line: Line) -> Text
 
 // What is written of a period: its line, or the refusal that ends the run.
 pub fn outcome_text(period: u64, outcome: Outcome) -> Text
-    ensures { result ≡ holding (outcome_text period outcome) }
+    ensures { result ≡ holding (outcome_text period (answer_of outcome)) }
 {
     match outcome {
-        Outcome::Refused(number) => refused_text(number),
-        Outcome::Line(line) => line_text(period, line),
+        Ok(line) => line_text(period, line),
+        Err(refusal) => refused_text(refusal),
     }
 }

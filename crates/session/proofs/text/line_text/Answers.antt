@@ -70,7 +70,7 @@ unfolding line_text
 returns c = let l = c.args.line in
     let period : Appends empty_text (decimal c.args.period) c.decimal.new.self =
     rw c.new-text.ensures at c.decimal.ensures in
-    let sent : Appends empty_text (decimal c.args.period ++ ascii " " ++ block_text l.block) c.block.new.self =
+    let sent : Appends empty_text (decimal c.args.period ++ ascii " " ++ block_text l.sent.block) c.block.new.self =
     appends_next _ _ _ _ (appends_next _ _ _ _ period c.push.ensures) c.block.ensures.appends in
     let read = appends_next _ _ _ _ (appends_next _ _ _ _ sent c.push-2.ensures) c.reading.ensures.appends in
     let heard = appends_next _ _ _ _ (appends_next _ _ _ _ read c.push-3.ensures) c.event.ensures.appends in
