@@ -2,19 +2,14 @@
 // `session`. It has no exit status of its own: whatever it wrote, it ends with 0, unless a read or a write fails.
 #![tactic(auto)]
 
-ghost use Rattle.std.specs.Prelude.{◌≡◌, List, ℕ, ◌≤◌, length, IfOk};
+ghost use Rattle.std.specs.Prelude.{◌≡◌, List, ℕ, IfOk};
 ghost use Rattle.session.specs.Program.{turn};
 
 use session::program::{PART_BYTES, Program, Turn};
 use std::io::{self, Read, Write};
 
-fn write(rt: &HostRuntime, turn: Turn) -> io::Result<()>
-    requires { turn.output.len ≤ length turn.output.bytes }
-{
-    let output = turn.output;
-    let bytes = output.bytes;
-    let len = output.len;
-    io::writer(rt).write_all(&bytes[..len])
+fn write(rt: &HostRuntime, turn: &Turn) -> io::Result<()> {
+    io::writer(rt).write_all(turn.output.as_slice())
 }
 
 // The turn of some bytes: no contract can say that they are the input's.
@@ -26,17 +21,16 @@ fn read(rt: &HostRuntime, program: Program) -> io::Result<Turn>
     Ok(program.read(&part, count))
 }
 
-// A proved loop has to end, and nothing says that the input does: the reads are counted down from a number that no run
-// uses up.
+// A proved loop has to end, and nothing says that the input does: no run uses up so many reads.
 fn main(rt: HostRuntime) -> io::Result<()> {
     let mut turn = Program::start();
-    write(&rt, turn)?;
-    let mut reads = u64::MAX;
-    while reads > 0 && !turn.over {
-        let program = turn.program;
-        turn = read(&rt, program)?;
-        write(&rt, turn)?;
-        reads -= 1;
+    write(&rt, &turn)?;
+    for _ in 0..u64::MAX {
+        if turn.over {
+            break;
+        }
+        turn = read(&rt, turn.program)?;
+        write(&rt, &turn)?;
     }
     Ok(())
 }

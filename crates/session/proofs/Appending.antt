@@ -1,4 +1,4 @@
--- Laws of a text with bytes behind it: none, one, and some behind others. Assumes nothing.
+-- Laws of a buffer with bytes behind it: none, one, and some behind others. Assumes nothing.
 use mathlib.Core.Path.{◌≡◌, sym, ap, ap₂, ◌∙◌}
 use mathlib.Core.List.{List, [], ◌∷◌, ◌++◌, append_assoc}
 use Prim.Native.Nat.{ℕ, ◌+◌, ◌≤◌, ◌<◌}
@@ -7,8 +7,8 @@ use native.Mathlib.Numerals.{add-one}
 use native.Mathlib.Omega.{arith}
 use lib.ListN.{length, take, drop, set, length-append, take-append-drop, replicate}
 use lib.Seq.{take_at, drop-append-add, drop-drop, length-take-le, set_split}
-use Rattle.session.specs.Text.{Appends, empty_text, holding, room}
-use Rattle.session.specs.declared.text.Text.{Text}
+use Rattle.session.specs.Buffer.{empty, filled, Appends}
+use Rattle.session.specs.declared.buffer.Buffer.{Buffer}
 
 -- bytes over those of a list from a place on
 abbrev over : List ℕ → ℕ → List ℕ → List ℕ
@@ -30,10 +30,10 @@ over-over s a b at h =
     rw (← append_assoc) (ap (λ (m : ℕ). drop (m + length b) ((T ++ a) ++ D)) (sym n) ∙ drop-append-add (T ++ a) D (length b) ∙ drop-drop (length b) (at + length a) s) in
     rw (t, d) (simp (append_assoc, length-append, add_assoc))
 
-pub appends_none : (t : Text) → Appends t [] t
+pub appends_none : {N : ℕ} (t : Buffer N) → Appends t [] t
 appends_none t = record { bytes = over_none t.bytes t.len; len = sym (add-zero t.len) }
 
-pub appends_more : (t r s : Text) (a b : List ℕ) → t.len ≤ length t.bytes → Appends t a r → Appends r b s → Appends t (a ++ b) s
+pub appends_more : {N : ℕ} (t r s : Buffer N) (a b : List ℕ) → t.len ≤ length t.bytes → Appends t a r → Appends r b s → Appends t (a ++ b) s
 appends_more t r s a b h x y =
     record {
       bytes =
@@ -42,15 +42,15 @@ appends_more t r s a b h x y =
       len = y.len ∙ rw (x.len, length-append) (add_assoc t.len (length a) (length b));
     }
 
--- what is appended to the empty text is all that the text holds
-pub appends_all : (s : List ℕ) (r : Text) → Appends empty_text s r → r ≡ holding s
-appends_all s r x =
+-- what is appended to the empty buffer is all that the buffer holds
+pub appends_all : {N : ℕ} (s : List ℕ) (r : Buffer N) → Appends (empty N) s r → r ≡ filled N s
+appends_all {N} s r x =
     let z : 0 + length s ≡ length s = zero-add (length s) in
-    let b : r.bytes ≡ s ++ drop (length s) (replicate room 0) = rw z at x.bytes in
+    let b : r.bytes ≡ s ++ drop (length s) (replicate N 0) = rw z at x.bytes in
     ap₂ (λ (l : List ℕ) (n : ℕ). the (record { bytes = l; len = n })) b (x.len ∙ z)
   where
-    the : Text → Text
+    the : Buffer N → Buffer N
     the t = t
 
-pub appends_next : (r s : Text) (a b : List ℕ) → Appends empty_text a r → Appends r b s → Appends empty_text (a ++ b) s
-appends_next r s a b x y = appends_more empty_text r s a b (omega arith) x y
+pub appends_next : {N : ℕ} (r s : Buffer N) (a b : List ℕ) → Appends (empty N) a r → Appends r b s → Appends (empty N) (a ++ b) s
+appends_next {N} r s a b x y = appends_more (empty N) r s a b (omega arith) x y

@@ -1,5 +1,5 @@
 -- Laws of decimal digits: one digit, one digit behind others, and how many there are. Assumes nothing.
-use mathlib.Core.Path.{◌≡◌, refl, ap}
+use mathlib.Core.Path.{◌≡◌, refl, ap, ◌∙◌}
 use mathlib.Core.Bool.{Bool, true, false}
 use mathlib.Core.List.{List, [], ◌∷◌, ◌++◌}
 use mathlib.Core.Logic.{⊎_elim, ◌⊎◌, inl, inr}
@@ -34,6 +34,9 @@ unfolding decimal
 decimal_more n h =
     rw (le-ltb n 10 h)
     (ap (λ (l : List ℕ). l ++ ((48 + n % 10) ∷ [])) (decimal-places n (suc (n / 10)) (n / 10) (omega arith) (omega arith)))
+
+pub longer_decimal : (n : ℕ) → 10 ≤ n → length (decimal n) ≡ length (decimal (n / 10)) + 1
+longer_decimal n h = ap length (decimal_more n h) ∙ length-append (decimal (n / 10)) ((48 + n % 10) ∷ [])
 
 pub length-decimal : (p n : ℕ) → n < 10 ^ suc p → length (decimal n) ≤ suc p
 length-decimal zero n h = rw (decimal_one n h) (omega arith)

@@ -28,8 +28,6 @@ use Rattle.line.proofs.ReceivingCall.{InRange, range_in, reception-some}
 use Rattle.line.proofs.TakenBlock.{received_takes}
 use Rattle.session.specs.Period.{line_bytes, last_event, ready, Hearing, hearing, answered, hear}
 use Rattle.session.specs.LastEvent.{answered_events, heard_events, last_of, how_many}
-use Rattle.session.specs.declared.period.Last.{Last}
-use Rattle.session.specs.declared.period.Last.TheVariants as L
 use Rattle.session.proofs.ReceivingCalls.{held_bits_lem}
 use Rattle.session.proofs.Uses.{receive_uses}
 
@@ -76,9 +74,9 @@ module _ (s : Receiver) (bits : Bits) (q : Quiet s bits) where
 -- ---- what holds of every call holds of all
 
 module _ (Q : Receiver → Bits → Event → List Event → Hearing → Type 0)
-    (over : (s : Receiver) (bits : Bits) (store : List ℕ) (last : Event) → Q s bits last [] (hearing s (L.Event last) store))
+    (over : (s : Receiver) (bits : Bits) (store : List ℕ) (last : Event) → Q s bits last [] (hearing s (done last) store))
     (refuses : (s : Receiver) (bits : Bits) (store : List ℕ) (last : Event) (n : ℕ) → 0 < length bits → call s bits store ≡ refused n
-    → Q s bits last [] (hearing s (L.Refused n) store))
+    → Q s bits last [] (hearing s (refused n) store))
     (goes_on : (s : Receiver) (bits : Bits) (store : List ℕ) (last : Event) (x : Reception) (events : List Event) (h : Hearing) → 0 < length bits
     → call s bits store ≡ done x → Q x.state (drop x.used bits) (last_event last (meaning x.rule).event) events h
     → Q s bits last ((meaning x.rule).event ∷ events) h) where
@@ -116,9 +114,9 @@ takes_last last E.LengthAlarm h = refl
 takes_last last (E.Ended L) h = refl
 takes_last last E.Wait h = refl
 
-abbrev pub last_events : Last → List Event
-last_events (L.Refused n) = []
-last_events (L.Event e) = e ∷ []
+abbrev pub last_events : Answer Event → List Event
+last_events (refused n) = []
+last_events (done e) = e ∷ []
 
 one_more_lem : (b t : Bool) (n : ℕ) → t ≡ leb 1 n → b || t ≡ leb 1 (bit b + n)
 one_more_lem true t n e = sym (le-leb 1 (1 + n) (omega arith))
@@ -154,23 +152,23 @@ module _ (p : Event → Bool) (only : (e : Event) → p e ≡ true → takes_blo
 -- ---- the calls of a period
 
 pub record Told (s : Receiver) (bits : Bits) (last : Event) (events : List Event) (h : Hearing) : Type 0 where
-  pub setup : h.heard.receiver.setup ≡ s.setup
-  pub taken : h.heard.receiver.taken ≡ s.taken + how_many is_accepted events
-  pub ended : h.heard.receiver.ended ≡ s.ended || some is_ended events
-  pub shown : (e : Event) → h.heard.last ≡ L.Event e → e ≡ last_of last events
+  pub setup : h.receiver.setup ≡ s.setup
+  pub taken : h.receiver.taken ≡ s.taken + how_many is_accepted events
+  pub ended : h.receiver.ended ≡ s.ended || some is_ended events
+  pub shown : (e : Event) → h.last ≡ done e → e ≡ last_of last events
   -- bits that complete no block bring no event and no refusal
-  pub quiet : Quiet s bits → All IsNone events × (h.heard.last ≡ L.Event last)
+  pub quiet : Quiet s bits → All IsNone events × (h.last ≡ done last)
   -- of bits that are one block at most, an event that takes a block is the last but none, and so is told
   pub last_taken : length bits ≤ block_length s.setup.k → (before : List Event) (e : Event) (after : List Event)
-      → events ≡ before ++ (e ∷ after) → takes_block e ≡ true → All IsNone after × (h.heard.last ≡ L.Event e)
+      → events ≡ before ++ (e ∷ after) → takes_block e ≡ true → All IsNone after × (h.last ≡ done e)
   pub number : length bits ≤ block_length s.setup.k → (p : Event → Bool) → ((e : Event) → p e ≡ true → takes_block e ≡ true) → p last ≡ false
-      → how_many p events ≡ how_many p (last_events h.heard.last)
+      → how_many p events ≡ how_many p (last_events h.last)
 
 pub no_event : (before : List Event) (e : Event) (after : List Event) → [] ≡ before ++ (e ∷ after) → ⊥
 no_event [] e after h = let z : ◌≡◌ {A = ℕ} 0 1 = cc in omega arith
 no_event (b ∷ before) e after h = let z : ◌≡◌ {A = ℕ} 0 1 = cc in omega arith
 
-over_told : (s : Receiver) (bits : Bits) (store : List ℕ) (last : Event) → Told s bits last [] (hearing s (L.Event last) store)
+over_told : (s : Receiver) (bits : Bits) (store : List ℕ) (last : Event) → Told s bits last [] (hearing s (done last) store)
 over_told s bits store last =
     record {
       setup = refl;
@@ -183,7 +181,7 @@ over_told s bits store last =
     }
 
 refused_told : (s : Receiver) (bits : Bits) (store : List ℕ) (last : Event) (n : ℕ) → 0 < length bits → call s bits store ≡ refused n
-    → Told s bits last [] (hearing s (L.Refused n) store)
+    → Told s bits last [] (hearing s (refused n) store)
 refused_told s bits store last n h r =
     record {
       setup = refl;
@@ -225,16 +223,16 @@ module _ (s : Receiver) (bits : Bits) (store : List ℕ) (last : Event) (x : Rec
 
     module _ (t : Told x.state left (last_event last event) events h) where
       last_taken_after : (before : List Event) (e : Event) (after : List Event) → event ∷ events ≡ before ++ (e ∷ after) → takes_block e ≡ true
-          → All IsNone after × (h.heard.last ≡ L.Event e)
+          → All IsNone after × (h.last ≡ done e)
       last_taken_after [] e after r w =
           let same : event ≡ e = cc in
           let rest : events ≡ after = cc in
           let q = t.quiet (quiet-after (ap takes_block same ∙ w)) in
-          (subst (All IsNone) rest q.0, q.1 ∙ ap L.Event (ap (last_event last) same ∙ takes_last last e w))
+          (subst (All IsNone) rest q.0, q.1 ∙ ap done (ap (last_event last) same ∙ takes_last last e w))
       last_taken_after (b ∷ before) e after r w = t.last_taken fits_next before e after (cc) w
 
       number-after : (p : Event → Bool) → ((e : Event) → p e ≡ true → takes_block e ≡ true) → p last ≡ false
-          → how_many p (event ∷ events) ≡ how_many p (last_events h.heard.last)
+          → how_many p (event ∷ events) ≡ how_many p (last_events h.last)
       number-after p only f =
           ⊎_elim
           (λ y.
@@ -244,13 +242,13 @@ module _ (s : Receiver) (bits : Bits) (store : List ℕ) (last : Event) (x : Rec
           (λ n. rw n (omega (arith, t.number fits_next p only (last_not p only last event f n)))) (either (p event))
 
   quiet_told : Told x.state left (last_event last event) events h → Quiet s bits
-      → All IsNone (event ∷ events) × (h.heard.last ≡ L.Event last)
+      → All IsNone (event ∷ events) × (h.last ≡ done last)
   quiet_told t q =
       let same : x ≡ held_on s bits = cc (quiet-call s bits q store some_left) in
       let none : event ≡ E.None = ap (λ (y : Reception). (meaning y.rule).event) same in
       let next : Quiet x.state left = subst (λ (y : Reception). Quiet y.state (drop y.used bits)) (sym same) (quiet_next s bits q) in
       let r = t.quiet next in
-      ((none, r.0), r.1 ∙ ap (λ (e : Event). L.Event (last_event last e)) none)
+      ((none, r.0), r.1 ∙ ap (λ (e : Event). done (last_event last e)) none)
 
   goes_on_told : Told x.state left (last_event last event) events h → Told s bits last (event ∷ events) h
   goes_on_told t =

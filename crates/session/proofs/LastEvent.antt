@@ -16,15 +16,11 @@ use Rattle.line.specs.declared.sender.Sender.{Sender}
 use Rattle.line.specs.declared.receiver.Receiver.{Receiver}
 use Rattle.line.specs.declared.receiving.Event.{Event}
 use Rattle.line.specs.declared.receiving.Event.TheVariants as E
-use Rattle.session.specs.Period.{reading_of, arriving, line_bytes, hear, shown_block, shown_reading, line_of, sent_result, period}
+use Rattle.session.specs.Period.{reading_of, arriving, line_bytes, hear, as_shown, line_of, sent_result, period}
 use Rattle.session.specs.LastEvent.{heard_events, sent_events, period_events, how_many, last_of, shown_events, Tells, LastEvent}
-use Rattle.session.specs.declared.period.Block as B
 use Rattle.session.specs.declared.period.Kind.{Kind}
-use Rattle.session.specs.declared.period.Last.{Last}
-use Rattle.session.specs.declared.period.Last.TheVariants as L
 use Rattle.session.specs.declared.period.Line.{Line}
-use Rattle.session.specs.declared.period.Outcome.TheVariants as O
-use Rattle.session.specs.declared.period.Reading as R
+use Rattle.session.specs.declared.period.Shown.{Shown}
 use Rattle.session.proofs.HeardEvents.{last_events, some_same, not_none, no_event, Told, told}
 use Rattle.session.proofs.ReceivingCalls.{length-arriving}
 use Rattle.session.proofs.Sent.{on_line}
@@ -37,16 +33,16 @@ only_ended e h = rw h (or_yes (is_accepted e))
 
 -- ---- the line of what was heard
 
-module _ (block : B.Block) (reading : R.Reading) (back : Bool) where
-  shown_last : (w : Last) → shown_events (line_of block reading back w) ≡ last_events w
-  shown_last (L.Refused n) = refl
-  shown_last (L.Event e) = refl
+module _ (sent : Shown) (back : Bool) where
+  shown_last : (w : Answer Event) → shown_events (line_of sent back w) ≡ last_events w
+  shown_last (refused n) = refl
+  shown_last (done e) = refl
 
-  line_event : (w : Last) (l : Line) → line_of block reading back w ≡ O.Line l → w ≡ L.Event l.event
-  line_event (L.Refused n) l h = absurd (let z : ◌≡◌ {A = ℕ} 0 1 = cc in omega arith)
-  line_event (L.Event e) l h =
-      let same : record { block = block; reading = reading; event = e; back = back } ≡ l = cc in
-      ap (λ (x : Line). L.Event x.event) same
+  line_event : (w : Answer Event) (l : Line) → line_of sent back w ≡ done l → w ≡ done l.event
+  line_event (refused n) l h = absurd (let z : ◌≡◌ {A = ℕ} 0 1 = cc in omega arith)
+  line_event (done e) l h =
+      let same : record { sent = sent; event = e; back = back } ≡ l = cc in
+      ap (λ (x : Line). done x.event) same
 
 -- ---- by the answer to the sending call
 
@@ -64,7 +60,7 @@ module _ (kind : Kind) (s : Sender) (r : Receiver) (reading : Bool) (order store
     fits e same = omega (arith, length-arriving kind bits, (on_line s order reading b e).count, ap block_length same)
 
   sent_tells : (a : Answer Block) → send s order reading (replicate line_bytes 0) ≡ a → s.setup.k ≡ r.setup.k
-      → Tells r (sent_events kind s r order store a) (sent_result kind s r reading order store a).period
+      → Tells r (sent_events kind s r order store a) (sent_result kind s r reading order store a)
   sent_tells (refused n) e same =
       record {
         last = λ before ev after h w. absurd (no_event before ev after h);
@@ -74,10 +70,10 @@ module _ (kind : Kind) (s : Sender) (r : Receiver) (reading : Bool) (order store
       }
   sent_tells (done b) e same =
       let t = sent_told b in
-      let h = (hear (length (bits b)) r (arriving kind (bits b)) store E.None).heard in
+      let h = hear (length (bits b)) r (arriving kind (bits b)) store E.None in
       let events = heard_events (length (bits b)) r (arriving kind (bits b)) store in
-      let outcome = line_of (shown_block b) (shown_reading b reading) h.receiver.back h.last in
-      let shown : shown_events outcome ≡ last_events h.last = shown_last (shown_block b) (shown_reading b reading) h.receiver.back h.last in
+      let outcome = line_of (as_shown b reading) h.receiver.back h.last in
+      let shown : shown_events outcome ≡ last_events h.last = shown_last (as_shown b reading) h.receiver.back h.last in
       let told_number : (p : Event → Bool) → ((ev : Event) → p ev ≡ true → takes_block ev ≡ true) → how_many p events ≡ how_many p (shown_events outcome) =
       λ p only. t.number (fits b e same) p only (not_none p only) ∙ ap (how_many p) (sym shown) in
       record {
@@ -87,12 +83,12 @@ module _ (kind : Kind) (s : Sender) (r : Receiver) (reading : Bool) (order store
         ended = t.ended ∙ ap (λ (x : Bool). r.ended || x) (some_same is_ended events (shown_events outcome) (told_number is_ended only_ended));
       }
 
-  sent_shows : (a : Answer Block) (l : Line) → (sent_result kind s r reading order store a).period.outcome ≡ O.Line l
+  sent_shows : (a : Answer Block) (l : Line) → (sent_result kind s r reading order store a).outcome ≡ done l
       → l.event ≡ last_of E.None (sent_events kind s r order store a)
   sent_shows (refused n) l h = absurd (let z : ◌≡◌ {A = ℕ} 0 1 = cc in omega arith)
-  sent_shows (done b) l h = (sent_told b).shown l.event (line_event _ _ _ _ l h)
+  sent_shows (done b) l h = (sent_told b).shown l.event (line_event _ _ _ l h)
 
-  sent_setup : (a : Answer Block) → (sent_result kind s r reading order store a).period.receiver.setup ≡ r.setup
+  sent_setup : (a : Answer Block) → (sent_result kind s r reading order store a).ends.receiver.setup ≡ r.setup
   sent_setup (refused n) = refl
   sent_setup (done b) = (sent_told b).setup
 
@@ -100,7 +96,7 @@ module _ (kind : Kind) (s : Sender) (r : Receiver) (reading : Bool) (order store
 
 -- a period leaves what the receiver's opening fixed
 pub receiver_setup : (kind : Kind) (s : Sender) (r : Receiver) (order store : List ℕ)
-    → (period kind s r order store).period.receiver.setup ≡ r.setup
+    → (period kind s r order store).ends.receiver.setup ≡ r.setup
 unfolding period
 receiver_setup kind s r order store =
     sent_setup kind s r (reading_of kind r.back) order store (send s order (reading_of kind r.back) (replicate line_bytes 0))

@@ -2,7 +2,7 @@
 use mathlib.Core.Path.{◌≡◌, refl, ap, ◌∙◌}
 use mathlib.Core.Bool.{Bool, true}
 use mathlib.Core.List.{List, [], ◌∷◌}
-use mathlib.Core.Option.{Option, none, some}
+use Rattle.std.specs.Prelude.{Option, Some, None}
 use Prim.Native.Nat.{ℕ, ◌+◌, ◌*◌, ◌^◌, ◌≤◌, ◌<◌}
 use native.Mathlib.Omega.{arith}
 use lib.ListN.{length, replicate}
@@ -22,11 +22,9 @@ use Rattle.line.specs.declared.receiver.Receiver.{Receiver}
 use Rattle.session.specs.LineOne.{Opening, line_one}
 use Rattle.session.specs.Lines.{first_line, after_line, lines}
 use Rattle.session.specs.Outcomes.{speed, loop_ms, code_size, store_room, kind_of, outcomes_unless_refused, line_outcomes, periods, receiver_outcomes, sender_outcomes, opening_outcomes, outcomes, line_count, items_of, MostPeriods}
-use Rattle.session.specs.Period.{PeriodResult, reading_of, line_bytes, sent_result, period}
+use Rattle.session.specs.Period.{Outcome, PeriodResult, reading_of, line_bytes, sent_result, period}
 use Rattle.session.specs.declared.period.Kind.{Kind}
 use Rattle.session.specs.declared.period.Line.{Line}
-use Rattle.session.specs.declared.period.Outcome.{Outcome}
-use Rattle.session.specs.declared.period.Outcome.TheVariants as O
 
 -- so many lines at most, and one refusal at most behind them
 pub record Few (most : ℕ) (os : List Outcome) : Type 0 where
@@ -36,42 +34,42 @@ pub record Few (most : ℕ) (os : List Outcome) : Type 0 where
 few_none : (most : ℕ) → Few most []
 few_none most = record { lines_few = omega arith; one_refusal = omega arith }
 
-few_refused : (most n : ℕ) → Few most (O.Refused n ∷ [])
+few_refused : (most n : ℕ) → Few most (refused n ∷ [])
 few_refused most n = record { lines_few = omega arith; one_refusal = omega arith }
 
 -- ---- a period with a line is one with a block sent
 
 sent_lowers : (kind : Kind) (s : Sender) (r : Receiver) (reading : Bool) (order store : List ℕ) (a : Answer S.Block)
-    → send s order reading (replicate line_bytes 0) ≡ a → (l : Line) → (sent_result kind s r reading order store a).period.outcome ≡ O.Line l
-    → blocks_left (sent_result kind s r reading order store a).period.sender < blocks_left s
+    → send s order reading (replicate line_bytes 0) ≡ a → (l : Line) → (sent_result kind s r reading order store a).outcome ≡ done l
+    → blocks_left (sent_result kind s r reading order store a).ends.sender < blocks_left s
 sent_lowers kind s r reading order store (refused n) e l o = absurd (let z : ◌≡◌ {A = ℕ} 0 1 = cc in omega arith)
 sent_lowers kind s r reading order store (done b) e l o = send_lowers s order reading (replicate line_bytes 0) b e
 
-period_lowers : (kind : Kind) (s : Sender) (r : Receiver) (order store : List ℕ) (l : Line) → (period kind s r order store).period.outcome ≡ O.Line l
-    → blocks_left (period kind s r order store).period.sender < blocks_left s
+period_lowers : (kind : Kind) (s : Sender) (r : Receiver) (order store : List ℕ) (l : Line) → (period kind s r order store).outcome ≡ done l
+    → blocks_left (period kind s r order store).ends.sender < blocks_left s
 unfolding period
 period_lowers kind s r order store l o =
     sent_lowers kind s r (reading_of kind r.back) order store (send s order (reading_of kind r.back) (replicate line_bytes 0)) refl l o
 
-few_more : (most left : ℕ) (out : Outcome) (rest : List Outcome) → ((l : Line) → out ≡ O.Line l → left < most) → Few left rest
+few_more : (most left : ℕ) (out : Outcome) (rest : List Outcome) → ((l : Line) → out ≡ done l → left < most) → Few left rest
     → Few most (out ∷ outcomes_unless_refused out rest)
-few_more most left (O.Refused n) rest h f = few_refused most n
-few_more most left (O.Line l) rest h f =
+few_more most left (refused n) rest h f = few_refused most n
+few_more most left (done l) rest h f =
     record { lines_few = omega (arith, h l refl, f.lines_few); one_refusal = omega (arith, f.one_refusal) }
 
 periods_few : (ls : List (List ℕ)) (s : Sender) (r : Receiver) (order store : List ℕ) → Few (blocks_left s) (periods s r order store ls)
 unfolding periods
 periods_few [] s r order store = few_none (blocks_left s)
 periods_few (l ∷ ls) s r order store =
-    by_kind (kind_of l) (λ c. periods c.period.sender c.period.receiver order c.store ls)
-    (λ c. periods_few ls c.period.sender c.period.receiver order c.store)
+    by_kind (kind_of l) (λ c. periods c.ends.sender c.ends.receiver order c.store ls)
+    (λ c. periods_few ls c.ends.sender c.ends.receiver order c.store)
   where
-    by_kind : (k : Option Kind) (next : PeriodResult → List Outcome) → ((c : PeriodResult) → Few (blocks_left c.period.sender) (next c))
+    by_kind : (k : Option Kind) (next : PeriodResult → List Outcome) → ((c : PeriodResult) → Few (blocks_left c.ends.sender) (next c))
         → Few (blocks_left s) (line_outcomes s r order store next k)
-    by_kind none next few = few_none (blocks_left s)
-    by_kind (some kind) next few =
+    by_kind None next few = few_none (blocks_left s)
+    by_kind (Some kind) next few =
         let c : PeriodResult = period kind s r order store in
-        few_more (blocks_left s) (blocks_left c.period.sender) c.period.outcome (next c)
+        few_more (blocks_left s) (blocks_left c.ends.sender) c.outcome (next c)
         (λ l e. period_lowers kind s r order store l e) (few c)
 
 -- ---- both ends opened
@@ -97,10 +95,10 @@ module _ (o : Opening) (N : ℕ) (fits : is_length o.k ≡ true → valid_length
       receiver_few s (omega (arith, b, fits g.known g.valid)) (open_receiver o.k code_size)
 
 opening_few : (p : Option Opening) (N : ℕ)
-    → ((o : Opening) → p ≡ some o → is_length o.k ≡ true → valid_length o.order.bits ≡ true → item_count o.k o.order.bits ≤ N)
+    → ((o : Opening) → p ≡ Some o → is_length o.k ≡ true → valid_length o.order.bits ≡ true → item_count o.k o.order.bits ≤ N)
     → (ls : List (List ℕ)) → Few (most N) (opening_outcomes p ls)
-opening_few none N fits ls = few_none (most N)
-opening_few (some o) N fits ls =
+opening_few None N fits ls = few_none (most N)
+opening_few (Some o) N fits ls =
     sender_few o N (fits o refl) ls (open_sender o.k speed loop_ms o.order.bits code_size o.order.bytes) refl
 
 pub most_periods : MostPeriods

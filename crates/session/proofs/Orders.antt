@@ -54,12 +54,12 @@ period-kept m kind s r order store h =
 
 -- a period leaves what the sender's opening fixed
 sent_setup : (kind : Kind) (s : Sender) (r : Receiver) (reading : Bool) (order store : List ℕ) (a : Answer S.Block)
-    → (sent_result kind s r reading order store a).period.sender.setup ≡ s.setup
+    → (sent_result kind s r reading order store a).ends.sender.setup ≡ s.setup
 sent_setup kind s r reading order store (refused n) = refl
 sent_setup kind s r reading order store (done b) = setup_kept s s.next reading
 
 pub period_setup : (kind : Kind) (s : Sender) (r : Receiver) (order store : List ℕ)
-    → (period kind s r order store).period.sender.setup ≡ s.setup
+    → (period kind s r order store).ends.sender.setup ≡ s.setup
 unfolding period
 period_setup kind s r order store =
     sent_setup kind s r (reading_of kind r.back) order store (send s order (reading_of kind r.back) (replicate line_bytes 0))

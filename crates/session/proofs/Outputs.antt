@@ -1,71 +1,75 @@
--- Texts put into an output, and the turn that holds it. Assumes nothing.
-use mathlib.Core.Path.{◌≡◌, sym, ap, ap₂, subst, ◌∙◌}
+-- The program over the bytes of a part, one more at a time, and the turn that holds what they bring. Assumes nothing.
+use mathlib.Core.Path.{◌≡◌, refl, sym, ap, ◌∙◌}
 use mathlib.Core.Bool.{Bool}
-use mathlib.Core.List.{List, [], ◌∷◌, ◌++◌}
-use Prim.Native.Nat.{ℕ, ◌+◌, ◌≤◌, min}
-use native.Mathlib.Nat.{zero-add}
+use mathlib.Core.List.{List, [], ◌∷◌, ◌++◌, append_assoc, append-nil}
+use Prim.Native.Nat.{ℕ, ◌+◌, ◌*◌, ◌≤◌, ◌<◌}
+use native.Mathlib.Numerals.{add-one}
 use native.Mathlib.Omega.{arith}
-use lib.ListN.{length, take, drop, replicate, length-append, length-take}
-use lib.Seq.{paste, paste-zero, take_all, take-append_seam}
-use Rattle.session.specs.Text.{room, text_bytes, holding, heading}
-use Rattle.session.specs.Program.{output_room, Puts, bytes_text, end_text, laid, output_of, first_turn, turn}
+use lib.ListN.{length, take, get_or}
+use lib.Seq.{take-suc, take_all}
+use Rattle.session.specs.Buffer.{empty, Appends}
+use Rattle.session.specs.Text.{room}
+use Rattle.session.specs.Program.{Output, byte_taken, after_byte, after_bytes, yield_text, bytes_text, output_room, turn, turn_to}
+use Rattle.session.specs.Session.{over}
 use Rattle.session.specs.declared.program.Program.{Program}
 use Rattle.session.specs.declared.program.Turn.{Turn}
-use Rattle.session.specs.declared.text.Text.{Text}
-use Rattle.session.proofs.Parts.{take_least}
+use Rattle.session.proofs.Appending.{appends_none, appends_more, appends_all}
 
-module _ (text : Text) (h : length text.bytes ≡ room) where
-  put_bytes : take (min text.len room) text.bytes ≡ text_bytes text
-  put_bytes = ap (λ (n : ℕ). take (min text.len n) text.bytes) (sym h) ∙ take_least text.len text.bytes
+-- a byte behind others
+after_more : (p : Program) (cs : List ℕ) (c : ℕ) → after_bytes p (cs ++ (c ∷ [])) ≡ after_byte (after_bytes p cs) c
+unfolding after_bytes
+after_more p [] c = refl
+after_more p (d ∷ cs) c = after_more (after_byte p d) cs c
 
-  put_length : min text.len room ≡ length (text_bytes text)
-  put_length = sym (length-take text.len text.bytes ∙ ap (λ (n : ℕ). min text.len n) h)
+text_more : (p : Program) (cs : List ℕ) (c : ℕ)
+    → bytes_text p (cs ++ (c ∷ []))
+    ≡ bytes_text p cs ++ yield_text (after_bytes p cs).number (byte_taken (after_bytes p cs) c).yielded
+unfolding after_bytes bytes_text
+text_more p [] c = append-nil (yield_text p.number (byte_taken p c).yielded)
+text_more p (d ∷ cs) c =
+    let text : List ℕ = yield_text p.number (byte_taken p d).yielded in
+    ap (λ (l : List ℕ). text ++ l) (text_more (after_byte p d) cs c)
+    ∙ sym (append_assoc text (bytes_text (after_byte p d) cs) _)
 
-  -- the bytes that are put are those that the text holds
-  pub puts_text : (s : List ℕ) (at n : ℕ) (l : List ℕ) → n ≡ min text.len room → l ≡ paste s at text.bytes n
-      → Puts (text_bytes text) s at (at + n) l
-  puts_text s at n l e p =
-      record {
-        fits = rw (← put_length) (omega arith);
-        ends = ap (λ (m : ℕ). at + m) (e ∙ put_length);
-        writes =
-            p
-            ∙ ap₂ (λ (a : List ℕ) (m : ℕ). take at s ++ a ++ drop (at + m) s)
-            (ap (λ (m : ℕ). take m text.bytes) e ∙ put_bytes) (e ∙ put_length);
-      }
+-- what has been read of a part, byte by byte
+pub record Going (p₀ : Program) (part : List ℕ) (output₀ : Output) (p : Program) (output : Output) (i : ℕ) : Type 0 where
+  pub program : p ≡ after_bytes p₀ (take i part)
+  pub appends : Appends output₀ (bytes_text p₀ (take i part)) output
+  pub fits : output.len ≤ output₀.len + room * i
 
--- of a text that holds these bytes alone, they are
-pub puts_held : {text : Text} {bytes s : List ℕ} {at end : ℕ} {l : List ℕ} → text ≡ holding bytes → Puts (text_bytes text) s at end l
-    → Puts bytes s at end l
-puts_held {text} {bytes} {s} {at} {end} {l} e =
-    subst (λ (b : List ℕ). Puts b s at end l) (ap text_bytes e ∙ take-append_seam bytes (drop (length bytes) (replicate room 0)))
+pub begins : (p : Program) (part : List ℕ) (output : Output) → Going p part output p output 0
+unfolding after_bytes bytes_text
+begins p part output = record { program = refl; appends = appends_none output; fits = omega arith }
 
-pub puts_nothing : (s : List ℕ) (at : ℕ) → Puts [] s at at s
-puts_nothing s at = record { fits = omega arith; ends = omega arith; writes = paste-zero s at [] }
+pub further : (p₀ : Program) (part : List ℕ) (output₀ : Output) (p : Program) (output : Output) (i : ℕ)
+    → Going p₀ part output₀ p output i → output₀.len ≤ length output₀.bytes → i < length part
+    → (p' : Program) (output' : Output) → p' ≡ after_byte p (get_or part i 0)
+    → Appends output (yield_text p.number (byte_taken p (get_or part i 0)).yielded) output' → output'.len ≤ output.len + room
+    → Going p₀ part output₀ p' output' (i + 1)
+further p₀ part output₀ p output i g b h p' output' e a f =
+    let d : take (i + 1) part ≡ take i part ++ (get_or part i 0 ∷ []) = rw add-one (take-suc part i 0 h) in
+    record {
+      program = rw (d, e, g.program) (sym (after_more p₀ (take i part) (get_or part i 0)));
+      appends = rw (d, text_more p₀ (take i part) (get_or part i 0), ← g.program) (appends_more output₀ output output' _ _ b g.appends a);
+      fits = omega (arith, g.fits, f);
+    }
 
-module _ {text s : List ℕ} {at end : ℕ} {l : List ℕ} (p : Puts text s at end l) where
-  pub as_paste : l ≡ paste s at text (length text)
-  as_paste = p.writes ∙ ap (λ (a : List ℕ). take at s ++ a ++ drop (at + length text) s) (sym (take_all (length text) text (omega arith)))
+pub all_read : (p₀ : Program) (part : List ℕ) (output₀ : Output) (p : Program) (output : Output) (i : ℕ)
+    → Going p₀ part output₀ p output i → length part ≤ i
+    → (p ≡ after_bytes p₀ part) × Appends output₀ (bytes_text p₀ part) output
+all_read p₀ part output₀ p output i g h =
+    let e : take i part ≡ part = take_all i part h in
+    (rw e at g.program, rw e at g.appends)
 
--- a text put first
-pub puts_first : {text s : List ℕ} {end : ℕ} {l : List ℕ} → Puts text s 0 end l → (l ≡ laid text s) × (end ≡ length text)
-puts_first {text} {s} p = (p.writes ∙ ap (λ (n : ℕ). text ++ drop n s) (zero-add (length text)), p.ends ∙ zero-add (length text))
+abbrev pub the_turn : Turn → Turn
+the_turn t = t
 
--- the turn of these fields
-abbrev pub made : Program → List ℕ → ℕ → Bool → Turn
-made p bytes len over = record { program = p; output = record { bytes = bytes; len = len }; over = over }
+-- bytes are no end
+pub not_the_end : (p : Program) (part : List ℕ) → 0 < length part → turn p part ≡ turn_to (after_bytes p part) (bytes_text p part)
+not_the_end p [] h = absurd (omega arith)
+not_the_end p (c ∷ cs) h = refl
 
-pub made_of : (p : Program) (text bytes : List ℕ) (len : ℕ) (over : Bool) → bytes ≡ laid text (replicate output_room 0) → len ≡ length text
-    → made p bytes len over ≡ record { program = p; output = output_of text; over = over }
-made_of p text bytes len over e l = ap₂ (λ (b : List ℕ) (n : ℕ). made p b n over) e l
-
--- what an output holds lies in its array
-text_fits : (text : List ℕ) → length text ≤ length (output_of text).bytes
-text_fits text = rw (length-append text (drop (length text) (replicate output_room 0))) (omega arith)
-
-pub start_fits : first_turn.output.len ≤ length first_turn.output.bytes
-start_fits = text_fits heading
-
-pub turn_fits : (p : Program) (part : List ℕ) → (turn p part).output.len ≤ length (turn p part).output.bytes
-turn_fits p [] = text_fits (end_text p)
-turn_fits p (c ∷ cs) = text_fits (bytes_text p (c ∷ cs))
+-- the turn after a program that put these bytes alone
+pub made_of : (p q : Program) (text : List ℕ) (o₀ o : Output) (b : Bool) → o₀ ≡ empty output_room → q ≡ p → Appends o₀ text o
+    → b ≡ over q.session.place → the_turn (record { program = q; output = o; over = b }) ≡ turn_to p text
+made_of p q text o₀ o b z e a v = rw (v, e, appends_all text o (rw z at a)) refl

@@ -9,12 +9,14 @@ use Rattle.crc.specs.Bits.{Bits, bits_of, bytes_of, zeros}
 use Rattle.crc.proofs.Bytes.{length-bits_of, length-bytes_of, bits_of-bytes_of, bytes_of-zeros}
 use Rattle.block.specs.Answer.{Answer, refused, done}
 use Rattle.line.specs.Receiving.{Reception, Report, meaning, receive, receive_store, reported, Receive}
-use Rattle.line.specs.declared.receiving.Received.TheVariants as R
+use Rattle.line.specs.declared.Refusal.{Refusal}
+use Rattle.line.specs.Refusals.{refusal_number}
+use Rattle.line.specs.declared.receiving.Received.{Received}
+use Rattle.std.proofs.Common.{Ok, Err}
 use Rattle.line.specs.declared.receiver.Step.{Step}
 use Rattle.line.specs.declared.receiver.Receiver.{Receiver}
 use Rattle.line.specs.declared.receiving.Event.{Event}
 use Rattle.session.specs.Period.{line_bytes, invert_first, arriving, Lent, disturbed, last_event, ready, Hearing, hearing, answered, hear}
-use Rattle.session.specs.declared.period.Last.TheVariants as L
 use Rattle.session.specs.declared.period.Kind.{Kind}
 use Rattle.session.specs.declared.period.Kind.TheVariants as K
 use Rattle.session.proofs.Sent.{inverted_packed}
@@ -114,17 +116,17 @@ module _ (s : Receiver) (store : List ℕ) (last : Event) (x : Reception) where
           rw (p, ← n) (packed_more bits (omega arith) (omega arith) g)
 
 pub call_refused : (s : Receiver) (line : List ℕ) (left : ℕ) (store : List ℕ) (last : Event) (n : ℕ) → Lent line left → 0 < left
-    → receive s line left ready store ≡ refused n → hear left s (take left (bits_of line)) store last ≡ hearing s (L.Refused n) store
+    → receive s line left ready store ≡ refused n → hear left s (take left (bits_of line)) store last ≡ hearing s (refused n) store
 unfolding hear
 call_refused s line left store last n l h e = from_bits (take left (bits_of line)) (lent_length line left l) l.1
   where
     packed : (bits : Bits) → 0 < length bits → receive s (bytes_of line_bytes bits) (length bits) ready store ≡ refused n
-        → hear (length bits) s bits store last ≡ hearing s (L.Refused n) store
+        → hear (length bits) s bits store last ≡ hearing s (refused n) store
     packed [] g e = absurd (omega arith)
     packed (b ∷ bs) g e = rw e
 
     from_bits : (bits : Bits) → length bits ≡ left → line ≡ bytes_of line_bytes bits
-        → hear left s bits store last ≡ hearing s (L.Refused n) store
+        → hear left s bits store last ≡ hearing s (refused n) store
     from_bits bits n p = rw (← n) (packed bits (omega arith) (rw (← p, n) e))
 
 -- what a call answered says what it did
@@ -143,12 +145,13 @@ reported_done (done x) event used e =
 
 module _ (s : Receiver) (line : List ℕ) (left : ℕ) (store : List ℕ) (last : Event) (step : Step) (store' : List ℕ)
     (lent : Lent line left) (some_left : 0 < left) (kept : Receive s line left ready store step store') where
-  pub refusal : (n : ℕ) → step.answer ≡ R.Refused n
-      → hear left s (take left (bits_of line)) store last ≡ hearing step.state (L.Refused n) store'
-  refusal n e =
-      let r : receive s line left ready store ≡ refused n =
+  pub call-refusal : (r : Refusal) → step.answer ≡ Err r
+      → hear left s (take left (bits_of line)) store last ≡ hearing step.state (refused (refusal_number r)) store'
+  call-refusal r e =
+      let n : ℕ = refusal_number r in
+      let a : receive s line left ready store ≡ refused n =
       reported_refused (receive s line left ready store) n (rw e at kept.answers) in
-      rw (kept.state, kept.writes, r) (call_refused s line left store last n lent some_left r)
+      rw (kept.state, kept.writes, a) (call_refused s line left store last n lent some_left a)
 
   pub record Progress (event : Event) (used : ℕ) (line' : List ℕ) : Type 0 where
     pub uses : (0 < used) × (used ≤ left)
@@ -166,11 +169,11 @@ module _ (s : Receiver) (line : List ℕ) (left : ℕ) (store : List ℕ) (last 
         goes_on = rw (u, ev, kept.state, kept.writes, a) m.goes_on;
       }
 
-  pub progress : (event : Event) (used : ℕ) → step.answer ≡ R.Used event used
-      → Progress event used (bytes_of (length line) (drop used (bits_of line)))
-  progress event used e =
-      let r = reported_done (receive s line left ready store) event used (rw e at kept.answers) in
-      progress_at r.0 event used r.1.0 r.1.1.0 r.1.1.1
+  pub progress : (x : Received) → step.answer ≡ Ok x
+      → Progress x.event x.bits (bytes_of (length line) (drop x.bits (bits_of line)))
+  progress x e =
+      let r = reported_done (receive s line left ready store) x.event x.bits (rw e at kept.answers) in
+      progress_at r.0 x.event x.bits r.1.0 r.1.1.0 r.1.1.1
 
 -- ---- damage
 

@@ -9,18 +9,18 @@ use lib.ListN.{length, drop, replicate}
 use lib.Seq.{take-append_seam}
 use borrow.Author.Tests.{lt-ltb}
 use Rattle.block.proofs.Truth.{either}
-use Rattle.session.specs.Program.{keeping, at_start, yield_text, number_after, byte_taken, after_byte, after_bytes, bytes_text, end_text, output_room, output_of, turn_to, turn, shown, outputs, input_of, Whole}
+use Rattle.std.specs.Prelude.{Option, Some, None}
+use Rattle.session.specs.Buffer.{held}
+use Rattle.session.specs.Program.{keeping, at_start, yield_text, number_after, byte_taken, after_byte, after_bytes, bytes_text, end_text, output_room, output_of, turn_to, turn, outputs, input_of, Whole}
+use Rattle.session.specs.Period.{Outcome}
 use Rattle.session.specs.Run.{rendered, run_text}
 use Rattle.session.specs.Session.{placed, takes, takes_order, takes_store, ends, over, listed, yields, ByBytes}
 use Rattle.session.specs.Text.{heading, outcome_text}
-use Rattle.session.specs.declared.period.Outcome.{Outcome}
 use Rattle.session.specs.declared.program.Program.{Program}
 use Rattle.session.specs.declared.program.Turn.{Turn}
 use Rattle.session.specs.declared.script.Place.{Place}
 use Rattle.session.specs.declared.script.Place.TheVariants as P
 use Rattle.session.specs.declared.script.Session.{Session}
-use Rattle.session.specs.declared.script.Yield.{Yield}
-use Rattle.session.specs.declared.script.Yield.TheVariants as Y
 use Rattle.session.proofs.ByBytes.{by_bytes}
 use Rattle.session.proofs.MostPeriods.{few_outcomes}
 
@@ -31,16 +31,16 @@ rest p (c ∷ cs) = yield_text p.number (byte_taken p c).yielded ++ rest (after_
 
 -- ---- it is the outcomes, rendered
 
-render_yield : (n : ℕ) (y : Yield) (os : List Outcome) → n + length (listed y ++ os) < 2 ^ 64
+render_yield : (n : ℕ) (y : Option Outcome) (os : List Outcome) → n + length (listed y ++ os) < 2 ^ 64
     → (yield_text n y ++ rendered (number_after n y) os ≡ rendered n (listed y ++ os)) × (number_after n y + length os < 2 ^ 64)
-render_yield n Y.Nothing os h = (refl, h)
-render_yield n (Y.Outcome o) os h =
+render_yield n None os h = (refl, h)
+render_yield n (Some o) os h =
     let t = lt-ltb n (2 ^ 64 - 1) (omega arith) in
     (rw t, rw t (omega arith))
 
-render_end : (n : ℕ) (y : Yield) → yield_text n y ≡ rendered n (listed y)
-render_end n Y.Nothing = refl
-render_end n (Y.Outcome o) = sym (append-nil (outcome_text n o))
+render_end : (n : ℕ) (y : Option Outcome) → yield_text n y ≡ rendered n (listed y)
+render_end n None = refl
+render_end n (Some o) = sym (append-nil (outcome_text n o))
 
 rest-rendered : (cs : List ℕ) (p : Program) → p.number + length (yields p.session p.order p.store cs) < 2 ^ 64
     → rest p cs ≡ rendered p.number (yields p.session p.order p.store cs)
@@ -53,7 +53,7 @@ rest-rendered (c ∷ cs) p h =
 
 -- ---- over the turns
 
-shown_text : (text : List ℕ) → shown (output_of text) ≡ text
+shown_text : (text : List ℕ) → held (output_of text) ≡ text
 shown_text text = take-append_seam text (drop (length text) (replicate output_room 0))
 
 -- when the run is over nothing more is written
@@ -81,14 +81,14 @@ rest-append (c ∷ cs) ds p =
     ∙ sym (append_assoc text (bytes_text (after_byte p c) cs) (rest (after_bytes (after_byte p c) cs) ds))
 
 -- the last turn's output is the last
-last_output : (t : Turn) → t.over ≡ true → (parts : List (List ℕ)) → outputs t parts ≡ shown t.output
+last_output : (t : Turn) → t.over ≡ true → (parts : List (List ℕ)) → outputs t parts ≡ held t.output
 unfolding outputs
 last_output t e [] = refl
-last_output t e (part ∷ parts) = rw e (append-nil (shown t.output))
+last_output t e (part ∷ parts) = rw e (append-nil (held t.output))
 
 -- the turn after a part, when the run is not over
 next-turn : (t : Turn) (part : List ℕ) (parts : List (List ℕ)) → t.over ≡ false
-    → outputs t (part ∷ parts) ≡ shown t.output ++ outputs (turn t.program part) parts
+    → outputs t (part ∷ parts) ≡ held t.output ++ outputs (turn t.program part) parts
 unfolding outputs
 next-turn t part parts e = rw e
 

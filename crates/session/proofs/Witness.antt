@@ -13,7 +13,7 @@ use Rattle.line.specs.Marks.{marks_of, marks_in_range}
 use Rattle.line.specs.Order.{valid_length, item_count, letter, is_letter, data_service, filled, item_service, item_payload, order_bits, item_bits}
 use Rattle.line.specs.Sending.{sender_in_range, send, transmit, sent_bits}
 use Rattle.line.specs.Receiving.{fresh_receiver, zero_array, is_of, place, service_rule, looks_sync, judge, after_good, holding, in_step, reception, receiver_in_range, receive, store_at}
-use Rattle.line.specs.declared.marks.CodeSize.TheVariants as C
+use Rattle.std.specs.Prelude.{None}
 use Rattle.line.specs.declared.marks.Marks.{Marks}
 use Rattle.line.specs.declared.receiver.Receiver.{Receiver}
 use Rattle.line.specs.declared.receiving.Event.{Event}
@@ -32,7 +32,7 @@ abbrev store : List ℕ
 store = replicate 30 0
 
 abbrev marks : Marks
-marks = marks_of C.NotGiven
+marks = marks_of None
 
 -- the older item is next
 abbrev sender : Sender
@@ -68,6 +68,6 @@ unfolding events
 accepted_first = refl
 
 -- and the line shows it
-pub accepted-shown : shown_events (period K.Undisturbed sender nearly order store).period.outcome ≡ E.Accepted ∷ []
+pub accepted-shown : shown_events (period K.Undisturbed sender nearly order store).outcome ≡ E.Accepted ∷ []
 unfolding events
 accepted-shown = ((last_event_lem.tells K.Undisturbed sender nearly order store refl).last [] E.Accepted (E.None ∷ []) accepted_first refl).1

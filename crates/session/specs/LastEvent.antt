@@ -12,12 +12,9 @@ use Rattle.line.specs.declared.sender.Sender.{Sender}
 use Rattle.line.specs.declared.receiver.Receiver.{Receiver}
 use Rattle.line.specs.declared.receiving.Event.{Event}
 use Rattle.line.specs.declared.receiving.Event.TheVariants as E
-use Rattle.session.specs.Period.{reading_of, arriving, line_bytes, last_event, ready, period}
+use Rattle.session.specs.Period.{reading_of, arriving, line_bytes, last_event, ready, Outcome, PeriodResult, period}
 use Rattle.session.specs.declared.period.Kind.{Kind}
 use Rattle.session.specs.declared.period.Line.{Line}
-use Rattle.session.specs.declared.period.Outcome.{Outcome}
-use Rattle.session.specs.declared.period.Outcome.TheVariants as O
-use Rattle.session.specs.declared.period.Period.{Period}
 
 -- ---- the events of a period's receiving calls, call by call, none included: as `hear` and `period` go through them
 
@@ -54,12 +51,12 @@ how_many p (e ∷ es) = bit (p e) + how_many p es
 
 -- the event of a line; a refusal shows none
 abbrev pub shown_events : Outcome → List Event
-shown_events (O.Refused n) = []
-shown_events (O.Line l) = l.event ∷ []
+shown_events (refused n) = []
+shown_events (done l) = l.event ∷ []
 
 -- ---- what a period's line tells, by its events and the receiver before it
 
-pub record Tells (r : Receiver) (events : List Event) (p : Period) : Type 0 where
+pub record Tells (r : Receiver) (events : List Event) (p : PeriodResult) : Type 0 where
   -- after accepted or ended no call of the period has an event or is refused, and the line shows it
   pub last : (before : List Event) (e : Event) (after : List Event) → events ≡ before ++ (e ∷ after) → takes_block e ≡ true
       → All (λ x. x ≡ E.None) after × (shown_events p.outcome ≡ e ∷ [])
@@ -67,13 +64,13 @@ pub record Tells (r : Receiver) (events : List Event) (p : Period) : Type 0 wher
   pub number : (choice : Event → Bool) → ((e : Event) → choice e ≡ true → takes_block e ≡ true)
       → how_many choice events ≡ how_many choice (shown_events p.outcome)
   -- an item more is taken exactly if the line shows accepted, and the end is if it was or if the line shows ended
-  pub taken : p.receiver.taken ≡ r.taken + how_many is_accepted (shown_events p.outcome)
-  pub ended : p.receiver.ended ≡ r.ended || some is_ended (shown_events p.outcome)
+  pub taken : p.ends.receiver.taken ≡ r.taken + how_many is_accepted (shown_events p.outcome)
+  pub ended : p.ends.receiver.ended ≡ r.ended || some is_ended (shown_events p.outcome)
 
 -- both ends with the same k; otherwise in any state, with any order and store
 pub record LastEvent : Type 0 where
   pub tells : (kind : Kind) (s : Sender) (r : Receiver) (order store : List ℕ) → s.setup.k ≡ r.setup.k
-      → Tells r (period_events kind s r order store) (period kind s r order store).period
+      → Tells r (period_events kind s r order store) (period kind s r order store)
   -- whatever k: the line's event is the last of the period's events other than none
   pub shows : (kind : Kind) (s : Sender) (r : Receiver) (order store : List ℕ) (l : Line)
-      → (period kind s r order store).period.outcome ≡ O.Line l → l.event ≡ last_of E.None (period_events kind s r order store)
+      → (period kind s r order store).outcome ≡ done l → l.event ≡ last_of E.None (period_events kind s r order store)

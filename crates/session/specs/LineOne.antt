@@ -1,10 +1,8 @@
 -- Line one of a session: k, L and the order in hexadecimal, read from the whole line; and the reader that takes one byte
 -- at a time. Assumes nothing.
-use Rattle.std.specs.Prelude.{Bool, true, false, cond, ◌&&◌, List, [], ◌∷◌, ℕ, ◌+◌, ◌-◌, ◌*◌, ◌%◌, min, eqb, leb, ltb, length, take, set}
-use Rattle.std.proofs.Math.Option.{Option, none, some, map}
+use Rattle.std.specs.Prelude.{Bool, true, false, cond, ◌&&◌, List, [], ◌∷◌, ℕ, ◌+◌, ◌-◌, ◌*◌, ◌%◌, min, eqb, leb, ltb, length, take, set, Option, Some, None, option_map}
+use Rattle.std.specs.Option.{option_map_or}
 use Rattle.session.specs.declared.line_one.LineOne.{LineOne}
-use Rattle.session.specs.declared.line_one.Number.{Number}
-use Rattle.session.specs.declared.line_one.Number.TheVariants as N
 use Rattle.session.specs.declared.line_one.Place.{Place}
 use Rattle.session.specs.declared.line_one.Place.TheVariants as P
 
@@ -13,44 +11,39 @@ use Rattle.session.specs.declared.line_one.Place.TheVariants as P
 abbrev pub is_blank : ℕ → Bool
 is_blank c = eqb c 32
 
--- the value of a decimal digit, 10 for any other character
-unfoldable pub decimal_value : ℕ → ℕ
-decimal_value c = cond (leb 48 c && leb c 57) (c - 48) 10
+-- the value of a decimal digit
+unfoldable pub decimal_value : ℕ → Option ℕ
+decimal_value c = cond (leb 48 c && leb c 57) (Some (c - 48)) None
 
-abbrev pub is_decimal : ℕ → Bool
-is_decimal c = ltb (decimal_value c) 10
-
--- the value of a hexadecimal digit, upper or lower case, 16 for any other character
-unfoldable pub hex_value : ℕ → ℕ
+-- the value of a hexadecimal digit, upper or lower case
+unfoldable pub hex_value : ℕ → Option ℕ
 hex_value c =
-    cond (leb 48 c && leb c 57) (c - 48)
-    (cond (leb 65 c && leb c 70) (c - 55) (cond (leb 97 c && leb c 102) (c - 87) 16))
-
-abbrev pub is_hex : ℕ → Bool
-is_hex c = ltb (hex_value c) 16
+    cond (leb 48 c && leb c 57) (Some (c - 48))
+    (cond (leb 65 c && leb c 70) (Some (c - 55)) (cond (leb 97 c && leb c 102) (Some (c - 87)) None))
 
 -- ---- the line: what stands from a place on, or none if it cannot be read
 
 -- nothing may follow
 abbrev pub line_end : List ℕ → Option (List ℕ)
-line_end [] = some []
-line_end (c ∷ cs) = none
+line_end [] = Some []
+line_end (c ∷ cs) = None
 
 abbrev mutual
   -- the order's bytes, two digits a byte; a blank may trail
   pub hex_bytes : List ℕ → Option (List ℕ)
-  hex_bytes [] = some []
-  hex_bytes (c ∷ cs) = cond (is_hex c) (half_byte (hex_value c) cs) (cond (is_blank c) (line_end cs) none)
+  hex_bytes [] = Some []
+  hex_bytes (c ∷ cs) = option_map_or (λ high. half_byte high cs) (hex_value c) (cond (is_blank c) (line_end cs) None)
 
   -- the first digit of a byte was read
   pub half_byte : ℕ → List ℕ → Option (List ℕ)
-  half_byte high [] = none
-  half_byte high (c ∷ cs) = cond (is_hex c) (map (λ bytes. (high * 16 + hex_value c) ∷ bytes) (hex_bytes cs)) none
+  half_byte high [] = None
+  half_byte high (c ∷ cs) =
+      option_map_or (λ low. option_map (λ bytes. (high * 16 + low) ∷ bytes) (hex_bytes cs)) (hex_value c) None
 
 -- behind the blank after L: nothing, or the order
 abbrev pub order_field : List ℕ → Option (List ℕ)
-order_field [] = some []
-order_field (c ∷ cs) = cond (is_hex c) (half_byte (hex_value c) cs) none
+order_field [] = Some []
+order_field (c ∷ cs) = option_map_or (λ high. half_byte high cs) (hex_value c) None
 
 pub record Order : Type 0 where
   pub bits : ℕ
@@ -58,14 +51,14 @@ pub record Order : Type 0 where
 
 -- L so far, by its value
 abbrev pub length_field : ℕ → List ℕ → Option Order
-length_field L [] = some (record { bits = L; bytes = [] })
+length_field L [] = Some (record { bits = L; bytes = [] })
 length_field L (c ∷ cs) =
-    cond (is_decimal c) (length_field (L * 10 + decimal_value c) cs)
-    (cond (is_blank c) (map (λ bytes. record { bits = L; bytes = bytes }) (order_field cs)) none)
+    option_map_or (λ digit. length_field (L * 10 + digit) cs) (decimal_value c)
+    (cond (is_blank c) (option_map (λ bytes. record { bits = L; bytes = bytes }) (order_field cs)) None)
 
 abbrev pub length_start : List ℕ → Option Order
-length_start [] = none
-length_start (c ∷ cs) = cond (is_decimal c) (length_field (decimal_value c) cs) none
+length_start [] = None
+length_start (c ∷ cs) = option_map_or (λ digit. length_field digit cs) (decimal_value c) None
 
 pub record Opening : Type 0 where
   pub k : ℕ
@@ -73,14 +66,14 @@ pub record Opening : Type 0 where
 
 -- k so far, by its value
 abbrev pub k_field : ℕ → List ℕ → Option Opening
-k_field k [] = none
+k_field k [] = None
 k_field k (c ∷ cs) =
-    cond (is_decimal c) (k_field (k * 10 + decimal_value c) cs)
-    (cond (is_blank c) (map (λ order. record { k = k; order = order }) (length_start cs)) none)
+    option_map_or (λ digit. k_field (k * 10 + digit) cs) (decimal_value c)
+    (cond (is_blank c) (option_map (λ order. record { k = k; order = order }) (length_start cs)) None)
 
 abbrev pub line_one : List ℕ → Option Opening
-line_one [] = none
-line_one (c ∷ cs) = cond (is_decimal c) (k_field (decimal_value c) cs) none
+line_one [] = None
+line_one (c ∷ cs) = option_map_or (λ digit. k_field digit cs) (decimal_value c) None
 
 -- ---- what is kept of it in fixed memory: k and L up to a number above every bound on them, and as many bytes of the
 -- order as there is room for
@@ -89,9 +82,9 @@ abbrev pub limit : ℕ
 limit = 1000000
 
 abbrev pub keep : ℕ → Option Opening → Option Opening
-keep room none = none
-keep room (some o) =
-    some
+keep room None = None
+keep room (Some o) =
+    Some
     (record {
       k = min o.k limit;
       order = record { bits = min o.order.bits limit; bytes = take room o.order.bytes };
@@ -105,32 +98,37 @@ moved s place = record { place = place; k = s.k; length = s.length; kept = s.kep
 abbrev pub grown : ℕ → ℕ → ℕ
 grown n digit = min (n * 10 + digit) limit
 
-abbrev pub with_digit : LineOne → Number → ℕ → LineOne
-with_digit s N.K digit = record { place = P.KDigits; k = grown s.k digit; length = s.length; kept = s.kept }
-with_digit s N.Length digit = record { place = P.LengthDigits; k = s.k; length = grown s.length digit; kept = s.kept }
+abbrev pub with_k : LineOne → ℕ → LineOne
+with_k s digit = record { place = P.KDigits; k = grown s.k digit; length = s.length; kept = s.kept }
+
+abbrev pub with_length : LineOne → ℕ → LineOne
+with_length s digit = record { place = P.LengthDigits; k = s.k; length = grown s.length digit; kept = s.kept }
 
 -- a blank leads to a place; any other character cannot be read
 abbrev pub blank_next : LineOne → ℕ → Place → LineOne
 blank_next s c place = cond (is_blank c) (moved s place) (moved s P.Unreadable)
 
 -- a digit of a number, or the first digit of a byte of the order; a blank leads to the place behind
-abbrev pub decimal_next : LineOne → Number → ℕ → Place → LineOne
-decimal_next s number c behind = cond (is_decimal c) (with_digit s number (decimal_value c)) (blank_next s c behind)
+abbrev pub k_next : LineOne → ℕ → Place → LineOne
+k_next s c behind = option_map_or (with_k s) (decimal_value c) (blank_next s c behind)
+
+abbrev pub length_next : LineOne → ℕ → Place → LineOne
+length_next s c behind = option_map_or (with_length s) (decimal_value c) (blank_next s c behind)
 
 abbrev pub hex_next : LineOne → ℕ → Place → LineOne
-hex_next s c behind = cond (is_hex c) (moved s (P.Half (hex_value c))) (blank_next s c behind)
+hex_next s c behind = option_map_or (λ high. moved s (P.Half high)) (hex_value c) (blank_next s c behind)
 
 abbrev pub low_digit : LineOne → ℕ → LineOne
 low_digit s room =
     record { place = P.Bytes; k = s.k; length = s.length; kept = cond (ltb s.kept room) (s.kept + 1) s.kept }
 
 unfoldable pub next_at : LineOne → Place → ℕ → ℕ → LineOne
-next_at s P.K c room = decimal_next s N.K c P.Unreadable
-next_at s P.KDigits c room = decimal_next s N.K c P.Length
-next_at s P.Length c room = decimal_next s N.Length c P.Unreadable
-next_at s P.LengthDigits c room = decimal_next s N.Length c P.Order
+next_at s P.K c room = k_next s c P.Unreadable
+next_at s P.KDigits c room = k_next s c P.Length
+next_at s P.Length c room = length_next s c P.Unreadable
+next_at s P.LengthDigits c room = length_next s c P.Order
 next_at s P.Order c room = hex_next s c P.Unreadable
-next_at s (P.Half high) c room = cond (is_hex c) (low_digit s room) (moved s P.Unreadable)
+next_at s (P.Half high) c room = option_map_or (λ low. low_digit s room) (hex_value c) (moved s P.Unreadable)
 next_at s P.Bytes c room = hex_next s c P.Trailed
 next_at s P.Trailed c room = moved s P.Unreadable
 next_at s P.Unreadable c room = moved s P.Unreadable
@@ -147,7 +145,7 @@ next_order s P.KDigits c order = order
 next_order s P.Length c order = order
 next_order s P.LengthDigits c order = order
 next_order s P.Order c order = order
-next_order s (P.Half high) c order = cond (is_hex c) (kept s.kept (high % 16 * 16 + hex_value c) order) order
+next_order s (P.Half high) c order = option_map_or (λ low. kept s.kept (high % 16 * 16 + low) order) (hex_value c) order
 next_order s P.Bytes c order = order
 next_order s P.Trailed c order = order
 next_order s P.Unreadable c order = order
@@ -170,8 +168,8 @@ readable P.Unreadable = false
 -- and what it said
 abbrev pub said : LineOne → List ℕ → Option Opening
 said s order =
-    cond (readable s.place) (some (record { k = s.k; order = record { bits = s.length; bytes = take s.kept order } }))
-    none
+    cond (readable s.place) (Some (record { k = s.k; order = record { bits = s.length; bytes = take s.kept order } }))
+    None
 
 -- the reader over the bytes of a line
 unfoldable pub read_all : LineOne → List ℕ → List ℕ → Option Opening

@@ -1,24 +1,19 @@
 -- The course of a session, from its input alone: the list of its outcomes, of which each is a period's line, as data, or a
 -- refusal. Assumes nothing.
-use Rattle.std.specs.Prelude.{cond, List, [], ◌∷◌, ℕ, ◌+◌, ◌*◌, ◌/◌, ◌≤◌, eqb, replicate}
-use Rattle.std.proofs.Math.Option.{Option, none, some}
+use Rattle.std.specs.Prelude.{cond, List, [], ◌∷◌, ℕ, ◌+◌, ◌*◌, ◌/◌, ◌≤◌, eqb, replicate, Option, Some, None}
 use Rattle.block.specs.Answer.{Answer, refused, done}
 use Rattle.line.specs.Marks.{marks_of}
 use Rattle.line.specs.MostBlocks.{first_pair, later_pair}
 use Rattle.line.specs.Order.{longest_order, item_count}
 use Rattle.line.specs.Sending.{open_sender}
 use Rattle.line.specs.Receiving.{open_receiver, fresh_receiver}
-use Rattle.line.specs.declared.marks.CodeSize.{CodeSize}
-use Rattle.line.specs.declared.marks.CodeSize.TheVariants as C
 use Rattle.line.specs.declared.sender.Sender.{Sender}
 use Rattle.line.specs.declared.receiver.Receiver.{Receiver}
 use Rattle.session.specs.LineOne.{Opening, line_one}
 use Rattle.session.specs.Lines.{first_line, after_line, lines}
-use Rattle.session.specs.Period.{PeriodResult, period}
+use Rattle.session.specs.Period.{Outcome, PeriodResult, period}
 use Rattle.session.specs.declared.period.Kind.{Kind}
 use Rattle.session.specs.declared.period.Kind.TheVariants as K
-use Rattle.session.specs.declared.period.Outcome.{Outcome}
-use Rattle.session.specs.declared.period.Outcome.TheVariants as O
 
 -- the speed and the loop of every session; none has marks
 abbrev pub speed : ℕ
@@ -27,8 +22,8 @@ speed = 200
 abbrev pub loop_ms : ℕ
 loop_ms = 0
 
-abbrev pub code_size : CodeSize
-code_size = C.NotGiven
+abbrev pub code_size : Option ℕ
+code_size = None
 
 -- the bytes of the longest order, and of the store: the longest order in items of 3840 bits, the last one filled; shorter items
 -- take no more, since every k divides 3840
@@ -43,47 +38,47 @@ store_room = (longest_order + 3839) / 3840 * 480
 -- the letters of the three kinds
 unfoldable pub letter_kind : ℕ → Option Kind
 letter_kind c =
-    cond (eqb c 116) (some K.Undisturbed) (cond (eqb c 102) (some K.Turned) (cond (eqb c 100) (some K.Damaged) none))
+    cond (eqb c 116) (Some K.Undisturbed) (cond (eqb c 102) (Some K.Turned) (cond (eqb c 100) (Some K.Damaged) None))
 
 -- a line of one of the kinds is one letter
 abbrev pub kind_of : List ℕ → Option Kind
-kind_of [] = none
+kind_of [] = None
 kind_of (c ∷ []) = letter_kind c
-kind_of (c ∷ d ∷ cs) = none
+kind_of (c ∷ d ∷ cs) = None
 
 -- a refusal ends the run
 abbrev pub outcomes_unless_refused : Outcome → List Outcome → List Outcome
-outcomes_unless_refused (O.Refused n) rest = []
-outcomes_unless_refused (O.Line l) rest = rest
+outcomes_unless_refused (refused n) rest = []
+outcomes_unless_refused (done l) rest = rest
 
 -- a line of another kind ends the run with no outcome
 abbrev pub line_outcomes : Sender → Receiver → List ℕ → List ℕ → (PeriodResult → List Outcome) → Option Kind → List Outcome
-line_outcomes s r order store next none = []
-line_outcomes s r order store next (some kind) =
+line_outcomes s r order store next None = []
+line_outcomes s r order store next (Some kind) =
     let c : PeriodResult = period kind s r order store in
-    c.period.outcome ∷ outcomes_unless_refused c.period.outcome (next c)
+    c.outcome ∷ outcomes_unless_refused c.outcome (next c)
 
 -- the periods of these lines
 unfoldable pub periods : Sender → Receiver → List ℕ → List ℕ → List (List ℕ) → List Outcome
 periods s r order store [] = []
 periods s r order store (l ∷ ls) =
-    line_outcomes s r order store (λ c. periods c.period.sender c.period.receiver order c.store ls) (kind_of l)
+    line_outcomes s r order store (λ c. periods c.ends.sender c.ends.receiver order c.store ls) (kind_of l)
 
 -- ---- line one: both ends opened, the sender first, or a refusal
 
 abbrev pub receiver_outcomes : Opening → Sender → List (List ℕ) → Answer (Unit {0}) → List Outcome
-receiver_outcomes o s ls (refused n) = O.Refused n ∷ []
+receiver_outcomes o s ls (refused n) = refused n ∷ []
 receiver_outcomes o s ls (done u) =
     periods s (fresh_receiver o.k (marks_of code_size)) o.order.bytes (replicate store_room 0) ls
 
 abbrev pub sender_outcomes : Opening → List (List ℕ) → Answer Sender → List Outcome
-sender_outcomes o ls (refused n) = O.Refused n ∷ []
+sender_outcomes o ls (refused n) = refused n ∷ []
 sender_outcomes o ls (done s) = receiver_outcomes o s ls (open_receiver o.k code_size)
 
 -- line one that cannot be read has no outcome
 abbrev pub opening_outcomes : Option Opening → List (List ℕ) → List Outcome
-opening_outcomes none ls = []
-opening_outcomes (some o) ls =
+opening_outcomes None ls = []
+opening_outcomes (Some o) ls =
     sender_outcomes o ls (open_sender o.k speed loop_ms o.order.bits code_size o.order.bytes)
 
 unfoldable pub outcomes : List ℕ → List Outcome
@@ -94,13 +89,13 @@ outcomes input = opening_outcomes (line_one (first_line input)) (lines (after_li
 -- the periods that are not refused
 abbrev pub line_count : List Outcome → ℕ
 line_count [] = 0
-line_count (O.Refused n ∷ os) = line_count os
-line_count (O.Line l ∷ os) = line_count os + 1
+line_count (refused n ∷ os) = line_count os
+line_count (done l ∷ os) = line_count os + 1
 
 -- the number of data items that line one gives; 0 if it cannot be read
 abbrev pub items_of : Option Opening → ℕ
-items_of none = 0
-items_of (some o) = item_count o.k o.order.bits
+items_of None = 0
+items_of (Some o) = item_count o.k o.order.bits
 
 -- Whatever the input, however long: no more than the blocks that the sender sends, 192 + 187 N.
 unfoldable pub MostPeriods : Type 0

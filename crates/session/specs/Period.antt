@@ -1,31 +1,37 @@
 -- One period of a session: a sending call, and receiving calls until the block's bits are used or a call is refused; and
 -- what its line says. Assumes nothing.
-use Rattle.std.specs.Prelude.{◌≡◌, Bool, true, false, cond, not, List, [], ◌∷◌, ℕ, zero, suc, ◌*◌, ◌≤◌, length, get_or, set, take, drop, replicate}
+use Rattle.std.specs.Prelude.{◌≡◌, Bool, true, false, cond, not, List, [], ◌∷◌, ℕ, zero, suc, ◌*◌, ◌≤◌, length, get_or, set, take, drop, replicate, Option, Some, None, Result, Ok, Err}
 use Rattle.std.specs.Int.Bits.{bit_xor}
 use Rattle.crc.specs.Bits.{Bits, bits_of, bytes_of}
 use Rattle.block.specs.Answer.{Answer, refused, done}
 use Rattle.line.specs.Order.{order_bits}
+use Rattle.line.specs.Refusals.{refusal_number}
 use Rattle.line.specs.Sending as S
 use Rattle.line.specs.Sending.{send, send_state, sent_bits}
 use Rattle.line.specs.Receiving.{Reception, meaning, event_kind, receive, receive_store}
+use Rattle.line.specs.declared.Refusal.{Refusal}
 use Rattle.line.specs.declared.sender.Sender.{Sender}
 use Rattle.line.specs.declared.receiver.Receiver.{Receiver}
 use Rattle.line.specs.declared.receiving.Event.{Event}
 use Rattle.line.specs.declared.receiving.Event.TheVariants as E
 use Rattle.session.specs.declared.period.Block.{Block}
 use Rattle.session.specs.declared.period.Block.TheVariants as B
+use Rattle.session.specs.declared.period.Ends.{Ends}
 use Rattle.session.specs.declared.period.Heard.{Heard}
 use Rattle.session.specs.declared.period.Kind.{Kind}
 use Rattle.session.specs.declared.period.Kind.TheVariants as K
-use Rattle.session.specs.declared.period.Last.{Last}
-use Rattle.session.specs.declared.period.Last.TheVariants as L
-use Rattle.session.specs.declared.period.Outcome.{Outcome}
-use Rattle.session.specs.declared.period.Outcome.TheVariants as O
+use Rattle.session.specs.declared.period.Line.{Line}
 use Rattle.session.specs.declared.period.Period.{Period}
-use Rattle.session.specs.declared.period.Reading as Shown
-use Rattle.session.specs.declared.period.Reading.TheVariants as R
-use Rattle.session.specs.declared.period.Sending.{Sending}
-use Rattle.session.specs.declared.period.Sending.TheVariants as W
+use Rattle.session.specs.declared.period.Shown.{Shown}
+
+-- what a result of the code says: its value, or its refusal's number
+abbrev pub answer_of : {A : Type 0} → Result A Refusal → Answer A
+answer_of (Ok x) = done x
+answer_of (Err r) = refused (refusal_number r)
+
+-- what comes of a period: its line, or a refusal
+abbrev pub Outcome : Type 0
+Outcome = Answer Line
 
 -- ---- the line between the ends: t undisturbed, f the reading turned over, d the block's first bit inverted
 
@@ -73,15 +79,20 @@ last_event last E.Wait = E.Wait
 
 -- the receiver, the last event or the refusal, and the store
 pub record Hearing : Type 0 where
-  pub heard : Heard
+  pub receiver : Receiver
+  pub last : Answer Event
   pub store : List ℕ
 
-abbrev pub hearing : Receiver → Last → List ℕ → Hearing
-hearing s last store = record { heard = record { receiver = s; last = last }; store = store }
+abbrev pub hearing : Receiver → Answer Event → List ℕ → Hearing
+hearing s last store = record { receiver = s; last = last; store = store }
+
+-- what the code says of it
+abbrev pub heard_told : Heard → List ℕ → Hearing
+heard_told h store = hearing h.receiver (answer_of h.last) store
 
 -- what follows the answer to a call that was lent these bits
 abbrev pub answered : (Receiver → Bits → List ℕ → Event → Hearing) → Receiver → Bits → List ℕ → Event → Answer Reception → Hearing
-answered next s bits store last (refused n) = hearing s (L.Refused n) store
+answered next s bits store last (refused n) = hearing s (refused n) store
 answered next s bits store last (done x) =
     next x.state (drop x.used bits) (receive_store s store (done x)) (last_event last (meaning x.rule).event)
 
@@ -92,8 +103,8 @@ ready = true
 -- Calls, each lent the bits not yet used, until none is left or a call is refused. A call uses at least one bit, so that
 -- there are no more calls than bits: the number of calls only ends the recursion.
 unfoldable pub hear : ℕ → Receiver → Bits → List ℕ → Event → Hearing
-hear zero s bits store last = hearing s (L.Event last) store
-hear (suc calls) s [] store last = hearing s (L.Event last) store
+hear zero s bits store last = hearing s (done last) store
+hear (suc calls) s [] store last = hearing s (done last) store
 hear (suc calls) s (b ∷ bs) store last =
     answered (hear calls) s (b ∷ bs) store last (receive s (bytes_of line_bytes (b ∷ bs)) (length (b ∷ bs)) ready store)
 
@@ -104,44 +115,43 @@ abbrev pub shown_block : S.Block → Block
 shown_block S.synchronising = B.Synchronising
 shown_block (S.item i end used cancelled) = B.Item i end cancelled
 
-abbrev pub if_used : Bool → Bool → Shown.Reading
-if_used used reading = cond used (R.Used reading) R.Ignored
+abbrev pub if_used : Bool → Bool → Option Bool
+if_used used reading = cond used (Some reading) None
 
-abbrev pub shown_reading : S.Block → Bool → Shown.Reading
-shown_reading S.synchronising reading = R.Ignored
+abbrev pub shown_reading : S.Block → Bool → Option Bool
+shown_reading S.synchronising reading = None
 shown_reading (S.item i end used cancelled) reading = if_used used reading
 
-abbrev pub shown_sending : Answer S.Block → Bool → Sending
-shown_sending (refused n) reading = W.Refused n
-shown_sending (done b) reading = W.Sent (shown_block b) (shown_reading b reading)
+abbrev pub as_shown : S.Block → Bool → Shown
+as_shown b reading = record { block = shown_block b; reading = shown_reading b reading }
 
-abbrev pub line_of : Block → Shown.Reading → Bool → Last → Outcome
-line_of block reading back (L.Refused n) = O.Refused n
-line_of block reading back (L.Event e) = O.Line (record { block = block; reading = reading; event = e; back = back })
+abbrev pub line_of : Shown → Bool → Answer Event → Outcome
+line_of sent back (refused n) = refused n
+line_of sent back (done e) = done (record { sent = sent; event = e; back = back })
 
 -- both ends and the outcome, and the store
 pub record PeriodResult : Type 0 where
-  pub period : Period
+  pub ends : Ends
+  pub outcome : Outcome
   pub store : List ℕ
 
-abbrev pub heard_result : Sender → Block → Shown.Reading → Hearing → PeriodResult
-heard_result s block reading h =
-    record {
-      period =
-          record {
-            sender = s;
-            receiver = h.heard.receiver;
-            outcome = line_of block reading h.heard.receiver.back h.heard.last;
-          };
-      store = h.store;
-    }
+abbrev pub ends_of : Sender → Receiver → Ends
+ends_of s r = record { sender = s; receiver = r }
+
+-- what the code says of it
+abbrev pub ran : Period → List ℕ → PeriodResult
+ran p store = record { ends = p.ends; outcome = answer_of p.outcome; store = store }
+
+abbrev pub heard_result : Sender → Shown → Hearing → PeriodResult
+heard_result s sent h =
+    record { ends = ends_of s h.receiver; outcome = line_of sent h.receiver.back h.last; store = h.store }
 
 abbrev pub sent_result : Kind → Sender → Receiver → Bool → List ℕ → List ℕ → Answer S.Block → PeriodResult
 sent_result kind s r reading order store (refused n) =
-    record { period = record { sender = s; receiver = r; outcome = O.Refused n }; store = store }
+    record { ends = ends_of s r; outcome = refused n; store = store }
 sent_result kind s r reading order store (done b) =
     let bits : Bits = sent_bits s.setup.marks s.setup.k s.setup.length (order_bits s.setup.length order) b in
-    heard_result (send_state s reading (done b)) (shown_block b) (shown_reading b reading)
+    heard_result (send_state s reading (done b)) (as_shown b reading)
     (hear (length bits) r (arriving kind bits) store E.None)
 
 unfoldable pub period : Kind → Sender → Receiver → List ℕ → List ℕ → PeriodResult
@@ -150,15 +160,14 @@ period kind s r order store =
     sent_result kind s r reading order store (send s order reading (replicate line_bytes 0))
 
 -- what a period answers, hands back and leaves in the store
-pub record RunPeriod (kind : Kind) (s : Sender) (r : Receiver) (order store : List ℕ) (result : Period) (store' : List ℕ) : Type 0 where
-  pub answers : result ≡ (period kind s r order store).period
-  pub writes : store' ≡ (period kind s r order store).store
+abbrev pub RunPeriod : Kind → Sender → Receiver → List ℕ → List ℕ → Period → List ℕ → Type 0
+RunPeriod kind s r order store result store' = ran result store' ≡ period kind s r order store
 
 -- no line that is written shows a wait
 abbrev pub shows_wait : Outcome → Bool
-shows_wait (O.Refused n) = false
-shows_wait (O.Line l) = (event_kind l.event).wait
+shows_wait (refused n) = false
+shows_wait (done l) = (event_kind l.event).wait
 
 unfoldable pub NeverWaits : Type 0
 NeverWaits =
-    (kind : Kind) (s : Sender) (r : Receiver) (order store : List ℕ) → shows_wait (period kind s r order store).period.outcome ≡ false
+    (kind : Kind) (s : Sender) (r : Receiver) (order store : List ℕ) → shows_wait (period kind s r order store).outcome ≡ false

@@ -1,18 +1,17 @@
 -- The run program, a part of its input at a time: what it keeps and what is to be written, which is what the session yields, as
 -- text; and that the outputs are the text of the input, however it is divided. Assumes nothing.
-use Rattle.std.specs.Prelude.{◌≡◌, cond, List, [], ◌∷◌, ◌++◌, ℕ, ◌+◌, ◌-◌, ◌*◌, ◌^◌, ◌≤◌, ltb, length, take, drop, replicate}
+use Rattle.std.specs.Prelude.{◌≡◌, cond, List, [], ◌∷◌, ◌++◌, ℕ, ◌+◌, ◌-◌, ◌*◌, ◌^◌, ltb, replicate, Option, Some, None}
+use Rattle.session.specs.Buffer.{held, filled}
 use Rattle.session.specs.Outcomes.{order_room, store_room}
 use Rattle.session.specs.Run.{run_text}
-use Rattle.session.specs.Session.{placed, fresh, takes, takes_order, takes_store, ends, ends_store, over}
+use Rattle.session.specs.Period.{Outcome}
+use Rattle.session.specs.Session.{After, placed, fresh, takes, takes_order, takes_store, ends, ends_store, over}
 use Rattle.session.specs.Text.{room, heading, outcome_text}
-use Rattle.session.specs.declared.program.Output.{Output}
+use Rattle.session.specs.declared.buffer.Buffer.{Buffer}
 use Rattle.session.specs.declared.program.Program.{Program}
 use Rattle.session.specs.declared.program.Turn.{Turn}
 use Rattle.session.specs.declared.script.Place.TheVariants as P
 use Rattle.session.specs.declared.script.Session.{Session}
-use Rattle.session.specs.declared.script.Taken.{Taken}
-use Rattle.session.specs.declared.script.Yield.{Yield}
-use Rattle.session.specs.declared.script.Yield.TheVariants as Y
 
 -- the most bytes of a part, which is what one read of the input brings; a byte brings a text at most
 abbrev pub part_room : ℕ
@@ -31,21 +30,21 @@ at_start = keeping fresh 0 (replicate order_room 0) (replicate store_room 0)
 
 -- ---- what is yielded, as text
 
-abbrev pub yield_text : ℕ → Yield → List ℕ
-yield_text n Y.Nothing = []
-yield_text n (Y.Outcome o) = outcome_text n o
+abbrev pub yield_text : ℕ → Option Outcome → List ℕ
+yield_text n None = []
+yield_text n (Some o) = outcome_text n o
 
 -- the next number, up to the largest machine word, which no session comes to
 abbrev pub counted : ℕ → ℕ
 counted n = cond (ltb n (2 ^ 64 - 1)) (n + 1) n
 
-abbrev pub number_after : ℕ → Yield → ℕ
-number_after n Y.Nothing = n
-number_after n (Y.Outcome o) = counted n
+abbrev pub number_after : ℕ → Option Outcome → ℕ
+number_after n None = n
+number_after n (Some o) = counted n
 
 -- ---- the bytes of a part
 
-abbrev pub byte_taken : Program → ℕ → Taken
+abbrev pub byte_taken : Program → ℕ → After
 byte_taken p c = takes p.session p.session.place c p.order p.store
 
 abbrev pub after_byte : Program → ℕ → Program
@@ -62,25 +61,9 @@ unfoldable pub bytes_text : Program → List ℕ → List ℕ
 bytes_text p [] = []
 bytes_text p (c ∷ cs) = yield_text p.number (byte_taken p c).yielded ++ bytes_text (after_byte p c) cs
 
--- a text put into an output at a place, where room bytes are free
-pub record Puts (text output : List ℕ) (at end : ℕ) (output' : List ℕ) : Type 0 where
-  pub fits : length text ≤ room
-  pub ends : end ≡ at + length text
-  pub writes : output' ≡ take at output ++ text ++ drop (at + length text) output
-
--- bytes over the first of a list
-abbrev pub laid : List ℕ → List ℕ → List ℕ
-laid s bytes = s ++ drop (length s) bytes
-
--- what reading the bytes into an output of any length does
-pub record ReadBytes (p : Program) (part output : List ℕ) (p' : Program) (len : ℕ) (output' : List ℕ) : Type 0 where
-  pub reaches : p' ≡ after_bytes p part
-  pub counts : len ≡ length (bytes_text p part)
-  pub writes : output' ≡ laid (bytes_text p part) output
-
 -- ---- the end of the input, after which nothing more is read
 
-abbrev pub end_taken : Program → Taken
+abbrev pub end_taken : Program → After
 end_taken p = ends p.session p.session.place p.order p.store
 
 abbrev pub end_text : Program → List ℕ
@@ -93,9 +76,12 @@ after_end p =
 
 -- ---- a turn
 
+abbrev pub Output : Type 0
+Output = Buffer output_room
+
 -- the output that holds these bytes alone
 abbrev pub output_of : List ℕ → Output
-output_of s = record { bytes = laid s (replicate output_room 0); len = length s }
+output_of s = filled output_room s
 
 abbrev pub turn_to : Program → List ℕ → Turn
 turn_to p text = record { program = p; output = output_of text; over = over p.session.place }
@@ -111,13 +97,10 @@ turn p (c ∷ cs) = turn_to (after_bytes p (c ∷ cs)) (bytes_text p (c ∷ cs))
 
 -- ---- the whole
 
-abbrev pub shown : Output → List ℕ
-shown o = take o.len o.bytes
-
 -- what is written from a turn on: its output and, unless the run is over, the outputs over the parts that follow
 unfoldable pub outputs : Turn → List (List ℕ) → List ℕ
-outputs t [] = shown t.output
-outputs t (part ∷ parts) = shown t.output ++ cond t.over [] (outputs (turn t.program part) parts)
+outputs t [] = held t.output
+outputs t (part ∷ parts) = held t.output ++ cond t.over [] (outputs (turn t.program part) parts)
 
 -- the input in these parts: all up to the first with no byte
 abbrev pub input_of : List (List ℕ) → List ℕ

@@ -1,8 +1,8 @@
 -- What the run program writes for an input: its heading, and the input's outcomes, each as a line of text. Assumes nothing.
 use Rattle.std.specs.Prelude.{List, [], ◌∷◌, ◌++◌, ℕ, ◌+◌}
 use Rattle.session.specs.Outcomes.{outcomes}
+use Rattle.session.specs.Period.{Outcome}
 use Rattle.session.specs.Text.{heading, outcome_text}
-use Rattle.session.specs.declared.period.Outcome.{Outcome}
 
 -- the periods are numbered, from n on
 abbrev pub rendered : ℕ → List Outcome → List ℕ

@@ -1,33 +1,30 @@
--- A text in fixed memory, and numbers and words as bytes. Assumes nothing.
-use Rattle.std.specs.Prelude.{◌≡◌, Bool, true, false, cond, List, [], ◌∷◌, ◌++◌, ℕ, zero, suc, ◌+◌, ◌/◌, ◌%◌, ltb, length, take, drop, replicate}
+-- What the run program writes: numbers, words and lines as bytes, each text in fixed memory. Assumes nothing.
+use Rattle.std.specs.Prelude.{Bool, true, false, cond, List, [], ◌∷◌, ◌++◌, ℕ, zero, suc, ◌+◌, ◌/◌, ◌%◌, ltb, Option, Some, None}
 use Prim.Native.Char.{code}
 use Prim.Native.String as S
 use Rattle.line.specs.declared.receiving.Event.{Event}
 use Rattle.line.specs.declared.receiving.Event.TheVariants as E
+use Rattle.block.specs.Answer.{refused, done}
+use Rattle.session.specs.Buffer.{held, empty, filled}
+use Rattle.session.specs.Period.{Outcome}
+use Rattle.session.specs.declared.buffer.Buffer.{Buffer}
 use Rattle.session.specs.declared.period.Block.{Block}
 use Rattle.session.specs.declared.period.Block.TheVariants as B
 use Rattle.session.specs.declared.period.Line.{Line}
-use Rattle.session.specs.declared.period.Outcome.{Outcome}
-use Rattle.session.specs.declared.period.Outcome.TheVariants as O
-use Rattle.session.specs.declared.period.Reading.{Reading}
-use Rattle.session.specs.declared.period.Reading.TheVariants as R
-use Rattle.session.specs.declared.text.Text.{Text}
 
 -- the bytes of a text array
 abbrev pub room : ℕ
 room = 64
 
+abbrev pub Text : Type 0
+Text = Buffer room
+
 -- the bytes that a text holds
 abbrev pub text_bytes : Text → List ℕ
-text_bytes t = take t.len t.bytes
+text_bytes t = held t
 
 abbrev pub empty_text : Text
-empty_text = record { bytes = replicate room 0; len = 0 }
-
--- the text t with these bytes behind it: they stand over the array's bytes from t's count on, and no other byte changes
-pub record Appends (t : Text) (added : List ℕ) (r : Text) : Type 0 where
-  pub bytes : r.bytes ≡ take t.len t.bytes ++ (added ++ drop (t.len + length added) t.bytes)
-  pub len : r.len ≡ t.len + length added
+empty_text = empty room
 
 -- the bytes of a text of ASCII characters
 abbrev pub ascii : S.String → List ℕ
@@ -63,9 +60,10 @@ abbrev pub block_text : Block → List ℕ
 block_text B.Synchronising = ascii "S"
 block_text (B.Item i end cancelled) = mark_text cancelled ++ item_text i end
 
-abbrev pub reading_text : Reading → List ℕ
-reading_text R.Ignored = ascii "-"
-reading_text (R.Used b) = bit_text b
+-- a reading, if it was used
+abbrev pub reading_text : Option Bool → List ℕ
+reading_text None = ascii "-"
+reading_text (Some b) = bit_text b
 
 abbrev pub event_text : Event → List ℕ
 event_text E.None = ascii "none"
@@ -82,7 +80,7 @@ event_text E.Wait = ascii "wait"
 
 -- the text that holds these bytes alone
 abbrev pub holding : List ℕ → Text
-holding s = record { bytes = s ++ drop (length s) (replicate room 0); len = length s }
+holding s = filled room s
 
 unfoldable pub heading : List ℕ
 heading = ascii "period sent read event back\n"
@@ -93,9 +91,9 @@ refused_text n = ascii "refused " ++ decimal n ++ ascii "\n"
 -- period, sent, read, event and back, a blank between two
 unfoldable pub line_text : ℕ → Line → List ℕ
 line_text period l =
-    decimal period ++ ascii " " ++ block_text l.block ++ ascii " " ++ reading_text l.reading ++ ascii " "
+    decimal period ++ ascii " " ++ block_text l.sent.block ++ ascii " " ++ reading_text l.sent.reading ++ ascii " "
     ++ event_text l.event ++ ascii " " ++ bit_text l.back ++ ascii "\n"
 
 abbrev pub outcome_text : ℕ → Outcome → List ℕ
-outcome_text period (O.Refused n) = refused_text n
-outcome_text period (O.Line l) = line_text period l
+outcome_text period (refused n) = refused_text n
+outcome_text period (done l) = line_text period l

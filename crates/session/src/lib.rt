@@ -2,6 +2,7 @@
 // the program a part of its input at a time.
 #![tactic(auto)]
 
+pub mod buffer;
 pub mod line_one;
 pub mod period;
 pub mod program;

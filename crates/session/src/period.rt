@@ -1,14 +1,15 @@
 // One period of a session over both ends, and what a line of the output says of it.
 ghost use Rattle.std.specs.Prelude.{◌≡◌, ◌<◌, length, take};
 ghost use Rattle.crc.specs.Bits.{bits_of};
-ghost use Rattle.line.specs.Sending.{sent_answer};
+ghost use Rattle.line.specs.Sending.{sent_block};
 ghost use Rattle.session.specs.Period as P;
-ghost use Rattle.session.specs.Period.{Lent, reading_of, arriving, disturbed, last_event, if_used, shown_sending, line_of, heard_result, RunPeriod};
+ghost use Rattle.session.specs.Period.{Lent, answer_of, heard_told, ran, reading_of, arriving, disturbed, last_event, as_shown, line_of, heard_result, RunPeriod};
 
 use crate::shift::drop_bits;
 use block::OVERHEAD;
+use line::Refusal;
 use line::receiver::Receiver;
-use line::receiving::{Event, Received};
+use line::receiving::Event;
 use line::sender::{Sender, Sent};
 
 // The run program's machine is always ready.
@@ -24,6 +25,12 @@ pub enum Kind {
     Damaged,
 }
 
+#[derive(Clone, Copy)]
+pub struct Ends {
+    pub sender: Sender,
+    pub receiver: Receiver,
+}
+
 // The block sent, as it is shown.
 #[derive(Clone, Copy)]
 pub enum Block {
@@ -35,52 +42,35 @@ pub enum Block {
     },
 }
 
+// What a line shows of the sending call.
 #[derive(Clone, Copy)]
-pub enum Reading {
-    Ignored,
-    Used(bool),
+pub struct Shown {
+    pub block: Block,
+    // None where the sender did not use it.
+    pub reading: Option<bool>,
 }
 
 #[derive(Clone, Copy)]
 pub struct Line {
-    pub block: Block,
-    pub reading: Reading,
+    pub sent: Shown,
     // The period's last event other than none, else none.
     pub event: Event,
     // The return bit afterwards.
     pub back: bool,
 }
 
-#[derive(Clone, Copy)]
-pub enum Outcome {
-    Refused(u8),
-    Line(Line),
-}
+pub type Outcome = Result<Line, Refusal>;
 
-// How the sending call of a period ended, its block and reading as they are shown.
-#[derive(Clone, Copy)]
-pub enum Sending {
-    Refused(u8),
-    Sent { block: Block, reading: Reading },
-}
-
-// How the receiving calls of a period ended.
-#[derive(Clone, Copy)]
-pub enum Last {
-    Refused(u8),
-    Event(Event),
-}
-
+// How the receiving calls of a period ended: the last event other than none, or a refusal.
 #[derive(Clone, Copy)]
 pub struct Heard {
     pub receiver: Receiver,
-    pub last: Last,
+    pub last: Result<Event, Refusal>,
 }
 
 #[derive(Clone, Copy)]
 pub struct Period {
-    pub sender: Sender,
-    pub receiver: Receiver,
+    pub ends: Ends,
     pub outcome: Outcome,
 }
 
@@ -88,9 +78,8 @@ fn reading_of(kind: Kind, back: bool) -> bool
     ensures { result ≡ reading_of kind back }
 {
     match kind {
-        Kind::Undisturbed => back,
         Kind::Turned => !back,
-        Kind::Damaged => back,
+        Kind::Undisturbed | Kind::Damaged => back,
     }
 }
 
@@ -99,48 +88,30 @@ fn last_event(last: Event, event: Event) -> Event
 {
     match event {
         Event::None => last,
-        Event::Sync => event,
-        Event::Bad(_) => event,
-        Event::Accepted => event,
-        Event::Previous => event,
-        Event::SequenceAlarm => event,
-        Event::LengthAlarm => event,
-        Event::Ended(_) => event,
-        Event::Wait => event,
+        _ => event,
     }
 }
 
-fn shown_reading(used: bool, reading: bool) -> Reading
-    ensures { result ≡ if_used used reading }
+fn as_shown(sent: Sent, reading: bool) -> Shown
+    ensures { result ≡ as_shown (sent_block sent) reading }
 {
-    if used {
-        Reading::Used(reading)
-    } else {
-        Reading::Ignored
-    }
-}
-
-fn shown_sending(answer: Sent, reading: bool) -> Sending
-    ensures { result ≡ shown_sending (sent_answer answer) reading }
-{
-    match answer {
-        Sent::Refused(number) => Sending::Refused(number),
-        Sent::Synchronising => Sending::Sent {
+    match sent {
+        Sent::Synchronising => Shown {
             block: Block::Synchronising,
-            reading: Reading::Ignored,
+            reading: None,
         },
         Sent::Item {
             number,
             end,
             used,
             cancelled,
-        } => Sending::Sent {
+        } => Shown {
             block: Block::Item {
                 number,
                 end,
                 cancelled,
             },
-            reading: shown_reading(used, reading),
+            reading: used.then_some(reading),
         },
     }
 }
@@ -148,8 +119,7 @@ fn shown_sending(answer: Sent, reading: bool) -> Sending
 // Lends the bits not yet used until none is left or a call is refused.
 fn hear(receiver: Receiver, line: &mut [u8], count: usize, store: &mut [u8]) -> Heard
     requires { Lent line.old count }
-    ensures value { result ≡ (P.hear count receiver (take count (bits_of line.old)) store.old Event.None).heard }
-    ensures store_after { store.new ≡ (P.hear count receiver (take count (bits_of line.old)) store.old Event.None).store }
+    ensures { heard_told result store.new ≡ P.hear count receiver (take count (bits_of line.old)) store.old Event.None }
 {
     let mut state = receiver;
     let mut left = count;
@@ -157,24 +127,23 @@ fn hear(receiver: Receiver, line: &mut [u8], count: usize, store: &mut [u8]) -> 
     while 0 < left {
         let step = state.receive(line, left, READY, store);
         state = step.state;
-        let answer = step.answer;
-        match answer {
-            Received::Refused(number) => {
+        match step.answer {
+            Ok(received) => {
+                last = last_event(last, received.event);
+                drop_bits(line, received.bits);
+                left -= received.bits;
+            }
+            Err(refusal) => {
                 return Heard {
                     receiver: state,
-                    last: Last::Refused(number),
+                    last: Err(refusal),
                 };
-            }
-            Received::Used { event, bits } => {
-                last = last_event(last, event);
-                drop_bits(line, bits);
-                left -= bits;
             }
         }
     }
     Heard {
         receiver: state,
-        last: Last::Event(last),
+        last: Ok(last),
     }
 }
 
@@ -183,89 +152,70 @@ fn disturb(kind: Kind, line: &mut [u8])
     requires { 0 < length line.old }
     ensures { line.new ≡ disturbed kind line.old }
 {
-    match kind {
-        Kind::Undisturbed => {}
-        Kind::Turned => {}
-        Kind::Damaged => {
-            line[0] = line[0] ^ 128;
-        }
+    if matches!(kind, Kind::Damaged) {
+        line[0] ^= 128;
     }
 }
 
-fn outcome_of(block: Block, reading: Reading, back: bool, last: Last) -> Outcome
-    ensures { result ≡ line_of block reading back last }
+fn outcome_of(sent: Shown, back: bool, last: Result<Event, Refusal>) -> Outcome
+    ensures { answer_of result ≡ line_of sent back (answer_of last) }
 {
-    match last {
-        Last::Refused(number) => Outcome::Refused(number),
-        Last::Event(event) => Outcome::Line(Line {
-            block,
-            reading,
-            event,
-            back,
-        }),
-    }
+    Ok(Line {
+        sent,
+        event: last?,
+        back,
+    })
 }
 
 // The period from the block sent on.
 fn heard_period(
     kind: Kind,
-    sender: Sender,
-    receiver: Receiver,
-    block: Block,
-    reading: Reading,
+    ends: Ends,
+    sent: Shown,
     line: &mut [u8],
     count: usize,
     store: &mut [u8],
 ) -> Period
     requires { Lent line.old count × (0 < count) }
-    ensures value { result ≡ (heard_result sender block reading (P.hear count receiver (arriving kind (take count (bits_of line.old))) store.old Event.None)).period }
-    ensures store_after { store.new ≡ (P.hear count receiver (arriving kind (take count (bits_of line.old))) store.old Event.None).store }
+    ensures { ran result store.new ≡ heard_result ends.sender sent (P.hear count ends.receiver (arriving kind (take count (bits_of line.old))) store.old Event.None) }
 {
     disturb(kind, line);
-    let heard = hear(receiver, line, count, store);
-    let next = heard.receiver;
-    let last = heard.last;
+    let heard = hear(ends.receiver, line, count, store);
     Period {
-        sender,
-        receiver: next,
-        outcome: outcome_of(block, reading, next.back, last),
+        ends: Ends {
+            receiver: heard.receiver,
+            ..ends
+        },
+        outcome: outcome_of(sent, heard.receiver.back, heard.last),
     }
 }
 
 // A sending call, and receiving calls until the block's bits are used or a call is refused.
-pub fn run_period(
-    kind: Kind,
-    sender: Sender,
-    receiver: Receiver,
-    order: &[u8],
-    store: &mut [u8],
-) -> Period
-    ensures { RunPeriod kind sender receiver order.now store.old result store.new }
+pub fn run_period(kind: Kind, ends: Ends, order: &[u8], store: &mut [u8]) -> Period
+    ensures { RunPeriod kind ends.sender ends.receiver order.now store.old result store.new }
 {
-    let reading = reading_of(kind, receiver.back);
-    let setup = sender.setup;
+    let reading = reading_of(kind, ends.receiver.back);
     let mut line = [0u8; 483];
-    let step = sender.send(order, reading, &mut line);
-    let next = step.state;
-    let answer = step.answer;
-    let sending = shown_sending(answer, reading);
-    match sending {
-        Sending::Refused(number) => Period {
-            sender: next,
-            receiver,
-            outcome: Outcome::Refused(number),
-        },
-        Sending::Sent { block, reading } => {
+    let step = ends.sender.send(order, reading, &mut line);
+    let after = Ends {
+        sender: step.state,
+        ..ends
+    };
+    match step.answer {
+        Ok(sent) => {
+            let count = ends.sender.setup.k + OVERHEAD;
             heard_period(
                 kind,
-                next,
-                receiver,
-                block,
-                reading,
+                after,
+                as_shown(sent, reading),
                 &mut line,
-                setup.k + OVERHEAD,
+                count,
                 store,
             )
         }
+        Err(refusal) => Period {
+            ends: after,
+            outcome: Err(refusal),
+        },
     }
 }

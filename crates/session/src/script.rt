@@ -1,16 +1,20 @@
 // A session read from its input one byte at a time: line one, then a line for each period. A byte yields nothing, a refusal or
 // a period's line, as data; how it is written is for the caller.
-ghost use Rattle.std.specs.Prelude.{◌≡◌, min, length};
-ghost use Rattle.session.specs.Session.{fresh, quiet, refused_at, receiver_opened, opens, after_period, period_taken, period_of, kind_at, line_one_read, over, Take, End};
+ghost use Rattle.std.specs.Prelude.{◌≡◌, length};
+ghost use Rattle.session.specs.Session.{fresh, quiet, refused_at, taken_answer, sender_opened, opens, after_period, period_taken, period_of, order_of, kind_at, line_one_read, over, Take, End};
 ghost use Rattle.session.specs.LineOne.{next_order};
-ghost use Rattle.line.specs.Receiving.{open_receiver};
+ghost use Rattle.session.specs.Outcomes.{speed, loop_ms, code_size};
+ghost use Rattle.session.specs.Period.{answer_of};
+ghost use Rattle.line.specs.Refusals.{refusal_number};
+ghost use Rattle.line.specs.Sending.{open_sender};
 
 use crate::line_one::LineOne;
-use crate::period::{Kind, Outcome, run_period};
-use line::marks::{CodeSize, Marks};
+use crate::period::{Ends, Kind, Outcome, run_period};
+use line::Refusal;
+use line::marks::Marks;
 use line::order::LONGEST_ORDER;
-use line::receiver::{Opening, Receiver};
-use line::sender::{Next, Opened, Sender, Setup};
+use line::receiver::Receiver;
+use line::sender::{Next, Sender, Setup};
 
 // The room that a session is lent for the order, and for the store: the longest order in items of 3840 bits, the last one
 // filled, which is the most over the four block lengths.
@@ -38,27 +42,14 @@ pub enum Place {
 pub struct Session {
     pub place: Place,
     pub opening: LineOne,
-    pub sender: Sender,
-    pub receiver: Receiver,
+    pub ends: Ends,
 }
 
 // What comes of a byte of input, or of its end.
 #[derive(Clone, Copy)]
-pub enum Yield {
-    Nothing,
-    Outcome(Outcome),
-}
-
-#[derive(Clone, Copy)]
 pub struct Taken {
     pub session: Session,
-    pub yielded: Yield,
-}
-
-pub fn least(a: usize, b: usize) -> usize
-    ensures { result ≡ min a b }
-{
-    if a < b { a } else { b }
+    pub yielded: Option<Outcome>,
 }
 
 // What the first byte of a line says.
@@ -74,154 +65,147 @@ fn kind_at(c: u8) -> Place
 }
 
 fn after_period(outcome: Outcome) -> Place
-    ensures { result ≡ after_period outcome }
+    ensures { result ≡ after_period (answer_of outcome) }
 {
     match outcome {
-        Outcome::Refused(_) => Place::Over,
-        Outcome::Line(_) => Place::LineStart,
+        Ok(_) => Place::LineStart,
+        Err(_) => Place::Over,
     }
 }
 
 impl Session {
+    #[tactic(auto, unfolding(crate::specs::Session::fresh, line::specs::Sending::fresh_sender, line::specs::Receiving::open_receiver, block::specs::Lengths::is_length))]
     pub fn new() -> Session
         ensures { result ≡ fresh }
     {
-        let opened = Receiver::open(0, CodeSize::NotGiven);
-        let receiver = opened.state;
         Session {
             place: Place::LineOne,
             opening: LineOne::new(),
-            sender: Sender {
-                setup: Setup {
-                    k: 0,
-                    length: 0,
-                    marks: Marks {
-                        in_use: false,
-                        size: 0,
+            ends: Ends {
+                sender: Sender {
+                    setup: Setup {
+                        k: 0,
+                        length: 0,
+                        marks: Marks::NONE,
                     },
+                    newer: 1,
+                    run: 0,
+                    opening: true,
+                    next: Next::Sync,
+                    finished: false,
                 },
-                newer: 1,
-                run: 0,
-                opening: true,
-                next: Next::Sync,
-                finished: false,
+                receiver: Receiver::open(0, None).state,
             },
-            receiver,
         }
     }
 
     fn quiet(self, place: Place) -> Taken
-        ensures { result ≡ quiet self place }
+        ensures { taken_answer result ≡ quiet self place }
     {
         Taken {
             session: Session { place, ..self },
-            yielded: Yield::Nothing,
+            yielded: None,
         }
     }
 
+    // The bytes of the order that line one gave.
+    fn order_of<'a>(&self, order: &'a [u8]) -> &'a [u8]
+        ensures { result.now ≡ order_of self.now order.now }
+    {
+        &order[..self.opening.kept.min(order.len())]
+    }
+
     // A refusal ends the run.
-    fn refused(self, number: u8) -> Taken
-        ensures { result ≡ refused_at self number }
+    fn refused(self, refusal: Refusal) -> Taken
+        ensures { taken_answer result ≡ refused_at self (refusal_number refusal) }
     {
         Taken {
             session: Session {
                 place: Place::Over,
                 ..self
             },
-            yielded: Yield::Outcome(Outcome::Refused(number)),
+            yielded: Some(Err(refusal)),
         }
     }
 
-    fn open_receiver(self, sender: Sender) -> Taken
-        ensures { result ≡ receiver_opened self sender (open_receiver self.opening.k CodeSize.NotGiven) }
+    // Both ends opened, the sender first.
+    #[tactic(auto, unfolding(line::specs::Sending::open_sender))]
+    fn open_ends(self, order: &[u8]) -> Result<Ends, Refusal>
+        ensures { answer_of result ≡ sender_opened self (open_sender self.opening.k speed loop_ms self.opening.length code_size (order_of self order.now)) }
     {
-        let opening = self.opening;
-        let opened = Receiver::open(opening.k, CodeSize::NotGiven);
-        let receiver = opened.state;
-        let answer = opened.answer;
-        match answer {
-            Opening::Refused(number) => self.refused(number),
-            Opening::Opened => Taken {
-                session: Session {
-                    place: Place::LineStart,
-                    opening,
-                    sender,
-                    receiver,
-                },
-                yielded: Yield::Nothing,
-            },
-        }
-    }
-
-    // Line one ends: both ends are opened, the sender first.
-    fn open(self, order: &[u8]) -> Taken
-        ensures { result ≡ opens self order.now }
-    {
-        let opening = self.opening;
-        if !opening.is_readable() {
-            return self.quiet(Place::Over);
-        }
-        let kept = least(opening.kept, order.len());
-        let opened = Sender::open(
-            opening.k,
+        let sender = Sender::open(
+            self.opening.k,
             SPEED,
             LOOP_MS,
-            opening.length,
-            CodeSize::NotGiven,
-            &order[..kept],
-        );
-        match opened {
-            Opened::Refused(number) => self.refused(number),
-            Opened::Opened(sender) => self.open_receiver(sender),
+            self.opening.length,
+            None,
+            self.order_of(order),
+        )?;
+        let opened = Receiver::open(self.opening.k, None);
+        opened.answer?;
+        Ok(Ends {
+            sender,
+            receiver: opened.state,
+        })
+    }
+
+    // Line one ends: both ends are opened.
+    #[tactic(auto, unfolding(crate::specs::Session::opens))]
+    fn open(self, order: &[u8]) -> Taken
+        ensures { taken_answer result ≡ opens self order.now }
+    {
+        if !self.opening.is_readable() {
+            return self.quiet(Place::Over);
+        }
+        match self.open_ends(order) {
+            Ok(ends) => Taken {
+                session: Session {
+                    place: Place::LineStart,
+                    ends,
+                    ..self
+                },
+                yielded: None,
+            },
+            Err(refusal) => self.refused(refusal),
         }
     }
 
     // A line of a kind ends: a period.
     fn line(self, kind: Kind, order: &[u8], store: &mut [u8]) -> Taken
-        ensures value { result ≡ period_taken self (period_of self kind order.now store.old) }
+        ensures value { taken_answer result ≡ period_taken self (period_of self kind order.now store.old) }
         ensures store_after { store.new ≡ (period_of self kind order.now store.old).store }
     {
-        let opening = self.opening;
-        let kept = least(opening.kept, order.len());
-        let sender = self.sender;
-        let receiver = self.receiver;
-        let period = run_period(kind, sender, receiver, &order[..kept], store);
-        let sender = period.sender;
-        let receiver = period.receiver;
-        let outcome = period.outcome;
+        let period = run_period(kind, self.ends, self.order_of(order), store);
         Taken {
             session: Session {
-                place: after_period(outcome),
-                opening,
-                sender,
-                receiver,
+                place: after_period(period.outcome),
+                ends: period.ends,
+                ..self
             },
-            yielded: Yield::Outcome(outcome),
+            yielded: Some(period.outcome),
         }
     }
 
     fn read_line_one(self, c: u8, order: &mut [u8]) -> Taken
-        ensures value { result ≡ line_one_read self c (length order.old) }
+        ensures value { taken_answer result ≡ line_one_read self c (length order.old) }
         ensures order_after { order.new ≡ next_order self.opening self.opening.place c order.old }
     {
-        let opening = self.opening;
-        let opening = opening.read(c, order);
         Taken {
             session: Session {
                 place: Place::LineOne,
-                opening,
+                opening: self.opening.read(c, order),
                 ..self
             },
-            yielded: Yield::Nothing,
+            yielded: None,
         }
     }
 
     // What a byte of input brings: the session after it and what it yields.
+    #[tactic(auto, unfolding(crate::specs::Session::takes, crate::specs::Session::takes_order, crate::specs::Session::takes_store))]
     pub fn read(self, c: u8, order: &mut [u8], store: &mut [u8]) -> Taken
         ensures { Take self c order.old store.old result order.new store.new }
     {
-        let place = self.place;
-        match place {
+        match self.place {
             Place::LineOne => {
                 if c == b'\n' {
                     return self.open(order);
@@ -240,11 +224,11 @@ impl Session {
     }
 
     // What the end of the input brings: a last line with no newline counts.
+    #[tactic(auto, unfolding(crate::specs::Session::ends, crate::specs::Session::ends_store))]
     pub fn end(self, order: &[u8], store: &mut [u8]) -> Taken
         ensures { End self order.now store.old result store.new }
     {
-        let place = self.place;
-        match place {
+        match self.place {
             Place::LineOne => self.open(order),
             Place::LineStart => self.quiet(Place::Over),
             Place::Kind(kind) => self.line(kind, order, store),
@@ -255,12 +239,6 @@ impl Session {
     pub fn is_over(self) -> bool
         ensures { result ≡ over self.place }
     {
-        let place = self.place;
-        match place {
-            Place::LineOne => false,
-            Place::LineStart => false,
-            Place::Kind(_) => false,
-            Place::Over => true,
-        }
+        matches!(self.place, Place::Over)
     }
 }

@@ -9,7 +9,7 @@ fn shifted(first: u8, second: u8, part: usize) -> u8
     requires { part < 8 }
     ensures { result ≡ (first * 256 + second) / 2 ^ (8 - part) % 256 }
 {
-    let both = first as u16 * 256 + second as u16;
+    let both = u16::from_be_bytes([first, second]);
     ((both >> (8 - part)) % 256) as u8
 }
 
@@ -19,9 +19,7 @@ pub fn drop_bits(s: &mut [u8], used: usize)
 {
     let from = used / 8;
     let part = used % 8;
-    let mut i = 0;
-    while i < s.len() {
+    for i in 0..s.len() {
         s[i] = shifted(byte_at(s, from + i), byte_at(s, from + i + 1), part);
-        i += 1;
     }
 }

@@ -1,17 +1,14 @@
--- `decimal_value` meets its contract: a range for each return. Assumes nothing.
-use native.Mathlib.Omega.{arith}
-use Rattle.session.proofs.Ranges.{within, below, above}
+-- `decimal_value` meets its contract. Assumes nothing.
+use Rattle.std.proofs.Common.{arith}
+use Rattle.std.proofs.lemmas.Grind.{common_steps}
+use Rattle.std.proofs.lemmas.Bool.Decides.{nat_tests}
 use Rattle.session.specs.LineOne.{decimal_value}
 use Rattle.session.proofs.line_one.decimal_value.Goals as goal
 
-pub returns-in-48-to-57 : goal.returns-in-48-to-57
+pub returns-in_err-to_digit : goal.returns-in_err-to_digit
 unfolding decimal_value
-returns-in-48-to-57 c = rw (within 48 57 c.args.c (omega arith) (omega arith))
+returns-in_err-to_digit c = let f = c.in_err-to_digit.ensures in grind (arith, common_steps, nat_tests)
 
-pub returns-in_default : goal.returns-in_default
+pub returns : goal.returns
 unfolding decimal_value
-returns-in_default c = rw (below 48 57 c.args.c (omega arith))
-
-pub returns-in_default-2 : goal.returns-in_default-2
-unfolding decimal_value
-returns-in_default-2 c = rw (above 48 57 c.args.c (omega arith))
+returns c = let f = c.in_ok-to_digit.ensures in grind (arith, common_steps, nat_tests)

@@ -1,33 +1,14 @@
--- `hex_value` meets its contract: a range for each return. Assumes nothing.
-use native.Mathlib.Omega.{arith}
-use Rattle.session.proofs.Ranges.{within, below, above}
+-- `hex_value` meets its contract. Assumes nothing.
+use Rattle.std.proofs.Common.{arith}
+use Rattle.std.proofs.lemmas.Grind.{common_steps}
+use Rattle.std.proofs.lemmas.Bool.Decides.{nat_tests}
 use Rattle.session.specs.LineOne.{hex_value}
 use Rattle.session.proofs.line_one.hex_value.Goals as goal
 
-pub returns-in-48-to-57 : goal.returns-in-48-to-57
+pub returns-in_err-to_digit-clause-value : goal.returns-in_err-to_digit-clause-value
 unfolding hex_value
-returns-in-48-to-57 c = rw (within 48 57 c.args.c (omega arith) (omega arith))
+returns-in_err-to_digit-clause-value c = let f = c.in_err-to_digit.ensures in grind (arith, common_steps, nat_tests)
 
-pub returns-in-65-to-70 : goal.returns-in-65-to-70
+pub returns-clause-value : goal.returns-clause-value
 unfolding hex_value
-returns-in-65-to-70 c = rw (above 48 57 c.args.c (omega arith), within 65 70 c.args.c (omega arith) (omega arith))
-
-pub returns-in-97-to-102 : goal.returns-in-97-to-102
-unfolding hex_value
-returns-in-97-to-102 c = rw (above 48 57 c.args.c (omega arith), above 65 70 c.args.c (omega arith), within 97 102 c.args.c (omega arith) (omega arith))
-
-pub returns-in_default : goal.returns-in_default
-unfolding hex_value
-returns-in_default c = rw (below 48 57 c.args.c (omega arith), below 65 70 c.args.c (omega arith), below 97 102 c.args.c (omega arith))
-
-pub returns-in_default-2 : goal.returns-in_default-2
-unfolding hex_value
-returns-in_default-2 c = rw (above 48 57 c.args.c (omega arith), below 65 70 c.args.c (omega arith), below 97 102 c.args.c (omega arith))
-
-pub returns-in_default-3 : goal.returns-in_default-3
-unfolding hex_value
-returns-in_default-3 c = rw (above 48 57 c.args.c (omega arith), above 65 70 c.args.c (omega arith), below 97 102 c.args.c (omega arith))
-
-pub returns-in_default-4 : goal.returns-in_default-4
-unfolding hex_value
-returns-in_default-4 c = rw (above 48 57 c.args.c (omega arith), above 65 70 c.args.c (omega arith), above 97 102 c.args.c (omega arith))
+returns-clause-value c = let f = c.in_ok-to_digit.ensures in grind (arith, common_steps, nat_tests)

@@ -1,33 +1,27 @@
-use mathlib.Core.Path.{◌≡◌, refl, sym, ap, ◌∙◌}
+-- `hear` meets its contract: each call's promise is one call of the period's. Assumes nothing.
+use mathlib.Core.Path.{◌≡◌, refl, sym, ◌∙◌}
 use native.Mathlib.Omega.{arith}
-use Rattle.session.specs.Period.{Hearing, hear}
-use Rattle.session.proofs.ReceivingCalls.{refusal, progress}
+use Rattle.session.specs.Period.{hear}
+use Rattle.session.proofs.ReceivingCalls.{call-refusal, progress}
 use Rattle.session.proofs.period.hear.Goals as goal
 
 pub loop-left-init : goal.loop-left-init
 loop-left-init c = (c.requires, refl, refl, refl)
 
-pub shape_of-line-in-Refused : goal.shape_of-line-in-Refused
-shape_of-line-in-Refused c = c.loop-left.invariant.1
-
-pub shape_of-store-in-Refused : goal.shape_of-store-in-Refused
-shape_of-store-in-Refused c = c.receive-step.auto.store ∙ c.loop-left.invariant.2
-
-pub returns-in-Refused : goal.returns-in-Refused
-returns-in-Refused c = let l = c.loop-left in
+pub returns-in-Err : goal.returns-in-Err
+returns-in-Err c = let l = c.loop-left in
     let r = c.receive-step in
     let g =
-    refusal l.state l.line l.left l.store l.last r.result r.new.store l.invariant.0
-    c.loop-left-test.true r.ensures _ c.in-Refused.is in
-    let e = sym g ∙ l.invariant.3 in
-    record { value = ap (λ (h : Hearing). h.heard) e; store_after = ap (λ (h : Hearing). h.store) e }
+    call-refusal l.state l.line l.left l.store l.last r.result r.new.store l.invariant.0
+    c.loop-left-test.true r.ensures _ c.in-Err.is in
+    sym g ∙ l.invariant.3
 
 pub overflow_sub-left : goal.overflow_sub-left
 overflow_sub-left c = let l = c.loop-left in
     let r = c.receive-step in
     let m =
     progress l.state l.line l.left l.store l.last r.result r.new.store l.invariant.0
-    c.loop-left-test.true r.ensures _ _ c.in-Used.is in
+    c.loop-left-test.true r.ensures _ c.in-Ok.is in
     m.uses.1
 
 pub loop-left-smaller : goal.loop-left-smaller
@@ -35,7 +29,7 @@ loop-left-smaller c = let l = c.loop-left in
     let r = c.receive-step in
     let m =
     progress l.state l.line l.left l.store l.last r.result r.new.store l.invariant.0
-    c.loop-left-test.true r.ensures _ _ c.in-Used.is in
+    c.loop-left-test.true r.ensures _ c.in-Ok.is in
     omega (arith, m.uses.0, m.uses.1)
 
 pub loop-left-preserved : goal.loop-left-preserved
@@ -43,7 +37,7 @@ loop-left-preserved c = let l = c.loop-left in
     let r = c.receive-step in
     let m =
     progress l.state l.line l.left l.store l.last r.result r.new.store l.invariant.0
-    c.loop-left-test.true r.ensures _ _ c.in-Used.is in
+    c.loop-left-test.true r.ensures _ c.in-Ok.is in
     let d = c.drop_bits in (
       rw d.ensures m.lent-next,
       d.auto.s ∙ l.invariant.1,
@@ -51,15 +45,8 @@ loop-left-preserved c = let l = c.loop-left in
       rw (d.ensures, c.last_event-last.ensures) (sym m.goes_on ∙ l.invariant.3),
     )
 
-pub shape_of-line : goal.shape_of-line
-shape_of-line c = c.loop-left.invariant.1
-
-pub shape_of-store : goal.shape_of-store
-shape_of-store c = c.loop-left.invariant.2
-
 pub returns : goal.returns
 unfolding hear
 returns c = let l = c.loop-left in
     let z : l.left ≡ 0 = omega arith in
-    let e = rw z at l.invariant.3 in
-    record { value = ap (λ (h : Hearing). h.heard) e; store_after = ap (λ (h : Hearing). h.store) e }
+    rw z at l.invariant.3

@@ -4,7 +4,7 @@ use native.Mathlib.Omega.{arith}
 use lib.ListN.{length, take}
 use Rattle.crc.specs.Bits.{bits_of}
 use Rattle.crc.proofs.Bytes.{length-bytes_of}
-use Rattle.session.specs.Period.{line_bytes}
+use Rattle.session.specs.Period.{line_bytes, heard_result}
 use Rattle.session.proofs.ReceivingCalls.{arrives}
 use Rattle.session.proofs.period.heard_period.Goals as goal
 
@@ -20,4 +20,4 @@ pub returns : goal.returns
 returns c = let a = c.args in
     let g = arrives a.kind a.line.now a.count c.requires.0 c.requires.1 in
     let e = rw (c.disturb.ensures, g.bits) at c.hear-heard.ensures in
-    record { value = rw (c.outcome_of.ensures, e.value); store_after = e.store_after }
+    rw c.outcome_of.ensures (ap (heard_result a.ends.sender a.sent) e)

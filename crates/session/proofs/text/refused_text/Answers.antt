@@ -2,34 +2,38 @@
 use native.Mathlib.Omega.{arith}
 use mathlib.Core.Path.{◌≡◌, ap, ◌∙◌}
 use Prim.Native.Nat.{◌+◌}
-use Rattle.session.specs.Text.{Appends, empty_text, ascii, refused_text}
-use Rattle.session.specs.declared.text.Text.{Text}
+use Rattle.line.specs.Refusals.{refusal_number}
+use Rattle.session.specs.Buffer.{Appends}
+use Rattle.session.specs.Text.{empty_text, ascii, refused_text}
+use Rattle.session.specs.Text.{Text}
 use Rattle.session.proofs.Appending.{appends_all, appends_next}
 use Rattle.session.proofs.Decimal.{length-decimal}
 use Rattle.session.proofs.text.refused_text.Goals as goal
-use Rattle.session.proofs.text.refused_text.Goals.{After-word}
+use Rattle.session.proofs.text.refused_text.Goals.{After-append}
 
-pub word-requires : goal.word-requires
-word-requires c = rw c.new.ensures (omega arith)
+pub append-requires : goal.append-requires
+append-requires c = rw c.new-text.ensures (omega arith)
 
 -- how long the text is after the word
-worded : (c : After-word) → c.word.result.len ≡ 8
-worded c = c.word.ensures.len ∙ ap (λ (t : Text). t.len + 8) c.new.ensures
+worded : (c : After-append) → c.append.new.self.len ≡ 8
+worded c = c.append.ensures.len ∙ ap (λ (t : Text). t.len + 8) c.new-text.ensures
 
 pub decimal-requires : goal.decimal-requires
-decimal-requires c = omega (arith, worded (goal.at.decimal-requires c).After-word, length-decimal 19 c.args.number (omega arith))
+decimal-requires c = omega (arith, worded (goal.at.decimal-requires c).After-append, length-decimal 19 c.from-2.result (omega arith))
 
-pub byte-requires : goal.byte-requires
-byte-requires c = omega (
+pub append-requires-2 : goal.append-requires-2
+append-requires-2 c = omega (
   arith,
-  worded (goal.at.byte-requires c).After-word,
+  worded (goal.at.append-requires-2 c).After-append,
   c.decimal.ensures.len,
-  length-decimal 19 c.args.number (omega arith),
+  length-decimal 19 c.from-2.result (omega arith),
 )
 
 pub returns : goal.returns
 unfolding refused_text
-returns c = let w : Appends empty_text (ascii "refused ") c.word.result =
-    rw c.new.ensures at c.word.ensures in
-    appends_all (refused_text c.args.number) c.byte.result
-    (appends_next _ _ _ _ (appends_next _ _ _ _ w c.decimal.ensures) c.byte.ensures)
+returns c = let w : Appends empty_text (ascii "refused ") c.append.new.self =
+    rw c.new-text.ensures at c.append.ensures in
+    let n : c.from-2.result ≡ refusal_number c.args.refusal = c.from-2.ensures ∙ c.from.ensures in
+    let d = rw n at c.decimal.ensures in
+    appends_all (refused_text (refusal_number c.args.refusal)) c.append-2.new.self
+    (appends_next _ _ _ _ (appends_next _ _ _ _ w d) c.append-2.ensures)

@@ -1,32 +1,34 @@
--- `Program::read` meets its contract. Assumes nothing.
-use borrow.Author.Rules.{rules}
+-- `Program::read` meets its contract: the end, or the bytes of a part. Assumes nothing.
 use mathlib.Core.Path.{◌≡◌, sym, ap, ◌∙◌}
 use mathlib.Core.List.{List}
-use Prim.Native.Nat.{ℕ}
+use Prim.Native.Nat.{ℕ, min}
 use native.Mathlib.Omega.{arith}
+use borrow.Author.Rules.{rules}
 use lib.ListN.{length, take}
 use lib.Seq.{length-take-le}
-use Rattle.session.specs.Program.{turn}
+use Rattle.session.specs.Program.{after_end, end_text, after_bytes, bytes_text, turn}
+use Rattle.session.proofs.Outputs.{made_of, not_the_end}
 use Rattle.session.proofs.Parts.{take_least}
 use Rattle.session.proofs.program.Program.read.Goals as goal
-
-pub returns-then-count-eq0 : goal.returns-then-count-eq0
-returns-then-count-eq0 c = let a = c.args in
-    c.end.ensures ∙ ap (λ (n : ℕ). turn a.self (take n a.part.now)) (sym c.if-count-eq0.true)
-
-pub slice_bounds-read_part-end : goal.slice_bounds-read_part-end
-slice_bounds-read_part-end c = let a = c.args in
-    let h : length a.part.now ≡ 2048 = search rules in
-    sym (length-take-le c.least-n.result a.part.now (omega arith))
-
-pub read_part-requires : goal.read_part-requires
-read_part-requires c = let a = c.args in
-    let h : length a.part.now ≡ 2048 = search rules in
-    let l = length-take-le c.least-n.result a.part.now (omega arith) in
-    record { part_nonzero = omega arith; part_len_bound = omega arith }
+use Rattle.session.proofs.program.Program.read.Goals.{then-count-eq0, else-count-eq0}
 
 pub returns : goal.returns
 returns c = let a = c.args in
-    c.read_part.ensures
-    ∙ ap (λ (l : List ℕ). turn a.self l)
-    (ap (λ (n : ℕ). take n a.part.now) c.least-n.ensures ∙ take_least a.count a.part.now)
+    let p = a.self in
+    let j = c.if-count-eq0 in
+    let h : length a.part.now ≡ 2048 = search rules in
+    elim c.if-count-eq0.branch [
+      | then-count-eq0 w ↦
+          let e = w.end.ensures in
+          made_of (after_end p) j.program (end_text p) c.new-output.result j.output c.is_over.result c.new-output.ensures
+          (w.program-is ∙ e.program) (rw w.output-is e.appends) c.is_over.ensures
+          ∙ ap (λ (n : ℕ). turn p (take n a.part.now)) (sym w.if-count-eq0.true)
+      | else-count-eq0 w ↦
+          let e = w.read_bytes.ensures in
+          let part : List ℕ = take w.min.result a.part.now in
+          let l = length-take-le w.min.result a.part.now (omega (arith, w.min.ensures)) in
+          made_of (after_bytes p part) j.program (bytes_text p part) c.new-output.result j.output c.is_over.result c.new-output.ensures
+          (w.program-is ∙ e.program) (rw w.output-is e.appends) c.is_over.ensures
+          ∙ sym (not_the_end p part (omega (arith, w.min.ensures, w.if-count-eq0.false)))
+          ∙ ap (turn p) (ap (λ (n : ℕ). take n a.part.now) (w.min.ensures ∙ ap (min a.count) (sym h)) ∙ take_least a.count a.part.now)
+    ]

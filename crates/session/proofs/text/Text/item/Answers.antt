@@ -6,8 +6,5 @@ use Rattle.session.proofs.text.Text.item.Goals as goal
 pub decimal-requires : goal.decimal-requires
 decimal-requires c = omega (arith, length-decimal 19 c.args.number (omega arith))
 
-pub returns-then-end : goal.returns-then-end
-returns-then-end c = record { appends = rw c.if-end.true c.byte.ensures; len_bound = omega (arith, c.byte.ensures.len) }
-
-pub returns-else-end : goal.returns-else-end
-returns-else-end c = record { appends = rw c.if-end.false c.decimal.ensures; len_bound = omega (arith, c.decimal.ensures.len, length-decimal 19 c.args.number (omega arith)) }
+pub returns-else-end-clause-len_bound : goal.returns-else-end-clause-len_bound
+returns-else-end-clause-len_bound c = omega (arith, c.decimal.ensures.len, length-decimal 19 c.args.number (omega arith))

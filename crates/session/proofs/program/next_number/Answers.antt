@@ -1,9 +1,0 @@
--- `next_number` meets its contract. Assumes nothing.
-use borrow.Author.Tests.{lt-ltb, le-ltb}
-use Rattle.session.proofs.program.next_number.Goals as goal
-
-pub returns-then-n-lt18446744073709551615 : goal.returns-then-n-lt18446744073709551615
-returns-then-n-lt18446744073709551615 c = rw (lt-ltb _ _ c.if-n-lt18446744073709551615.true)
-
-pub returns-else-n-lt18446744073709551615 : goal.returns-else-n-lt18446744073709551615
-returns-else-n-lt18446744073709551615 c = rw (le-ltb _ _ c.if-n-lt18446744073709551615.false)
