@@ -2,19 +2,14 @@
 use mathlib.Core.Path.{◌≡◌, refl, ap, ◌∙◌}
 use mathlib.Core.Bool.{Bool, true, false}
 use mathlib.Core.List.{List, [], ◌∷◌, ◌++◌}
-use mathlib.Core.Logic.{⊎_elim, ◌⊎◌, inl, inr}
+use mathlib.Core.Logic.{⊎_elim}
 use Prim.Native.Nat.{ℕ, zero, suc, ◌+◌, ◌*◌, ◌/◌, ◌%◌, ◌^◌, ◌≤◌, ◌<◌}
 use native.Mathlib.Nat.{pow-suc}
 use native.Mathlib.Omega.{arith}
-use lib.Dec.{ltb}
 use lib.ListN.{length, length-append}
-use borrow.Author.Tests.{lt-ltb, le-ltb, ltb-true, ltb-false}
+use borrow.Author.Tests.{lt-ltb, le-ltb}
+use Rattle.std.proofs.lemmas.Bool.{cases_lt}
 use Rattle.session.specs.Text.{decimal_to, decimal, bit_text}
-
--- below a number or not
-pub below_or : (a b : ℕ) (t : Bool) → ltb a b ≡ t → (a < b) ⊎ (b ≤ a)
-below_or a b true e = inl (ltb-true a b e)
-below_or a b false e = inr (ltb-false a b e)
 
 -- enough places are enough
 decimal-places : (f g n : ℕ) → n < f → n < g → decimal_to f n ≡ decimal_to g n
@@ -23,7 +18,7 @@ decimal-places (suc f) zero n hf hg = absurd (omega arith)
 decimal-places (suc f) (suc g) n hf hg =
     ⊎_elim (λ h. rw (lt-ltb n 10 h))
     (λ h. rw (le-ltb n 10 h) (ap (λ (l : List ℕ). l ++ ((48 + n % 10) ∷ [])) (decimal-places f g (n / 10) (omega arith) (omega arith))))
-    (below_or n 10 _ refl)
+    (cases_lt n 10)
 
 pub decimal_one : (n : ℕ) → n < 10 → decimal n ≡ (48 + n) ∷ []
 unfolding decimal
@@ -46,7 +41,7 @@ length-decimal (suc p) n h =
     let e : 10 ^ suc (suc p) ≡ 10 ^ suc p * 10 = pow-suc 10 (suc p) in
     let l : length (decimal (n / 10)) ≤ suc p = length-decimal p (n / 10) (omega arith) in
     rw (decimal_more n m, length-append) (omega arith))
-    (below_or n 10 _ refl)
+    (cases_lt n 10)
 
 -- a truth value is shown in one
 pub length-bit : (b : Bool) → length (bit_text b) ≡ 1

@@ -1,6 +1,6 @@
 -- Lemmas of the run program's text; those of one function of the code stand in the folder of its file.
 -- Texts: Appending, Decimal, Outputs (texts in an output). Line one: LineOne, Openings (opening by what is kept of it). A
--- period: Orders, Parts, Sent (the block in the line's array), Shifting, ReceivingCalls, Uses, PeriodCalls, NeverWaits (no line
+-- period: Orders, Sent (the block in the line's array), Shifting, ReceivingCalls, Uses, PeriodCalls, NeverWaits (no line
 -- shows a wait), HeardEvents, LastEvent (no line hides accepted or ended), Witness (periods computed for it). The whole input:
 -- ByBytes (a byte at a time), MostPeriods (how many periods), Whole (in parts).
 pub mod Appending
@@ -15,7 +15,6 @@ pub mod NeverWaits
 pub mod Openings
 pub mod Orders
 pub mod Outputs
-pub mod Parts
 pub mod PeriodCalls
 pub mod Sent
 pub mod Shifting

@@ -17,7 +17,7 @@ use Rattle.line.specs.LoopTime.{loop_time}
 use Rattle.line.specs.Sending.{open_sender}
 use Rattle.session.specs.LineOne.{limit}
 use Rattle.session.specs.Outcomes.{speed, loop_ms, code_size, order_room}
-use Rattle.session.proofs.Decimal.{below_or}
+use Rattle.std.proofs.lemmas.Bool.{cases_lt}
 use Rattle.session.proofs.Orders.{short-kept}
 
 -- no block length lies above the limit
@@ -44,7 +44,7 @@ k_kept k L order =
     (λ (h : limit < k).
     let e : min k limit ≡ limit = omega arith in
     rw (e, limit_loop, above_loop k h))
-    (λ (h : k ≤ limit). let e : min k limit ≡ k = omega arith in rw e) (below_or limit k _ refl)
+    (λ (h : k ≤ limit). let e : min k limit ≡ k = omega arith in rw e) (cases_lt limit k)
 
 length-kept : (k L : ℕ) (order : List ℕ)
     → open_sender k speed loop_ms (min L limit) code_size (take order_room order) ≡ open_sender k speed loop_ms L code_size order
@@ -59,7 +59,7 @@ length-kept k L order =
     (λ (h : L ≤ longest_order).
     let e : min L limit ≡ L = omega arith in
     rw (e, short-kept order_room order L (omega arith)))
-    (below_or longest_order L _ refl)
+    (cases_lt longest_order L)
 
 pub open_kept : (k L : ℕ) (order : List ℕ)
     → open_sender (min k limit) speed loop_ms (min L limit) code_size (take order_room order)

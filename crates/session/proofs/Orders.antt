@@ -20,7 +20,7 @@ use Rattle.line.specs.declared.receiver.Receiver.{Receiver}
 use Rattle.line.proofs.Delivery.SendStep.{setup_kept}
 use Rattle.session.specs.Period.{reading_of, line_bytes, sent_result, period}
 use Rattle.session.specs.declared.period.Kind.{Kind}
-use Rattle.session.proofs.Decimal.{below_or}
+use Rattle.std.proofs.lemmas.Bool.{cases_lt}
 
 module _ (m : ℕ) (order : List ℕ) (L : ℕ) (fits : L ≤ 8 * m) where
   pub short-kept : too_short (take m order) L ≡ too_short order L
@@ -29,7 +29,7 @@ module _ (m : ℕ) (order : List ℕ) (L : ℕ) (fits : L ≤ 8 * m) where
       (λ (h : m < length order).
       let n : length (take m order) ≡ m = length-take-le m order (omega arith) in
       rw (n, le-ltb (8 * m) L fits, le-ltb (8 * length order) L (omega arith)))
-      (λ (h : length order ≤ m). rw (take_all m order h)) (below_or m (length order) _ refl)
+      (λ (h : length order ≤ m). rw (take_all m order h)) (cases_lt m (length order))
 
   bits_kept : order_bits L (take m order) ≡ order_bits L order
   bits_kept = ap (take L) (sym (take-bits_of m order)) ∙ take-take L (8 * m) (bits_of order) fits

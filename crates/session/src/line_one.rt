@@ -34,7 +34,8 @@ pub struct LineOne {
     pub kept: usize,
 }
 
-// The value of a decimal digit.
+// The value of a decimal digit. This and `hex_value` are one function of the library, each at its base.
+#[tactic(auto, unfolding(crate::specs::LineOne::decimal_value), using(std::proofs::lemmas::Grind::common_steps, std::proofs::lemmas::Bool::Decides::nat_tests))]
 pub fn decimal_value(c: u8) -> Option<u8>
     ensures { result ≡ decimal_value c }
 {
@@ -42,6 +43,7 @@ pub fn decimal_value(c: u8) -> Option<u8>
 }
 
 // The value of a hexadecimal digit.
+#[tactic(auto, unfolding(crate::specs::LineOne::hex_value), using(std::proofs::lemmas::Grind::common_steps, std::proofs::lemmas::Bool::Decides::nat_tests))]
 pub fn hex_value(c: u8) -> Option<u8>
     ensures value { result ≡ hex_value c }
     ensures small { IfSome result (λ digit. digit < 16) }
@@ -83,7 +85,8 @@ impl LineOne {
         self.at(if c == b' ' { place } else { Place::Unreadable })
     }
 
-    // A digit of k, or the blank that leads to the place behind it.
+    // A digit of k, or the blank that leads to the place behind it. Two functions, this and `read_length`: in one, a switch would
+    // say which field grows.
     fn read_k(self, c: u8, behind: Place) -> LineOne
         ensures { result ≡ k_next self c behind }
     {

@@ -33,7 +33,7 @@ pub struct Program {
 pub struct Turn {
     pub program: Program,
     pub output: Output,
-    // Nothing more is to be read.
+    // Nothing more is to be read. A flag, and no Option of the program: `turn` and `Whole` name the program after the end too.
     pub over: bool,
 }
 

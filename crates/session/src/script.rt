@@ -53,6 +53,7 @@ pub struct Taken {
 }
 
 // What the first byte of a line says.
+#[tactic(auto, unfolding(crate::specs::Outcomes::letter_kind))]
 fn kind_at(c: u8) -> Place
     ensures { result ≡ kind_at c }
 {
@@ -129,7 +130,6 @@ impl Session {
     }
 
     // Both ends opened, the sender first.
-    #[tactic(auto, unfolding(line::specs::Sending::open_sender))]
     fn open_ends(self, order: &[u8]) -> Result<Ends, Refusal>
         ensures { answer_of result ≡ sender_opened self (open_sender self.opening.k speed loop_ms self.opening.length code_size (order_of self order.now)) }
     {
@@ -200,7 +200,8 @@ impl Session {
         }
     }
 
-    // What a byte of input brings: the session after it and what it yields.
+    // What a byte of input brings: the session after it and what it yields. The order and the store are lent apart: line one
+    // writes the order alone, a period the store alone.
     #[tactic(auto, unfolding(crate::specs::Session::takes, crate::specs::Session::takes_order, crate::specs::Session::takes_store))]
     pub fn read(self, c: u8, order: &mut [u8], store: &mut [u8]) -> Taken
         ensures { Take self c order.old store.old result order.new store.new }

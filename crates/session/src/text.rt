@@ -106,6 +106,7 @@ impl Text {
 }
 
 // The heading, which comes first.
+#[tactic(auto, unfolding(crate::specs::Text::heading), using(crate::proofs::Appending::appends_all))]
 pub fn heading_text() -> Text
     ensures { result ≡ holding heading }
 {

@@ -1,6 +1,7 @@
 -- `drop_bits` meets its contract: the bytes so far are those of the moved bits, the others as they were. Assumes nothing.
 use mathlib.Core.Path.{◌≡◌, refl, sym}
 use native.Mathlib.Omega.{arith}
+use borrow.Author.Rules.{rules}
 use lib.ListN.{length}
 use lib.Seq.{take_all}
 use Rattle.crc.specs.Bits.{bytes_of}
@@ -9,7 +10,7 @@ use Rattle.session.proofs.shift.drop_bits.Goals as goal
 
 pub loop-i-init : goal.loop-i-init
 unfolding bytes_of
-loop-i-init c = (λ j. (c.slice_known-1.given j).fits, refl, refl)
+loop-i-init c = (search rules, refl, refl)
 
 pub loop-i-preserved : goal.loop-i-preserved
 loop-i-preserved c = let l = c.loop-i in

@@ -8,7 +8,7 @@ use lib.ListN.{length, take}
 use lib.Seq.{length-take-le}
 use Rattle.session.specs.Program.{after_end, end_text, after_bytes, bytes_text, turn}
 use Rattle.session.proofs.Outputs.{made_of, not_the_end}
-use Rattle.session.proofs.Parts.{take_least}
+use Rattle.std.proofs.lemmas.List.{take_min}
 use Rattle.session.proofs.program.Program.read.Goals as goal
 use Rattle.session.proofs.program.Program.read.Goals.{then-count-eq0, else-count-eq0}
 
@@ -30,5 +30,5 @@ returns c = let a = c.args in
           made_of (after_bytes p part) j.program (bytes_text p part) c.new-output.result j.output c.is_over.result c.new-output.ensures
           (w.program-is ∙ e.program) (rw w.output-is e.appends) c.is_over.ensures
           ∙ sym (not_the_end p part (omega (arith, w.min.ensures, w.if-count-eq0.false)))
-          ∙ ap (turn p) (ap (λ (n : ℕ). take n a.part.now) (w.min.ensures ∙ ap (min a.count) (sym h)) ∙ take_least a.count a.part.now)
+          ∙ ap (turn p) (ap (λ (n : ℕ). take n a.part.now) (w.min.ensures ∙ ap (min a.count) (sym h)) ∙ take_min a.count a.part.now)
     ]
