@@ -4,7 +4,8 @@ A place is the folder of a function's proof, or another file of proofs/. An edit
 alone, since callers see contracts and no edit changes one. An edit of a constant has the places of the functions that name
 it, also by another constant. An edit of a definition has every place that rests on its file, by `use` lines and, for a
 function, the `ghost use` lines of its source file and of those that it uses. All this is read from the text: where in doubt
-a place too many is taken, so that two edits are tried apart.
+a place too many is taken, so that two edits are tried apart. An edit of an enum's numbers has the places of the impls that
+turn the enum into another type.
 """
 
 import pathlib
@@ -12,13 +13,21 @@ import re
 
 FUNCTION = re.compile(r'^( *)(?:pub(?:\(crate\))? )?(?:extern "C" )?fn (\w+)', re.MULTILINE)
 CONSTANT = re.compile(r"^ *(?:pub(?:\(crate\))? )?const (\w+):.*?;$", re.MULTILINE | re.DOTALL)
-TYPE = re.compile(r"^impl (\w+)", re.MULTILINE)
+# An impl, of a trait or of the type alone.
+TYPE = re.compile(r"^impl(?:<[^>]*>)? (?:(?:\w+::)*(\w+)(?:<(\w+)>)? for )?(\w+)", re.MULTILINE)
+ENUM = re.compile(r"^(?:pub(?:\(crate\))? )?enum (\w+) \{.*?^\}", re.MULTILINE | re.DOTALL)
 # The cycle of calls that a function is in, by the attributes right above it.
 CYCLE = re.compile(r"#\[cycle\((\w+)\)\]\s*(?:#\[[^\n]*\]\s*)*\Z")
 MODULE_USED = re.compile(r"\b(\w+)::")
 # A module of the crate's specs or proofs, by its whole name, and one that a function's `#[tactic(..)]` names.
 IMPORTED = r"^(?:pub |ghost )*use Rattle\.{}\.((?:specs|proofs)(?:\.[^.\s{{;]+)+)"
 FOR_TACTICS = re.compile(r"\bcrate::((?:specs|proofs)(?:::\w+)+)::")
+
+
+def impl_name(found):
+    """An impl as rt names it in a function's path: U8FromRefusal is `impl From<Refusal> for u8`."""
+    trait, argument, name = found.groups()
+    return name if trait is None else "".join(part[0].upper() + part[1:] for part in (name, trait, argument or "") if part)
 
 
 def module_of(file):
@@ -44,7 +53,7 @@ class Places:
     def functions_in(self, file, text):
         """The start, the end, the place and the name of each function in a source file. A function ends at the first brace that
         stands as far from the margin as it does. The functions of a cycle of calls have one place."""
-        types = [(found.start(), found[1]) for found in TYPE.finditer(text)]
+        types = [(found.start(), impl_name(found)) for found in TYPE.finditer(text)]
         for found in FUNCTION.finditer(text):
             end = re.compile(rf"^{found[1]}}}", re.MULTILINE).search(text, found.start()).end()
             owner = [name for start, name in types if start < found.start()][-1:] if found[1] else []
@@ -108,16 +117,21 @@ class Places:
             if any(names & set(word.findall(self.sources[file][start:end])) for file, start, end in parts):
                 yield place
 
+    def turning(self, enum):
+        """The places of the functions that turn an enum into another type."""
+        return {place for place in self.functions if f"From{enum}" in pathlib.PurePath(place).parts[-2]}
+
     def of_source(self, file, old):
-        """The places of a text of a source file; none where it is in no function and no constant."""
+        """The places of a text of a source file; none where it is in no function, no constant and no enum."""
         text = self.sources[file]
         at = text.find(old)
         functions = [(place, part) for place, parts in self.functions.items() for part in parts]
         inside = {place for place, (other, start, end) in functions if other == file and start <= at < end}
         if inside:
             return inside
+        enums = [found[1] for found in ENUM.finditer(text) if found.start() <= at < found.end()]
         constants = [found[1] for found in CONSTANT.finditer(text) if found.start() < at + len(old) and at < found.end()]
-        return set().union(*map(self.naming, constants))
+        return set().union(*map(self.naming, constants), *map(self.turning, enums))
 
     def of_code(self, edit):
         """The places of what an edit that fits the crate changes in source files."""

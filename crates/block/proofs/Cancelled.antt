@@ -1,4 +1,6 @@
 -- A block that passes, once it is cancelled, fails with the remainder 1: on the promises of the calls. Assumes nothing.
+use Rattle.std.specs.Prelude.{Result, Ok, Err}
+use Rattle.block.specs.declared.Refusal.{Refusal}
 use mathlib.Core.Path.{◌≡◌, sym, ap, ◌∙◌}
 use mathlib.Core.Bool.{true}
 use mathlib.Core.List.{List, ◌++◌}
@@ -16,7 +18,6 @@ use Rattle.block.specs.Lengths.{block_length}
 use Rattle.block.specs.Block.{failed, verdict, cancelled}
 use Rattle.block.specs.Calls.{too_short, read_answer, ReadBlock, cancel_bytes, CancelBlock}
 use Rattle.block.specs.Packed.{ReadPacked, held_packed, CancelPacked}
-use Rattle.block.specs.declared.Built.TheVariants as B
 use Rattle.block.specs.declared.Read.{Read}
 use Rattle.block.specs.declared.Read.TheVariants as R
 use Rattle.block.proofs.Block.{length-cancelled, cancelled-verdict}
@@ -24,7 +25,7 @@ use Rattle.block.proofs.Refusals.{passed_test, read_done}
 use Rattle.block.proofs.LookUp.{read_below, cancelled_below}
 use Rattle.block.proofs.Passing.{row_passed}
 
-module _ (k : ℕ) (slice slice' : List ℕ) (c : CancelPacked k slice B.Done slice') where
+module _ (k : ℕ) (slice slice' : List ℕ) (c : CancelPacked k slice (Ok tt) slice') where
   -- the n bits before
   abbrev row : Bits
   row = take (block_length k) (bits_of slice)
@@ -60,23 +61,23 @@ module _ (k : ℕ) (slice slice' : List ℕ) (c : CancelPacked k slice B.Done sl
   verdict-cancelled p = ap verdict row_cancelled ∙ cancelled-verdict row (omega (arith, length_row)) p
 
   -- whatever its service bits and data, and whatever room there is for the data
-  pub packed_cancelled : (service : ℕ) (room room' again again' : List ℕ) (answer : Read) → ReadPacked k slice room (R.Passed service) room'
-      → ReadPacked k slice' again answer again' → k ≤ 8 * length again → answer ≡ R.Failed 1
+  pub packed_cancelled : (service : ℕ) (room room' again again' : List ℕ) (answer : Result Read Refusal) → ReadPacked k slice room (Ok (R.Passed service)) room'
+      → ReadPacked k slice' again answer again' → k ≤ 8 * length again → answer ≡ Ok (R.Failed 1)
   packed_cancelled service room room' again again' answer before behind space =
       let wide : length slice' ≡ length slice = ap length bytes_written ∙ length-bytes_of (length slice) written in
       failed_answer answer 1
       (behind.answers ∙ read_done k slice' again (omega (arith, wide, held)) space
       ∙ ap done (verdict-cancelled (row_passed k slice room room' service before)))
     where
-      failed_answer : (answer : Read) (r : ℕ) → read_answer answer ≡ done (failed r) → answer ≡ R.Failed r
-      failed_answer (R.Passed s) r h = absurd (let z : ◌≡◌ {A = ℕ} 0 1 = cc in omega arith)
-      failed_answer (R.Failed x) r h = cc
-      failed_answer (R.Refused n) r h = absurd (let z : ◌≡◌ {A = ℕ} 0 1 = cc in omega arith)
+      failed_answer : (answer : Result Read Refusal) (r : ℕ) → read_answer answer ≡ done (failed r) → answer ≡ Ok (R.Failed r)
+      failed_answer (Ok (R.Passed s)) r h = absurd (let z : ◌≡◌ {A = ℕ} 0 1 = cc in omega arith)
+      failed_answer (Ok (R.Failed x)) r h = cc
+      failed_answer (Err n) r h = absurd (let z : ◌≡◌ {A = ℕ} 0 1 = cc in omega arith)
 
 -- and so by k
-pub cancelled-read : (k : ℕ) (slice slice' : List ℕ) → CancelBlock k slice B.Done slice' → (service : ℕ) (room room' again again' : List ℕ)
-    (answer : Read) → ReadBlock k slice room (R.Passed service) room' → ReadBlock k slice' again answer again' → k ≤ 8 * length again
-    → answer ≡ R.Failed 1
+pub cancelled-read : (k : ℕ) (slice slice' : List ℕ) → CancelBlock k slice (Ok tt) slice' → (service : ℕ) (room room' again again' : List ℕ)
+    (answer : Result Read Refusal) → ReadBlock k slice room (Ok (R.Passed service)) room' → ReadBlock k slice' again answer again' → k ≤ 8 * length again
+    → answer ≡ Ok (R.Failed 1)
 cancelled-read k slice slice' c service room room' again again' answer before behind space =
     let below = cancelled_below k slice slice' c in
     packed_cancelled k slice slice' below.1 service room room' again again' answer

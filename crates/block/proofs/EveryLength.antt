@@ -1,4 +1,5 @@
 -- Packing, unpacking, check, synchronising block and cancelling, at every multiple of 8. Assumes nothing.
+use Rattle.std.specs.Prelude.{Ok}
 use mathlib.Core.Path.{◌≡◌, sym, ap, ◌∙◌}
 use mathlib.Core.Bool.{true, false}
 use mathlib.Core.List.{List, ◌++◌}
@@ -14,15 +15,13 @@ use Rattle.block.specs.Block.{sync_block}
 use Rattle.block.specs.Calls.{sync_bytes}
 use Rattle.block.specs.Packed.{CheckPacked, SyncPacked}
 use Rattle.block.specs.EveryLength.{AtEveryLength}
-use Rattle.block.specs.declared.Built.TheVariants as B
-use Rattle.block.specs.declared.Checked.TheVariants as C
 use Rattle.block.proofs.Block.{length-sync_block, sync_fails}
 use Rattle.block.proofs.Packing.{bits_overwritten}
 use Rattle.block.proofs.RoundTrip.{build_done_packed, bits_written, packed_read}
 use Rattle.block.proofs.Passing.{row_checked, checking}
 use Rattle.block.proofs.Cancelled.{bits_cancelled, packed_cancelled}
 
-module _ (k : ℕ) (whole : k % 8 ≡ 0) (slice slice' : List ℕ) (p : SyncPacked k slice B.Done slice') where
+module _ (k : ℕ) (whole : k % 8 ≡ 0) (slice slice' : List ℕ) (p : SyncPacked k slice (Ok tt) slice') where
   sync_bits : bits_of slice' ≡ sync_block k ++ (zeros 4 ++ bits_of (drop (block_bytes k) slice))
   sync_bits =
       ap bits_of (p.writes ∙ ap (sync_bytes k slice) (sym p.answers)) ∙ bits_overwritten k (sync_block k) slice whole (length-sync_block k whole)
@@ -30,7 +29,7 @@ module _ (k : ℕ) (whole : k % 8 ≡ 0) (slice slice' : List ℕ) (p : SyncPack
   sync_row : take (block_length k) (bits_of slice') ≡ sync_block k
   sync_row = ap (take (block_length k)) sync_bits ∙ take_at (sync_block k) (zeros 4 ++ bits_of (drop (block_bytes k) slice)) (block_length k) (length-sync_block k whole)
 
-  sync_not_zero : (r : ℕ) → 8 ≤ k → k ≤ 3840 → CheckPacked k slice' (C.Remainder r) → r ≡ 0 → ⊥
+  sync_not_zero : (r : ℕ) → 8 ≤ k → k ≤ 3840 → CheckPacked k slice' (Ok r) → r ≡ 0 → ⊥
   sync_not_zero r low high c z =
       let f : passes (sync_block k) ≡ false = sync_fails k whole low high in
       let t : passes (sync_block k) ≡ true = (passes-remainder (sync_block k)).1 (ap remainder (sym sync_row) ∙ sym (row_checked k slice' r c) ∙ z) in

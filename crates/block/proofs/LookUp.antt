@@ -1,5 +1,7 @@
 -- A call by k, and the call below the look-up that it comes to. Assumes nothing.
-use mathlib.Core.Path.{◌≡◌, refl, sym, subst, ◌∙◌}
+use Rattle.std.specs.Prelude.{Result, Ok, Err, is_ok}
+use Rattle.block.specs.declared.Refusal.{Refusal}
+use mathlib.Core.Path.{◌≡◌, refl, sym, ap, subst, ◌∙◌}
 use mathlib.Core.Bool.{true, false, not}
 use mathlib.Core.List.{List}
 use Prim.Native.Nat.{ℕ, ◌*◌, ◌/◌}
@@ -9,15 +11,10 @@ use Rattle.block.specs.Answer as A
 use Rattle.block.specs.Answer.{Answer, refused, done}
 use Rattle.block.specs.Lengths.{is_length}
 use Rattle.block.specs.Block.{Verdict}
-use Rattle.block.specs.Calls.{build_block, BuildBlock, check_block, CheckBlock, read_answer, read_service, ReadService, read_block, ReadBlock, build_sync, BuildSync, cancel_block, CancelBlock}
-use Rattle.block.specs.Packed.{if_length, look_up, build_packed, BuildPacked, check_packed, CheckPacked, service_packed, ServicePacked, read_packed, ReadPacked, held_packed, SyncPacked, CancelPacked}
+use Rattle.block.specs.Calls.{refusal_number, build_block, BuildBlock, check_block, CheckBlock, read_answer, read_service, ReadService, read_block, ReadBlock, build_sync, BuildSync, cancel_block, CancelBlock}
+use Rattle.block.specs.Packed.{length_answer, if_length, look_up, build_packed, BuildPacked, check_packed, CheckPacked, service_packed, ServicePacked, read_packed, ReadPacked, held_packed, SyncPacked, CancelPacked}
 use Rattle.block.specs.EveryLength.{LookUpFirst}
-use Rattle.block.specs.declared.Built.{Built}
-use Rattle.block.specs.declared.Built.TheVariants as B
-use Rattle.block.specs.declared.Checked.{Checked}
-use Rattle.block.specs.declared.Checked.TheVariants as C
 use Rattle.block.specs.declared.Read.{Read}
-use Rattle.block.specs.declared.Read.TheVariants as R
 use Rattle.block.proofs.Lengths.{length_bytes}
 use Rattle.block.proofs.Refusals.{passed_test}
 
@@ -60,33 +57,46 @@ not_found k n e = no (is_length k) refl
     no true h = absurd (let z : done (k / 8) ≡ refused n = sym (known_next k (done (k / 8)) h) ∙ e in let y : ◌≡◌ {A = ℕ} 0 1 = cc in omega arith)
     no false h = h
 
--- ---- each call where k is not known: refused by 1, and nothing is written
+-- whether it finds k
+pub is_found : (k : ℕ) (answer : Result ℕ Refusal) → length_answer answer ≡ look_up k → is_ok answer ≡ is_length k
+is_found k (Ok m) e = sym (found k m (sym e)).0
+is_found k (Err r) e = sym (not_found k (refusal_number r) (sym e))
 
-module _ (k : ℕ) (unknown : is_length k ≡ false) where
-  pub build_unknown : (service : ℕ) (payload slice : List ℕ) → BuildBlock k service payload slice (B.Refused A.block) slice
+-- ---- each call where k is not known: refused as the look-up is, and nothing is written
+
+module _ (k : ℕ) (r : Refusal) (e : look_up k ≡ refused (refusal_number r)) where
+  refused_alike : {X : Type 0} (next : Answer X) → if_length k next ≡ refused (refusal_number r)
+  unfolding look_up
+  refused_alike next =
+      let unknown = not_found k (refusal_number r) e in
+      let same : refused A.block ≡ refused (refusal_number r) = sym (unknown_refused k (done (k / 8)) unknown) ∙ e in
+      let n : A.block ≡ refusal_number r = cc in
+      unknown_refused k next unknown ∙ ap (λ (x : ℕ). refused x) n
+
+  pub build_unknown : (service : ℕ) (payload slice : List ℕ) → BuildBlock k service payload slice (Err r) slice
   build_unknown service payload slice =
-      let e = look_up_first.builds k service payload slice ∙ unknown_refused k _ unknown in
+      let e = look_up_first.builds k service payload slice ∙ refused_alike _ in
       record { answers = sym e; writes = rw e refl }
 
-  pub check_unknown : (slice : List ℕ) → CheckBlock k slice (C.Refused A.block)
-  check_unknown slice = record { answers = sym (look_up_first.checks k slice ∙ unknown_refused k _ unknown) }
+  pub check_unknown : (slice : List ℕ) → CheckBlock k slice (Err r)
+  check_unknown slice = record { answers = sym (look_up_first.checks k slice ∙ refused_alike _) }
 
-  pub service_unknown : (slice : List ℕ) → ReadService k slice (R.Refused A.block)
-  service_unknown slice = record { answers = sym (look_up_first.reads_service k slice ∙ unknown_refused k _ unknown) }
+  pub service_unknown : (slice : List ℕ) → ReadService k slice (Err r)
+  service_unknown slice = record { answers = sym (look_up_first.reads_service k slice ∙ refused_alike _) }
 
-  pub read_unknown : (slice payload : List ℕ) → ReadBlock k slice payload (R.Refused A.block) payload
+  pub read_unknown : (slice payload : List ℕ) → ReadBlock k slice payload (Err r) payload
   read_unknown slice payload =
-      let e = look_up_first.reads k slice payload ∙ unknown_refused k _ unknown in
+      let e = look_up_first.reads k slice payload ∙ refused_alike _ in
       record { answers = sym e; writes = rw e refl }
 
-  pub sync_unknown : (slice : List ℕ) → BuildSync k slice (B.Refused A.block) slice
+  pub sync_unknown : (slice : List ℕ) → BuildSync k slice (Err r) slice
   sync_unknown slice =
-      let e = look_up_first.synchronises k slice ∙ unknown_refused k _ unknown in
+      let e = look_up_first.synchronises k slice ∙ refused_alike _ in
       record { answers = sym e; writes = rw e refl }
 
-  pub cancel_unknown : (slice : List ℕ) → CancelBlock k slice (B.Refused A.block) slice
+  pub cancel_unknown : (slice : List ℕ) → CancelBlock k slice (Err r) slice
   cancel_unknown slice =
-      let e = look_up_first.cancels k slice ∙ unknown_refused k _ unknown in
+      let e = look_up_first.cancels k slice ∙ refused_alike _ in
       record { answers = sym e; writes = rw e refl }
 
 -- ---- each call where k is known: the promise of the call below is its own
@@ -102,38 +112,38 @@ module _ (k : ℕ) (known : is_length k ≡ true) where
   cancels_below slice = look_up_first.cancels k slice ∙ known_next k _ known
 
   module _ (m : ℕ) (whole : 8 * m ≡ k) where
-    pub build_known : (service : ℕ) (payload slice : List ℕ) (answer : Built) (slice' : List ℕ)
+    pub build_known : (service : ℕ) (payload slice : List ℕ) (answer : Result (Unit {0}) Refusal) (slice' : List ℕ)
         → BuildPacked (8 * m) service payload slice answer slice' → BuildBlock k service payload slice answer slice'
     build_known service payload slice answer slice' below =
         let p = subst (λ (x : ℕ). BuildPacked x service payload slice answer slice') whole below in
         let e = builds_below service payload slice in
         record { answers = p.answers ∙ sym e; writes = rw e p.writes }
 
-    pub check_known : (slice : List ℕ) (answer : Checked) → CheckPacked (8 * m) slice answer → CheckBlock k slice answer
+    pub check_known : (slice : List ℕ) (answer : Result ℕ Refusal) → CheckPacked (8 * m) slice answer → CheckBlock k slice answer
     check_known slice answer below =
         let p = subst (λ (x : ℕ). CheckPacked x slice answer) whole below in
         record { answers = p.answers ∙ sym (look_up_first.checks k slice ∙ known_next k _ known) }
 
-    pub service_known : (slice : List ℕ) (answer : Read) → ServicePacked (8 * m) slice answer → ReadService k slice answer
+    pub service_known : (slice : List ℕ) (answer : Result Read Refusal) → ServicePacked (8 * m) slice answer → ReadService k slice answer
     service_known slice answer below =
         let p = subst (λ (x : ℕ). ServicePacked x slice answer) whole below in
         record { answers = p.answers ∙ sym (look_up_first.reads_service k slice ∙ known_next k _ known) }
 
-    pub read_known : (slice payload : List ℕ) (answer : Read) (payload' : List ℕ) → ReadPacked (8 * m) slice payload answer payload'
+    pub read_known : (slice payload : List ℕ) (answer : Result Read Refusal) (payload' : List ℕ) → ReadPacked (8 * m) slice payload answer payload'
         → ReadBlock k slice payload answer payload'
     read_known slice payload answer payload' below =
         let p = subst (λ (x : ℕ). ReadPacked x slice payload answer payload') whole below in
         let e = reads_below slice payload in
         record { answers = p.answers ∙ sym e; writes = rw e p.writes }
 
-    pub sync_known : (slice : List ℕ) (answer : Built) (slice' : List ℕ) → SyncPacked (8 * m) slice answer slice'
+    pub sync_known : (slice : List ℕ) (answer : Result (Unit {0}) Refusal) (slice' : List ℕ) → SyncPacked (8 * m) slice answer slice'
         → BuildSync k slice answer slice'
     sync_known slice answer slice' below =
         let p = subst (λ (x : ℕ). SyncPacked x slice answer slice') whole below in
         let e = look_up_first.synchronises k slice ∙ known_next k _ known in
         record { answers = p.answers ∙ sym e; writes = rw e p.writes }
 
-    pub cancel_known : (slice : List ℕ) (answer : Built) (slice' : List ℕ) → CancelPacked (8 * m) slice answer slice'
+    pub cancel_known : (slice : List ℕ) (answer : Result (Unit {0}) Refusal) (slice' : List ℕ) → CancelPacked (8 * m) slice answer slice'
         → CancelBlock k slice answer slice'
     cancel_known slice answer slice' below =
         let p = subst (λ (x : ℕ). CancelPacked x slice answer slice') whole below in
@@ -142,27 +152,27 @@ module _ (k : ℕ) (known : is_length k ≡ true) where
 
 -- ---- a call by k that is done: k is known, and the promise is that of the call below
 
-pub built_below : (k service : ℕ) (payload slice slice' : List ℕ) → BuildBlock k service payload slice B.Done slice'
-    → (is_length k ≡ true) × BuildPacked k service payload slice B.Done slice'
+pub built_below : (k service : ℕ) (payload slice slice' : List ℕ) → BuildBlock k service payload slice (Ok tt) slice'
+    → (is_length k ≡ true) × BuildPacked k service payload slice (Ok tt) slice'
 built_below k service payload slice slice' p =
     let known = known_done k _ tt (sym (look_up_first.builds k service payload slice) ∙ sym p.answers) in
     let e = sym (builds_below k known service payload slice) in
     (known, record { answers = p.answers ∙ sym e; writes = rw e p.writes })
 
-pub read_below : (k : ℕ) (slice payload : List ℕ) (answer : Read) (payload' : List ℕ) → is_length k ≡ true
+pub read_below : (k : ℕ) (slice payload : List ℕ) (answer : Result Read Refusal) (payload' : List ℕ) → is_length k ≡ true
     → ReadBlock k slice payload answer payload' → ReadPacked k slice payload answer payload'
 read_below k slice payload answer payload' known p =
     let e = sym (reads_below k known slice payload) in
     record { answers = p.answers ∙ sym e; writes = rw e p.writes }
 
 -- where the answer is no refusal, k is known
-pub read_done_below : (k : ℕ) (slice payload : List ℕ) (answer : Read) (payload' : List ℕ) (v : Verdict) → read_answer answer ≡ done v
+pub read_done_below : (k : ℕ) (slice payload : List ℕ) (answer : Result Read Refusal) (payload' : List ℕ) (v : Verdict) → read_answer answer ≡ done v
     → ReadBlock k slice payload answer payload' → ReadPacked k slice payload answer payload'
 read_done_below k slice payload answer payload' v d p =
     read_below k slice payload answer payload' (known_done k _ v (sym (look_up_first.reads k slice payload) ∙ sym p.answers ∙ d)) p
 
-pub cancelled_below : (k : ℕ) (slice slice' : List ℕ) → CancelBlock k slice B.Done slice'
-    → (is_length k ≡ true) × CancelPacked k slice B.Done slice'
+pub cancelled_below : (k : ℕ) (slice slice' : List ℕ) → CancelBlock k slice (Ok tt) slice'
+    → (is_length k ≡ true) × CancelPacked k slice (Ok tt) slice'
 cancelled_below k slice slice' p =
     let known = known_done k _ tt (sym (look_up_first.cancels k slice) ∙ sym p.answers) in
     let e = sym (cancels_below k known slice) in

@@ -1,5 +1,7 @@
 -- A block that is read passes if and only if the generator divides the polynomial of all its n bits, and one that fails carries
 -- that polynomial's remainder: on the promise of the call itself. Assumes nothing.
+use Rattle.std.specs.Prelude.{Result, Ok, Err}
+use Rattle.block.specs.declared.Refusal.{Refusal}
 use mathlib.Core.Path.{◌≡◌, refl, sym, ◌∙◌, subst}
 use mathlib.Core.Bool.{Bool, true, false, ◌||◌, cond}
 use mathlib.Core.List.{List}
@@ -17,7 +19,6 @@ use Rattle.block.specs.Lengths.{block_length}
 use Rattle.block.specs.Block.{service_of, Verdict, passed, failed, verdict}
 use Rattle.block.specs.Calls.{too_short, ReadBlock}
 use Rattle.block.specs.Packed.{check_packed, CheckPacked, read_packed, ReadPacked}
-use Rattle.block.specs.declared.Checked.TheVariants as C
 use Rattle.block.specs.declared.Read.{Read}
 use Rattle.block.specs.declared.Read.TheVariants as R
 use Rattle.block.proofs.Refusals.{passed_test}
@@ -36,7 +37,7 @@ verdict_failed true n r s h = absurd (let z : ◌≡◌ {A = ℕ} 0 1 = cc in om
 verdict_failed false n r s h = (refl, cc)
 
 -- what the check hands over is the remainder of the row, and of its polynomial
-pub row_checked : (k : ℕ) (slice : List ℕ) (r : ℕ) → CheckPacked k slice (C.Remainder r) → r ≡ remainder (take (block_length k) (bits_of slice))
+pub row_checked : (k : ℕ) (slice : List ℕ) (r : ℕ) → CheckPacked k slice (Ok r) → r ≡ remainder (take (block_length k) (bits_of slice))
 unfolding check_packed
 row_checked k slice r p =
     let row : Bits = take (block_length k) (bits_of slice) in
@@ -44,7 +45,7 @@ row_checked k slice r p =
     let q : done (remainder row) ≡ done r = t.1 in
     cc
 
-pub checking : (k : ℕ) (slice : List ℕ) (r : ℕ) → CheckPacked k slice (C.Remainder r)
+pub checking : (k : ℕ) (slice : List ℕ) (r : ℕ) → CheckPacked k slice (Ok r)
     → Remainder (polynomial (take (block_length k) (bits_of slice))) r
 checking k slice r p =
     let row : Bits = take (block_length k) (bits_of slice) in
@@ -63,16 +64,16 @@ module _ (k : ℕ) (slice payload payload' : List ℕ) where
       cc
 
   -- what the reader says of the row
-  pub row_passed : (s : ℕ) → ReadPacked k slice payload (R.Passed s) payload' → passes row ≡ true
+  pub row_passed : (s : ℕ) → ReadPacked k slice payload (Ok (R.Passed s)) payload' → passes row ≡ true
   unfolding verdict
   row_passed s p = verdict_passed (passes row) (number (service_of row)) (remainder row) s (verdict_row (passed s) (sym p.answers))
 
-  row_failed : (r : ℕ) → ReadPacked k slice payload (R.Failed r) payload' → (passes row ≡ false) × (remainder row ≡ r)
+  row_failed : (r : ℕ) → ReadPacked k slice payload (Ok (R.Failed r)) payload' → (passes row ≡ false) × (remainder row ≡ r)
   unfolding verdict
   row_failed r p = verdict_failed (passes row) (number (service_of row)) (remainder row) r (verdict_row (failed r) (sym p.answers))
 
   -- what a block that fails carries is the remainder of that polynomial, and not 0
-  pub failing : (r : ℕ) → ReadBlock k slice payload (R.Failed r) payload'
+  pub failing : (r : ℕ) → ReadBlock k slice payload (Ok (R.Failed r)) payload'
       → Remainder (polynomial (take (block_length k) (bits_of slice))) r × (r ≡ 0 → ⊥)
   failing r p =
       let f = row_failed r (read_done_below k slice payload _ payload' (failed r) refl p) in (
@@ -80,17 +81,17 @@ module _ (k : ℕ) (slice payload payload' : List ℕ) where
         λ z. both (passes row) ((passes-remainder row).1 (f.1 ∙ z)) f.0,
       )
 
-  pub passing : (answer : Read) → ReadBlock k slice payload answer payload' → ((n : ℕ) → answer ≡ R.Refused n → ⊥)
-      → ((s : ℕ) × (answer ≡ R.Passed s)) ↔ Divides (polynomial (take (block_length k) (bits_of slice)))
-  passing (R.Passed s) p h =
+  pub passing : (answer : Result Read Refusal) → ReadBlock k slice payload answer payload' → ((n : Refusal) → answer ≡ Err n → ⊥)
+      → ((s : ℕ) × (answer ≡ Ok (R.Passed s))) ↔ Divides (polynomial (take (block_length k) (bits_of slice)))
+  passing (Ok (R.Passed s)) p h =
       let e : passes row ≡ true = row_passed s (read_done_below k slice payload _ payload' (passed s) refl p) in
       (λ a. (passes_divides row).0 e, λ d. (s, refl))
-  passing (R.Failed r) p h =
+  passing (Ok (R.Failed r)) p h =
       let e : passes row ≡ false = (row_failed r (read_done_below k slice payload _ payload' (failed r) refl p)).0 in (
         λ a. absurd (other a.0 a.1),
         λ d. absurd (both (passes row) ((passes_divides row).1 d) e),
       )
     where
-      other : (s : ℕ) → R.Failed r ≡ R.Passed s → ⊥
+      other : (s : ℕ) → ◌≡◌ {A = Result Read Refusal} (Ok (R.Failed r)) (Ok (R.Passed s)) → ⊥
       other s q = let z : ◌≡◌ {A = ℕ} 0 1 = cc in omega arith
-  passing (R.Refused n) p h = absurd (h n refl)
+  passing (Err n) p h = absurd (h n refl)

@@ -1,8 +1,10 @@
 -- Which answer each call below the look-up gives, from its tests. Assumes nothing.
+use Rattle.std.specs.Prelude.{Ok, Err}
+use Rattle.block.specs.declared.Refusal.{Refusal}
+use Rattle.block.specs.declared.Refusal.TheVariants as N
 use mathlib.Core.Path.{◌≡◌, refl, sym, ap, ◌∙◌}
 use mathlib.Core.Bool.{Bool, true, false}
 use mathlib.Core.List.{List, [], ◌∷◌, ◌++◌}
-use mathlib.Core.Logic.{⊎_elim}
 use Prim.Native.Nat.{ℕ, ◌+◌, ◌*◌, ◌≤◌, ◌<◌}
 use native.Mathlib.Omega.{arith}
 use borrow.Author.Tests.{lt-ltb, le-ltb, ltb-false}
@@ -14,12 +16,10 @@ use Rattle.block.specs.Answer as A
 use Rattle.block.specs.Answer.{Answer, refused, done, refuse_if}
 use Rattle.block.specs.Lengths.{block_length, payload_bytes, block_bytes}
 use Rattle.block.specs.Block.{block_bits, payload_of, verdict, sync_block, cancelled}
-use Rattle.block.specs.Calls.{too_short, overwritten, read_answer, move_data, MoveData, read_bytes}
+use Rattle.block.specs.Calls.{refusal_number, verdict_of, too_short, overwritten, move_data, MoveData, read_bytes}
 use Rattle.block.specs.Packed.{build_packed, BuildPacked, check_packed, CheckPacked, service_packed, read_packed, ReadPacked, held_packed, SyncPacked, CancelPacked}
 use types.Run.{OneOf}
 use denote.Enum.Declared.{tag_of}
-use Rattle.block.specs.declared.Built.TheVariants as B
-use Rattle.block.specs.declared.Checked.TheVariants as C
 use Rattle.block.specs.declared.Read.{Read}
 use Rattle.block.specs.declared.Read.TheVariants as R
 use Rattle.block.specs.contracts.Read.{the_type}
@@ -39,27 +39,27 @@ same_refusal false m x y n h = absurd (let z : ◌≡◌ {A = ℕ} 0 1 = cc in o
 -- ---- building one block
 
 module _ (k service : ℕ) (payload slice : List ℕ) where
-  build_refused : (n : ℕ) → build_packed k service payload slice ≡ refused n → BuildPacked k service payload slice (B.Refused n) slice
+  build_refused : (n : Refusal) → build_packed k service payload slice ≡ refused (refusal_number n) → BuildPacked k service payload slice (Err n) slice
   build_refused n e = record { answers = sym e; writes = rw e refl }
 
-  pub build_service : 15 < service → BuildPacked k service payload slice (B.Refused A.spoiled) slice
+  pub build_service : 15 < service → BuildPacked k service payload slice (Err N.Spoiled) slice
   unfolding build_packed
-  build_service h = build_refused A.spoiled (rw (lt-ltb 15 service h))
+  build_service h = build_refused N.Spoiled (rw (lt-ltb 15 service h))
 
   module _ (small : service ≤ 15) where
-    pub build_payload : 8 * length payload < k → BuildPacked k service payload slice (B.Refused A.short) slice
+    pub build_payload : 8 * length payload < k → BuildPacked k service payload slice (Err N.Short) slice
     unfolding build_packed
-    build_payload h = build_refused A.short (rw (le-ltb 15 service small, lt-ltb (8 * length payload) k h))
+    build_payload h = build_refused N.Short (rw (le-ltb 15 service small, lt-ltb (8 * length payload) k h))
 
-    pub build_slice : k ≤ 8 * length payload → 8 * length slice < block_length k → BuildPacked k service payload slice (B.Refused A.short) slice
+    pub build_slice : k ≤ 8 * length payload → 8 * length slice < block_length k → BuildPacked k service payload slice (Err N.Short) slice
     unfolding build_packed
     build_slice h g =
-        build_refused A.short
+        build_refused N.Short
         (rw (le-ltb 15 service small, le-ltb (8 * length payload) k h, lt-ltb (8 * length slice) (block_length k) g))
 
     pub build_done : k ≤ 8 * length payload → block_length k ≤ 8 * length slice → (slice' : List ℕ)
         → slice' ≡ overwritten (block_bytes k) (block_bits (binary 4 service) (take k (bits_of payload))) slice
-        → BuildPacked k service payload slice B.Done slice'
+        → BuildPacked k service payload slice (Ok tt) slice'
     unfolding build_packed
     build_done h g slice' w =
         let e : build_packed k service payload slice ≡ done tt =
@@ -74,15 +74,15 @@ module _ (k : ℕ) (slice : List ℕ) where
   row = take (block_length k) (bits_of slice)
 
   module _ (short : too_short slice (block_length k) ≡ true) where
-    pub check_slice : CheckPacked k slice (C.Refused A.short)
+    pub check_slice : CheckPacked k slice (Err N.Short)
     unfolding check_packed
     check_slice = record { answers = sym (rw short) }
 
-    pub sync_slice : SyncPacked k slice (B.Refused A.short) slice
+    pub sync_slice : SyncPacked k slice (Err N.Short) slice
     unfolding held_packed
     sync_slice = record { answers = sym (rw short); writes = rw short refl }
 
-    pub cancel_slice : CancelPacked k slice (B.Refused A.short) slice
+    pub cancel_slice : CancelPacked k slice (Err N.Short) slice
     unfolding held_packed
     cancel_slice = record { answers = sym (rw short); writes = rw short refl }
 
@@ -99,12 +99,12 @@ module _ (k : ℕ) (slice : List ℕ) where
     unfolding held_packed
     held_done = rw held
 
-    pub sync_done : (slice' : List ℕ) → slice' ≡ overwritten (block_bytes k) (sync_block k) slice → SyncPacked k slice B.Done slice'
+    pub sync_done : (slice' : List ℕ) → slice' ≡ overwritten (block_bytes k) (sync_block k) slice → SyncPacked k slice (Ok tt) slice'
     sync_done slice' w = record { answers = sym held_done; writes = rw held_done w }
 
     pub cancel_done : (slice' : List ℕ)
         → slice' ≡ bytes_of (length slice) (cancelled (take (block_length k) (bits_of slice)) ++ drop (block_length k) (bits_of slice))
-        → CancelPacked k slice B.Done slice'
+        → CancelPacked k slice (Ok tt) slice'
     cancel_done slice' w = record { answers = sym held_done; writes = rw held_done w }
 
   -- reading without the data goes by the check's answer: it is refused alike
@@ -124,15 +124,15 @@ module _ (k : ℕ) (slice : List ℕ) where
 -- ---- moving its data
 
 module _ (m : ℕ) (slice payload : List ℕ) where
-  move_refused : move_data m slice payload ≡ refused A.short → MoveData m slice payload (B.Refused A.short) payload
+  move_refused : move_data m slice payload ≡ refused A.short → MoveData m slice payload (Err N.Short) payload
   move_refused e = record { answers = sym e; writes = rw e refl }
 
-  pub move_slice : length slice ≤ m → MoveData m slice payload (B.Refused A.short) payload
+  pub move_slice : length slice ≤ m → MoveData m slice payload (Err N.Short) payload
   unfolding move_data
   move_slice h = move_refused (rw (lt-ltb (8 * length slice) (8 * m + 4) (omega arith)))
 
   module _ (held : m < length slice) where
-    pub move_payload : length payload < m → MoveData m slice payload (B.Refused A.short) payload
+    pub move_payload : length payload < m → MoveData m slice payload (Err N.Short) payload
     unfolding move_data
     move_payload g =
         move_refused (rw (le-ltb (8 * length slice) (8 * m + 4) (omega arith), lt-ltb (8 * length payload) (8 * m) (omega arith)))
@@ -147,51 +147,49 @@ module _ (m : ℕ) (slice payload : List ℕ) where
       move_done = rw (le-ltb (8 * length slice) (8 * m + 4) (omega arith), le-ltb (8 * length payload) (8 * m) (omega arith))
 
       pub moved : (payload' : List ℕ) → payload' ≡ bytes_of m (drop 4 (bits_of slice)) ++ drop m payload
-          → MoveData m slice payload B.Done payload'
+          → MoveData m slice payload (Ok tt) payload'
       moved payload' w =
           record { answers = sym move_done; writes = rw move_done (w ∙ ap (λ (l : List ℕ). l ++ drop m payload) data_bytes) }
 
 -- ---- reading one
 
 module _ (k : ℕ) (slice payload : List ℕ) where
-  read_refused : (n : ℕ) → read_packed k slice payload ≡ refused n → ReadPacked k slice payload (R.Refused n) payload
+  read_refused : (n : Refusal) → read_packed k slice payload ≡ refused (refusal_number n) → ReadPacked k slice payload (Err n) payload
   read_refused n e = record { answers = sym e; writes = rw e refl }
 
-  pub read_slice : 8 * length slice < block_length k → ReadPacked k slice payload (R.Refused A.short) payload
+  pub read_slice : 8 * length slice < block_length k → ReadPacked k slice payload (Err N.Short) payload
   unfolding read_packed
-  read_slice h = read_refused A.short (rw (lt-ltb (8 * length slice) (block_length k) h))
+  read_slice h = read_refused N.Short (rw (lt-ltb (8 * length slice) (block_length k) h))
 
-  pub read_payload : 8 * length payload < k → ReadPacked k slice payload (R.Refused A.short) payload
+  pub read_payload : 8 * length payload < k → ReadPacked k slice payload (Err N.Short) payload
   unfolding read_packed
-  read_payload h = read_refused A.short (rw (lt-ltb (8 * length payload) k h, or_yes (too_short slice (block_length k))))
+  read_payload h = read_refused N.Short (rw (lt-ltb (8 * length payload) k h, or_yes (too_short slice (block_length k))))
 
   module _ (held : block_length k ≤ 8 * length slice) (room : k ≤ 8 * length payload) where
     pub read_done : read_packed k slice payload ≡ done (verdict (row k slice))
     unfolding read_packed
     read_done = rw (le-ltb (8 * length slice) (block_length k) held, le-ltb (8 * length payload) k room)
 
-    module _ (answer : Read) (p : read_answer answer ≡ done (verdict (row k slice))) where
-      read_writes : (payload' : List ℕ) → payload' ≡ read_bytes k slice payload (read_answer answer) → ReadPacked k slice payload answer payload'
+    module _ (v : Read) (p : verdict_of v ≡ verdict (row k slice)) where
+      read_writes : (payload' : List ℕ) → payload' ≡ read_bytes k slice payload (done (verdict_of v)) → ReadPacked k slice payload (Ok v) payload'
       read_writes payload' w =
-          let e : read_answer answer ≡ read_packed k slice payload = p ∙ sym read_done in
+          let e : done (verdict_of v) ≡ read_packed k slice payload = ap done p ∙ sym read_done in
           record { answers = e; writes = w ∙ ap (read_bytes k slice payload) e }
 
       -- a block that does not pass leaves the data as they were
-      pub read_kept : OneOf (1 ∷ 2 ∷ []) (tag_of the_type answer) → ReadPacked k slice payload answer payload
-      read_kept t = read_writes payload (kept answer t)
+      pub read_kept : OneOf (1 ∷ []) (tag_of the_type v) → ReadPacked k slice payload (Ok v) payload
+      read_kept t = read_writes payload (kept v t)
         where
-          kept : (a : Read) → OneOf (1 ∷ 2 ∷ []) (tag_of the_type a) → payload ≡ read_bytes k slice payload (read_answer a)
-          kept (R.Passed s) t = ⊎_elim (λ z. absurd (omega arith)) (λ z. absurd (omega arith)) t
+          kept : (a : Read) → OneOf (1 ∷ []) (tag_of the_type a) → payload ≡ read_bytes k slice payload (done (verdict_of a))
+          kept (R.Passed s) t = absurd (omega arith)
           kept (R.Failed r) t = refl
-          kept (R.Refused n) t = refl
 
       -- one that passes has its data moved
-      pub read-moved : OneOf (0 ∷ []) (tag_of the_type answer) → (payload' : List ℕ)
-          → payload' ≡ overwritten (payload_bytes k) (payload_of k (bits_of slice)) payload → ReadPacked k slice payload answer payload'
-      read-moved t payload' w = read_writes payload' (w ∙ moved_by answer t)
+      pub read-moved : OneOf (0 ∷ []) (tag_of the_type v) → (payload' : List ℕ)
+          → payload' ≡ overwritten (payload_bytes k) (payload_of k (bits_of slice)) payload → ReadPacked k slice payload (Ok v) payload'
+      read-moved t payload' w = read_writes payload' (w ∙ moved_by v t)
         where
           moved_by : (a : Read) → OneOf (0 ∷ []) (tag_of the_type a)
-              → overwritten (payload_bytes k) (payload_of k (bits_of slice)) payload ≡ read_bytes k slice payload (read_answer a)
+              → overwritten (payload_bytes k) (payload_of k (bits_of slice)) payload ≡ read_bytes k slice payload (done (verdict_of a))
           moved_by (R.Passed s) t = refl
           moved_by (R.Failed r) t = absurd (omega arith)
-          moved_by (R.Refused n) t = absurd (omega arith)

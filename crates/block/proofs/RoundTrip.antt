@@ -1,4 +1,6 @@
 -- Reading what building wrote gives the service bits and the data back. Assumes nothing.
+use Rattle.std.specs.Prelude.{Result, Ok, Err}
+use Rattle.block.specs.declared.Refusal.{Refusal}
 use mathlib.Core.Path.{◌≡◌, sym, ap, ap₂, ◌∙◌}
 use mathlib.Core.Bool.{◌||◌}
 use mathlib.Core.List.{List, ◌++◌}
@@ -17,7 +19,6 @@ use Rattle.block.specs.Lengths.{block_length, payload_bytes, block_bytes}
 use Rattle.block.specs.Block.{block_bits, payload_of, passed, verdict}
 use Rattle.block.specs.Calls.{too_short, overwritten, built_bytes, BuildBlock, read_answer, read_bytes, ReadBlock}
 use Rattle.block.specs.Packed.{build_packed, BuildPacked, read_packed, ReadPacked}
-use Rattle.block.specs.declared.Built.TheVariants as B
 use Rattle.block.specs.declared.Read.{Read}
 use Rattle.block.specs.declared.Read.TheVariants as R
 use Rattle.block.proofs.Lengths.{length_facts, whole_bytes}
@@ -98,10 +99,10 @@ module _ (k service : ℕ) (payload slice room : List ℕ) (whole : k % 8 ≡ 0)
 
 -- ---- the same on the promises of the two calls
 
-passed_answer : (answer : Read) (s : ℕ) → read_answer answer ≡ done (passed s) → answer ≡ R.Passed s
-passed_answer (R.Passed x) s h = cc
-passed_answer (R.Failed r) s h = absurd (let z : ◌≡◌ {A = ℕ} 0 1 = cc in omega arith)
-passed_answer (R.Refused n) s h = absurd (let z : ◌≡◌ {A = ℕ} 0 1 = cc in omega arith)
+passed_answer : (answer : Result Read Refusal) (s : ℕ) → read_answer answer ≡ done (passed s) → answer ≡ Ok (R.Passed s)
+passed_answer (Ok (R.Passed x)) s h = cc
+passed_answer (Ok (R.Failed r)) s h = absurd (let z : ◌≡◌ {A = ℕ} 0 1 = cc in omega arith)
+passed_answer (Err n) s h = absurd (let z : ◌≡◌ {A = ℕ} 0 1 = cc in omega arith)
 
 -- what a building call that is done was lent, and what it wrote
 pub record BuildDone (k service : ℕ) (payload slice slice' : List ℕ) : Type 0 where
@@ -110,7 +111,7 @@ pub record BuildDone (k service : ℕ) (payload slice slice' : List ℕ) : Type 
   pub wide : block_length k ≤ 8 * length slice
   pub bytes : slice' ≡ built_bytes k service payload slice (done tt)
 
-pub build_done_packed : (k service : ℕ) (payload slice slice' : List ℕ) → BuildPacked k service payload slice B.Done slice'
+pub build_done_packed : (k service : ℕ) (payload slice slice' : List ℕ) → BuildPacked k service payload slice (Ok tt) slice'
     → BuildDone k service payload slice slice'
 unfolding build_packed
 build_done_packed k service payload slice slice' built =
@@ -126,9 +127,9 @@ build_done_packed k service payload slice slice' built =
     }
 
 -- a block that was built is read with its service bits and its data, wherever the data have room
-pub packed_read : (k service : ℕ) (payload slice slice' room room' : List ℕ) (answer : Read) → k % 8 ≡ 0 → ((i : ℕ) → get_or payload i 0 < 256)
-    → BuildPacked k service payload slice B.Done slice' → ReadPacked k slice' room answer room' → k ≤ 8 * length room
-    → (answer ≡ R.Passed service) × (room' ≡ take (payload_bytes k) payload ++ drop (payload_bytes k) room)
+pub packed_read : (k service : ℕ) (payload slice slice' room room' : List ℕ) (answer : Result Read Refusal) → k % 8 ≡ 0 → ((i : ℕ) → get_or payload i 0 < 256)
+    → BuildPacked k service payload slice (Ok tt) slice' → ReadPacked k slice' room answer room' → k ≤ 8 * length room
+    → (answer ≡ Ok (R.Passed service)) × (room' ≡ take (payload_bytes k) payload ++ drop (payload_bytes k) room)
 packed_read k service payload slice slice' room room' answer whole b built read space =
     let t = build_done_packed k service payload slice slice' built in (
       passed_answer answer service
@@ -139,9 +140,9 @@ packed_read k service payload slice slice' room room' answer whole b built read 
     )
 
 -- and so by k
-pub built_read : (k service : ℕ) (payload slice slice' room room' : List ℕ) (answer : Read) → ((i : ℕ) → get_or payload i 0 < 256)
-    → BuildBlock k service payload slice B.Done slice' → ReadBlock k slice' room answer room' → k ≤ 8 * length room
-    → (answer ≡ R.Passed service) × (room' ≡ take (payload_bytes k) payload ++ drop (payload_bytes k) room)
+pub built_read : (k service : ℕ) (payload slice slice' room room' : List ℕ) (answer : Result Read Refusal) → ((i : ℕ) → get_or payload i 0 < 256)
+    → BuildBlock k service payload slice (Ok tt) slice' → ReadBlock k slice' room answer room' → k ≤ 8 * length room
+    → (answer ≡ Ok (R.Passed service)) × (room' ≡ take (payload_bytes k) payload ++ drop (payload_bytes k) room)
 built_read k service payload slice slice' room room' answer b built read space =
     let below = built_below k service payload slice slice' built in
     packed_read k service payload slice slice' room room' answer (length_facts k below.0).0 b below.1

@@ -1,4 +1,7 @@
 -- The theorems with hypotheses, each at a case that meets them: k = 240. Assumes nothing.
+use Rattle.std.specs.Prelude.{Result, Ok}
+use Rattle.block.specs.declared.Refusal.{Refusal}
+use Rattle.block.specs.declared.Read.{Read}
 use mathlib.Core.Path.{◌≡◌, refl, sym}
 use mathlib.Core.Bool.{true, false}
 use mathlib.Core.List.{List, [], ◌∷◌, ◌++◌}
@@ -14,7 +17,6 @@ use Rattle.block.specs.Lengths.{is_length}
 use Rattle.block.specs.Block.{passed, failed, verdict, sync_block, cancelled}
 use Rattle.block.specs.Calls.{build_block, built_bytes, BuildBlock, read_block, ReadBlock, cancel_block, CancelBlock}
 use Rattle.block.specs.Packed.{read_packed}
-use Rattle.block.specs.declared.Built.TheVariants as B
 use Rattle.block.specs.declared.Read.TheVariants as R
 use Rattle.block.proofs.Lengths.{length_facts}
 use Rattle.block.proofs.Block.{length-sync_block, sync_fails, cancelled_last}
@@ -55,11 +57,11 @@ read_back : read_packed 240 (built_bytes 240 5 sample (empty 33) (done tt)) (emp
 unfolding sample empty
 read_back = read_built 240 5 sample (empty 33) (empty 30) refl (lit≤ tt) (lit≤ tt) (lit≤ tt) (lit≤ tt)
 
-built : BuildBlock 240 5 sample (empty 33) B.Done (built_bytes 240 5 sample (empty 33) (done tt))
+built : BuildBlock 240 5 sample (empty 33) (Ok tt) (built_bytes 240 5 sample (empty 33) (done tt))
 unfolding sample empty build_block is_length
 built = record { answers = refl; writes = refl }
 
-read : ReadBlock 240 (built_bytes 240 5 sample (empty 33) (done tt)) (empty 30) (R.Passed 5) sample
+read : ReadBlock 240 (built_bytes 240 5 sample (empty 33) (done tt)) (empty 30) (Ok (R.Passed 5)) sample
 unfolding sample empty
 read =
     read_known 240 known 30 refl _ _ _ _
@@ -68,35 +70,35 @@ read =
       writes = sym (bytes_built 240 5 sample (empty 33) (empty 30) refl (lit≤ tt) (lit≤ tt) (lit≤ tt) (lit≤ tt) (sample_lt 30));
     })
 
-built_and_read : (R.Passed 5 ≡ R.Passed 5) × (sample ≡ take 30 sample ++ drop 30 (empty 30))
+built_and_read : (◌≡◌ {A = Result Read Refusal} (Ok (R.Passed 5)) (Ok (R.Passed 5))) × (sample ≡ take 30 sample ++ drop 30 (empty 30))
 unfolding sample empty
-built_and_read = built_read 240 5 sample (empty 33) _ (empty 30) sample (R.Passed 5) (sample_lt 30) built read (lit≤ tt)
+built_and_read = built_read 240 5 sample (empty 33) _ (empty 30) sample (Ok (R.Passed 5)) (sample_lt 30) built read (lit≤ tt)
 
 -- a block that is read: all zeros, which passes
-zero-read : ReadBlock 240 (empty 33) (empty 30) (R.Passed 0) (empty 30)
+zero-read : ReadBlock 240 (empty 33) (empty 30) (Ok (R.Passed 0)) (empty 30)
 unfolding empty read_block verdict is_length bits_of bytes_of binary number passes remainder
 zero-read = record { answers = refl; writes = refl }
 
 zero_divides : Divides (polynomial (take 260 (bits_of (empty 33))))
 zero_divides =
-    (passing 240 (empty 33) (empty 30) (empty 30) (R.Passed 0) zero-read (λ n e. absurd (let z : ◌≡◌ {A = ℕ} 0 1 = cc in omega arith))).0 (0, refl)
+    (passing 240 (empty 33) (empty 30) (empty 30) (Ok (R.Passed 0)) zero-read (λ n e. absurd (let z : ◌≡◌ {A = ℕ} 0 1 = cc in omega arith))).0 (0, refl)
 
 -- the same block cancelled: the bit 0x10 of its last byte
 cancelled-zero : List ℕ
 cancelled-zero = replicate 32 0 ++ 0x10 ∷ []
 
-zero-cancelled : CancelBlock 240 (empty 33) B.Done cancelled-zero
+zero-cancelled : CancelBlock 240 (empty 33) (Ok tt) cancelled-zero
 unfolding empty cancelled-zero cancel_block cancelled is_length bits_of bytes_of binary number
 zero-cancelled = record { answers = refl; writes = refl }
 
-one_read : ReadBlock 240 cancelled-zero (empty 30) (R.Failed 1) (empty 30)
+one_read : ReadBlock 240 cancelled-zero (empty 30) (Ok (R.Failed 1)) (empty 30)
 unfolding empty cancelled-zero read_block verdict is_length bits_of bytes_of binary number passes remainder
 one_read = record { answers = refl; writes = refl }
 
-shows_one : R.Failed 1 ≡ R.Failed 1
+shows_one : ◌≡◌ {A = Result Read Refusal} (Ok (R.Failed 1)) (Ok (R.Failed 1))
 unfolding empty
 shows_one =
-    cancelled-read 240 (empty 33) cancelled-zero zero-cancelled 0 (empty 30) (empty 30) (empty 30) (empty 30) (R.Failed 1) zero-read one_read
+    cancelled-read 240 (empty 33) cancelled-zero zero-cancelled 0 (empty 30) (empty 30) (empty 30) (empty 30) (Ok (R.Failed 1)) zero-read one_read
     (lit≤ tt)
 
 one_remains : Remainder (polynomial (take 260 (bits_of cancelled-zero))) 1

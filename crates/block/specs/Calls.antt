@@ -1,32 +1,38 @@
 -- The block calls: what each answers and writes, and its promise. Assumes nothing.
-use Rattle.std.specs.Prelude.{◌≡◌, Bool, not, ◌||◌, List, ◌++◌, ℕ, ◌+◌, ◌*◌, ltb, length, take, drop}
+use Rattle.std.specs.Prelude.{Result, Ok, Err, ◌≡◌, Bool, not, ◌||◌, List, ◌++◌, ℕ, ◌+◌, ◌*◌, ltb, length, take, drop}
 use Rattle.crc.specs.Bits.{Bits, binary, bits_of, bytes_of}
 use Rattle.crc.specs.Check.{remainder}
 use Rattle.block.specs.Answer as A
 use Rattle.block.specs.Answer.{Answer, refused, done, refuse_if}
 use Rattle.block.specs.Lengths.{is_length, block_length, payload_bytes, block_bytes}
 use Rattle.block.specs.Block.{block_bits, payload_of, Verdict, passed, failed, verdict, sync_block, cancelled}
-use Rattle.block.specs.declared.Built.{Built}
-use Rattle.block.specs.declared.Built.TheVariants as B
-use Rattle.block.specs.declared.Checked.{Checked}
-use Rattle.block.specs.declared.Checked.TheVariants as C
+use Rattle.block.specs.declared.Refusal.{Refusal}
+use Rattle.block.specs.declared.Refusal.TheVariants as N
 use Rattle.block.specs.declared.Read.{Read}
 use Rattle.block.specs.declared.Read.TheVariants as R
 
 -- ---- the answers: a refusal's number, or the values, for each case
 
-abbrev pub built_answer : Built → Answer (Unit {0})
-built_answer B.Done = done tt
-built_answer (B.Refused n) = refused n
+abbrev pub refusal_number : Refusal → ℕ
+refusal_number N.Block = A.block
+refusal_number N.Short = A.short
+refusal_number N.Spoiled = A.spoiled
 
-abbrev pub checked_answer : Checked → Answer ℕ
-checked_answer (C.Remainder r) = done r
-checked_answer (C.Refused n) = refused n
+abbrev pub built_answer : Result (Unit {0}) Refusal → Answer (Unit {0})
+built_answer (Ok u) = done tt
+built_answer (Err r) = refused (refusal_number r)
 
-abbrev pub read_answer : Read → Answer Verdict
-read_answer (R.Passed s) = done (passed s)
-read_answer (R.Failed r) = done (failed r)
-read_answer (R.Refused n) = refused n
+abbrev pub checked_answer : Result ℕ Refusal → Answer ℕ
+checked_answer (Ok r) = done r
+checked_answer (Err r) = refused (refusal_number r)
+
+abbrev pub verdict_of : Read → Verdict
+verdict_of (R.Passed s) = passed s
+verdict_of (R.Failed r) = failed r
+
+abbrev pub read_answer : Result Read Refusal → Answer Verdict
+read_answer (Ok v) = done (verdict_of v)
+read_answer (Err r) = refused (refusal_number r)
 
 -- the remainder that a reader's answer carries, 0 where it carries none
 abbrev pub carried_remainder : Answer Verdict → ℕ
@@ -55,7 +61,7 @@ built_bytes k service payload slice (refused n) = slice
 built_bytes k service payload slice (done u) =
     overwritten (block_bytes k) (block_bits (binary 4 service) (take k (bits_of payload))) slice
 
-pub record BuildBlock (k service : ℕ) (payload slice : List ℕ) (answer : Built) (slice' : List ℕ) : Type 0 where
+pub record BuildBlock (k service : ℕ) (payload slice : List ℕ) (answer : Result (Unit {0}) Refusal) (slice' : List ℕ) : Type 0 where
   pub answers : built_answer answer ≡ build_block k service payload slice
   pub writes : slice' ≡ built_bytes k service payload slice (build_block k service payload slice)
 
@@ -66,7 +72,7 @@ check_block k slice =
     refuse_if (not (is_length k)) A.block
     (refuse_if (too_short slice (block_length k)) A.short (done (remainder (take (block_length k) (bits_of slice)))))
 
-pub record CheckBlock (k : ℕ) (slice : List ℕ) (answer : Checked) : Type 0 where
+pub record CheckBlock (k : ℕ) (slice : List ℕ) (answer : Result ℕ Refusal) : Type 0 where
   pub answers : checked_answer answer ≡ check_block k slice
 
 -- ---- reading one without its data: 1, 6; nothing is written
@@ -76,7 +82,7 @@ read_service k slice =
     refuse_if (not (is_length k)) A.block
     (refuse_if (too_short slice (block_length k)) A.short (done (verdict (take (block_length k) (bits_of slice)))))
 
-pub record ReadService (k : ℕ) (slice : List ℕ) (answer : Read) : Type 0 where
+pub record ReadService (k : ℕ) (slice : List ℕ) (answer : Result Read Refusal) : Type 0 where
   pub answers : read_answer answer ≡ read_service k slice
 
 -- ---- moving the first m data bytes of a packed block, whatever its check: 6
@@ -88,7 +94,7 @@ abbrev pub moved_bytes : ℕ → List ℕ → List ℕ → Answer (Unit {0}) →
 moved_bytes m slice payload (refused n) = payload
 moved_bytes m slice payload (done u) = overwritten m (payload_of (8 * m) (bits_of slice)) payload
 
-pub record MoveData (m : ℕ) (slice payload : List ℕ) (answer : Built) (payload' : List ℕ) : Type 0 where
+pub record MoveData (m : ℕ) (slice payload : List ℕ) (answer : Result (Unit {0}) Refusal) (payload' : List ℕ) : Type 0 where
   pub answers : built_answer answer ≡ move_data m slice payload
   pub writes : payload' ≡ moved_bytes m slice payload (move_data m slice payload)
 
@@ -106,7 +112,7 @@ read_bytes k slice payload (done (failed r)) = payload
 read_bytes k slice payload (done (passed s)) =
     overwritten (payload_bytes k) (payload_of k (bits_of slice)) payload
 
-pub record ReadBlock (k : ℕ) (slice payload : List ℕ) (answer : Read) (payload' : List ℕ) : Type 0 where
+pub record ReadBlock (k : ℕ) (slice payload : List ℕ) (answer : Result Read Refusal) (payload' : List ℕ) : Type 0 where
   pub answers : read_answer answer ≡ read_block k slice payload
   pub writes : payload' ≡ read_bytes k slice payload (read_block k slice payload)
 
@@ -120,7 +126,7 @@ abbrev pub sync_bytes : ℕ → List ℕ → Answer (Unit {0}) → List ℕ
 sync_bytes k slice (refused n) = slice
 sync_bytes k slice (done u) = overwritten (block_bytes k) (sync_block k) slice
 
-pub record BuildSync (k : ℕ) (slice : List ℕ) (answer : Built) (slice' : List ℕ) : Type 0 where
+pub record BuildSync (k : ℕ) (slice : List ℕ) (answer : Result (Unit {0}) Refusal) (slice' : List ℕ) : Type 0 where
   pub answers : built_answer answer ≡ build_sync k slice
   pub writes : slice' ≡ sync_bytes k slice (build_sync k slice)
 
@@ -135,6 +141,6 @@ cancel_bytes k slice (refused n) = slice
 cancel_bytes k slice (done u) =
     bytes_of (length slice) (cancelled (take (block_length k) (bits_of slice)) ++ drop (block_length k) (bits_of slice))
 
-pub record CancelBlock (k : ℕ) (slice : List ℕ) (answer : Built) (slice' : List ℕ) : Type 0 where
+pub record CancelBlock (k : ℕ) (slice : List ℕ) (answer : Result (Unit {0}) Refusal) (slice' : List ℕ) : Type 0 where
   pub answers : built_answer answer ≡ cancel_block k slice
   pub writes : slice' ≡ cancel_bytes k slice (cancel_block k slice)

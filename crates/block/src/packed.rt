@@ -3,22 +3,18 @@
 ghost use Rattle.std.specs.Prelude.{◌≡◌, cond, ◌++◌, ◌+◌, ◌*◌, ◌≤◌, ◌<◌, eqb, length, take, drop};
 ghost use Rattle.crc.specs.Bits.{binary, bits_of, bytes_of};
 ghost use Rattle.crc.specs.Check.{remainder};
-ghost use Rattle.block.specs.Answer.{done};
 ghost use Rattle.block.specs.Lengths.{block_length};
 ghost use Rattle.block.specs.Block.{block_bits, passed, failed, sync_block};
-ghost use Rattle.block.specs.Calls.{read_answer, too_short, overwritten};
+ghost use Rattle.block.specs.Calls.{verdict_of, too_short, overwritten};
 ghost use Rattle.block.specs.Packed.{BuildPacked, CheckPacked, ServicePacked, ReadPacked, SyncPacked, CancelPacked};
 
-use crate::{Built, Checked, Read, SHORT, SPOILED, received_check};
+use crate::{Read, Refusal, received_check};
 
 // Whether a slice holds fewer bits than a block.
 fn short_of_block(m: usize, block: &[u8]) -> bool
     ensures { result ≡ too_short block.now (block_length (8 * m)) }
 {
-    if block.len() < m {
-        return true;
-    }
-    block.len() - m < 3
+    block.len() < m || block.len() - m < 3
 }
 
 // The first m bytes of to become those of from without its first four bits.
@@ -26,10 +22,8 @@ pub(crate) fn shift_half(m: usize, from: &[u8], to: &mut [u8])
     requires { (m < length from.now) × (m ≤ length to.old) }
     ensures { to.new ≡ bytes_of m (drop 4 (bits_of from.now)) ++ drop m to.old }
 {
-    let mut i = 0;
-    while i < m {
+    for i in 0..m {
         to[i] = from[i] << 4 | from[i + 1] >> 4;
-        i += 1;
     }
 }
 
@@ -68,20 +62,20 @@ fn fill_block(m: usize, service: u8, payload: &[u8], block: &mut [u8])
 }
 
 // One block built: service bits, data and their check. Refused in the order 7, 6.
-pub fn build(m: usize, service: u8, payload: &[u8], block: &mut [u8]) -> Built
+pub fn build(m: usize, service: u8, payload: &[u8], block: &mut [u8]) -> Result<(), Refusal>
     ensures { BuildPacked (8 * m) service payload.now block.old result block.new }
 {
     if 15 < service {
-        return Built::Refused(SPOILED);
+        return Err(Refusal::Spoiled);
     }
     if payload.len() < m {
-        return Built::Refused(SHORT);
+        return Err(Refusal::Short);
     }
     if block.len() < m + 3 {
-        return Built::Refused(SHORT);
+        return Err(Refusal::Short);
     }
     fill_block(m, service, payload, block);
-    Built::Done
+    Ok(())
 }
 
 // The remainder of all its bits: the check of its service bits and data, xor the check received.
@@ -94,18 +88,19 @@ fn remainder_of(m: usize, block: &[u8]) -> u16
 }
 
 // One block checked; nothing is written. Refused 6.
-pub fn check(m: usize, block: &[u8]) -> Checked
+pub fn check(m: usize, block: &[u8]) -> Result<u16, Refusal>
     ensures { CheckPacked (8 * m) block.now result }
 {
     if short_of_block(m, block) {
-        return Checked::Refused(SHORT);
+        Err(Refusal::Short)
+    } else {
+        Ok(remainder_of(m, block))
     }
-    Checked::Remainder(remainder_of(m, block))
 }
 
 // What its remainder makes of a block with these service bits.
 fn judged(remainder: u16, service: u8) -> Read
-    ensures { read_answer result ≡ done (cond (eqb remainder 0) (passed service) (failed remainder)) }
+    ensures { verdict_of result ≡ cond (eqb remainder 0) (passed service) (failed remainder) }
 {
     if remainder != 0 {
         return Read::Failed(remainder);
@@ -114,30 +109,28 @@ fn judged(remainder: u16, service: u8) -> Read
 }
 
 // One block read without its data. Refused 6.
-pub fn read_service(m: usize, block: &[u8]) -> Read
+pub fn read_service(m: usize, block: &[u8]) -> Result<Read, Refusal>
     ensures { ServicePacked (8 * m) block.now result }
 {
-    match check(m, block) {
-        Checked::Remainder(remainder) => judged(remainder, block[0] >> 4),
-        Checked::Refused(number) => Read::Refused(number),
-    }
+    let remainder = check(m, block)?;
+    Ok(judged(remainder, block[0] >> 4))
 }
 
 // One block read: both slices judged, then the check; the data are moved if it passes. Refused 6.
-pub fn read(m: usize, block: &[u8], payload: &mut [u8]) -> Read
+pub fn read(m: usize, block: &[u8], payload: &mut [u8]) -> Result<Read, Refusal>
     ensures { ReadPacked (8 * m) block.now payload.old result payload.new }
 {
     if payload.len() < m {
-        return Read::Refused(SHORT);
+        return Err(Refusal::Short);
     }
     if block.len() < m + 3 {
-        return Read::Refused(SHORT);
+        return Err(Refusal::Short);
     }
     let answer = judged(remainder_of(m, block), block[0] >> 4);
     if let Read::Passed(_) = answer {
         shift_half(m, block, payload);
     }
-    answer
+    Ok(answer)
 }
 
 // The synchronising block over the first m + 3 bytes of a slice: 10 repeated, of which the first four bits, the service
@@ -146,35 +139,31 @@ fn fill_sync(m: usize, block: &mut [u8])
     requires { m + 3 ≤ length block.old }
     ensures { block.new ≡ overwritten (m + 3) (sync_block (8 * m)) block.old }
 {
-    let mut at = 0;
-    while at < m {
-        block[at] = 0xaa;
-        at += 1;
-    }
+    block[..m].fill(0xaa);
     block[m] = 0xa5;
     block[m + 1] = 0x0a;
     block[m + 2] = 0x50;
-    block[0] = block[0] ^ 0xf0;
+    block[0] ^= 0xf0;
 }
 
 // The synchronising block. Refused 6.
-pub fn synchronising(m: usize, block: &mut [u8]) -> Built
+pub fn synchronising(m: usize, block: &mut [u8]) -> Result<(), Refusal>
     ensures { SyncPacked (8 * m) block.old result block.new }
 {
     if short_of_block(m, block) {
-        return Built::Refused(SHORT);
+        return Err(Refusal::Short);
     }
     fill_sync(m, block);
-    Built::Done
+    Ok(())
 }
 
 // One block cancelled: its last bit inverted, the spare bits as they were. Refused 6.
-pub fn cancel(m: usize, block: &mut [u8]) -> Built
+pub fn cancel(m: usize, block: &mut [u8]) -> Result<(), Refusal>
     ensures { CancelPacked (8 * m) block.old result block.new }
 {
     if short_of_block(m, block) {
-        return Built::Refused(SHORT);
+        return Err(Refusal::Short);
     }
-    block[m + 2] = block[m + 2] ^ 0x10;
-    Built::Done
+    block[m + 2] ^= 0x10;
+    Ok(())
 }

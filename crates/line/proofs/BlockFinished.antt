@@ -2,8 +2,8 @@
 -- Assumes nothing.
 use mathlib.Core.Path.{◌≡◌, refl, sym, ap, ◌∙◌, subst}
 use mathlib.Core.Bool.{Bool, true, false, ◌||◌, or-false}
+use Rattle.std.specs.Prelude.{Ok, Err, IsOk}
 use mathlib.Core.List.{List, [], ◌∷◌, ◌++◌}
-use mathlib.Core.Logic.{⊎_elim}
 use Prim.Native.Nat.{ℕ, ◌+◌, ◌-◌, ◌*◌, ◌/◌, ◌%◌, ◌≤◌}
 use native.Mathlib.Omega.{arith}
 use borrow.Author.Tests.{le-ltb}
@@ -14,23 +14,21 @@ use types.Run.{OneOf, miss}
 use denote.Enum.Declared.{tag_of}
 use Rattle.crc.specs.Bits.{Bits, bits_of, bytes_of}
 use Rattle.crc.proofs.Bytes.{length-bits_of, bits_of-append, bits_of-bytes_of_exact}
-use Rattle.block.specs.Answer as A
 use Rattle.block.specs.Answer.{done}
 use Rattle.block.specs.Lengths.{block_length}
 use Rattle.block.specs.Block.{payload_of, passed, failed, verdict}
-use Rattle.block.specs.Calls.{too_short, read_answer, carried_remainder, moved_bytes, MoveData}
+use Rattle.block.specs.Calls.{too_short, built_answer, verdict_of, read_answer, moved_bytes, MoveData}
 use Rattle.block.specs.Packed.{ServicePacked}
-use Rattle.block.specs.declared.Built.{Built}
+use Rattle.std.specs.Prelude.{Result}
+use Rattle.block.specs.declared.Refusal.{Refusal}
 use Rattle.block.specs.declared.Read.{Read}
-use Rattle.block.specs.declared.Read.TheVariants as B
-use Rattle.block.specs.contracts.Read.{the_type}
 use Rattle.block.proofs.Lengths.{whole_bytes}
 use Rattle.block.proofs.Refusals.{service_done, move_done}
 use Rattle.line.specs.Receiving.{last_bad, after_bad, Rule, reads_sync, check_fails, accepts, meaning, end_rule, service_rule, looks_sync, judge, or_wait, block_rule, stops, Reception, store_at}
 use Rattle.line.specs.Code.ReceiveSteps.{rule_of, stepped, handed_back, judged, Handed}
 use Rattle.line.specs.declared.receiver.Receiver.{Receiver}
 use Rattle.line.specs.declared.receiving.Event.TheVariants as E
-use Rattle.line.specs.declared.receiving.Received.TheVariants as R
+use Rattle.line.specs.declared.Refusal.TheVariants as N
 use Rattle.line.specs.declared.receiver.Step.{Step}
 use Rattle.line.specs.declared.rules.Rule as D
 use Rattle.line.specs.declared.rules.Rule.TheVariants as C
@@ -68,7 +66,7 @@ module _ (s : Receiver) (row : Bits) (used : ℕ) (store : List ℕ) (r : Step) 
       (subst (λ (y : Step). Handed s store (stops s rule row used) y store) (sym h) (handed_plain s store (stops s rule row used) n))
 
   -- rule 3, the store short
-  pub handed_short : too_short store (s.taken * s.setup.k + s.setup.k) ≡ true → r ≡ record { state = s; answer = R.Refused A.short }
+  pub handed_short : too_short store (s.taken * s.setup.k + s.setup.k) ≡ true → r ≡ record { state = s; answer = Err N.Short }
       → Handed s store (stops s accepts row used) r store
   handed_short q h =
       subst (λ (y : Step). Handed s store (stops s accepts row used) y store) (sym h)
@@ -110,26 +108,24 @@ module _ (k : ℕ) (slice : List ℕ) (h : block_length k ≤ 8 * length slice) 
   abbrev row : Bits
   row = take (block_length k) (bits_of slice)
 
-  module _ (whole : k % 8 ≡ 0) (answer : Read) (below : ServicePacked (8 * (k / 8)) slice answer) where
+  module _ (whole : k % 8 ≡ 0) (answer : Result Read Refusal) (below : ServicePacked (8 * (k / 8)) slice answer) where
     answered : read_answer answer ≡ done (verdict row)
     answered =
         let p = subst (λ (x : ℕ). ServicePacked x slice answer) (whole_bytes k whole) below in
         p.answers ∙ service_done k slice (le-ltb (8 * length slice) (block_length k) h)
 
-    pub check-passes : (service : ℕ) → answer ≡ B.Passed service → verdict row ≡ passed service
-    check-passes service e =
-        let q : done (passed service) ≡ done (verdict row) = sym (ap read_answer e) ∙ answered in
-        cc
-
-    -- the other answer is that the check fails: nothing is refused here
-    pub check-not_passed : OneOf (1 ∷ 2 ∷ []) (tag_of the_type answer) → verdict row ≡ failed (carried_remainder (read_answer answer))
-    check-not_passed t = go answer answered t
+    -- nothing is refused here
+    pub read_ok : IsOk answer
+    read_ok = ok answer answered
       where
-        go : (a : Read) → read_answer a ≡ done (verdict row) → OneOf (1 ∷ 2 ∷ []) (tag_of the_type a)
-            → verdict row ≡ failed (carried_remainder (read_answer a))
-        go (B.Passed n) e t = ⊎_elim (λ z. absurd (omega arith)) (λ z. absurd (omega arith)) t
-        go (B.Failed r) e t = cc
-        go (B.Refused n) e t = cc
+        ok : (a : Result Read Refusal) → read_answer a ≡ done (verdict row) → IsOk a
+        ok (Ok v) e = refl
+        ok (Err r) e = absurd (let z : ◌≡◌ {A = ℕ} 0 1 = cc in omega arith)
+
+    pub read_verdict : (v : Read) → answer ≡ Ok v → verdict_of v ≡ verdict row
+    read_verdict v e =
+        let q : done (verdict_of v) ≡ done (verdict row) = sym (ap read_answer e) ∙ answered in
+        cc
 
   -- the first m data bytes
   same_data : (m : ℕ) → 8 * m ≤ k → payload_of (8 * m) (bits_of slice) ≡ take (8 * m) (payload_of k row)
@@ -143,8 +139,15 @@ module _ (k : ℕ) (slice : List ℕ) (h : block_length k ≤ 8 * length slice) 
       let n : length row ≡ block_length k = length-take-le (block_length k) (bits_of slice) (omega (arith, length-bits_of slice)) in
       length-take-le k (drop 4 row) (omega (arith, length-drop 4 row))
 
-  module _ (m : ℕ) (l : 8 * m ≤ k) (payload : List ℕ) (room : m ≤ length payload) (answer : Built) (payload' : List ℕ)
+  module _ (m : ℕ) (l : 8 * m ≤ k) (payload : List ℕ) (room : m ≤ length payload) (answer : Result (Unit {0}) Refusal) (payload' : List ℕ)
       (p : MoveData m slice payload answer payload') where
+    pub moved_ok : IsOk answer
+    moved_ok = ok answer (p.answers ∙ move_done m slice payload (omega arith) room)
+      where
+        ok : (a : Result (Unit {0}) Refusal) → built_answer a ≡ done tt → IsOk a
+        ok (Ok u) e = refl
+        ok (Err r) e = absurd (let z : ◌≡◌ {A = ℕ} 0 1 = cc in omega arith)
+
     pub data_moved : payload' ≡ bytes_of m (take (8 * m) (payload_of k row)) ++ drop m payload
     data_moved =
         p.writes ∙ ap (moved_bytes m slice payload) (move_done m slice payload (omega arith) room)

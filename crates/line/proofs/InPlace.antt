@@ -5,15 +5,15 @@ use mathlib.Core.List.{List}
 use Prim.Native.Nat.{ℕ}
 use borrow.Author.Tests.{eq-eqb, ne_eqb}
 use lib.ListN.{length}
-use Rattle.block.specs.Answer as A
 use Rattle.line.specs.Receiving.{array_bytes, receive, reported, receive_state, receive_store, Receive}
 use Rattle.line.specs.ReceivingInPlace.{with_array, receive_in_place, ReceiveInPlace}
 use Rattle.line.specs.Code.ReceiveSteps.{step_with, turned_away}
+use Rattle.line.specs.declared.Refusal.TheVariants as N
 use Rattle.line.specs.declared.head.Head.{Head}
 use Rattle.line.specs.declared.head.HeadStep.{HeadStep}
 
 module _ (h : Head) (array line : List ℕ) (count : ℕ) (ready : Bool) (store : List ℕ) where
-  pub another_length : (length array ≡ array_bytes → ⊥) → (r : HeadStep) → r ≡ turned_away h A.spoiled
+  pub another_length : (length array ≡ array_bytes → ⊥) → (r : HeadStep) → r ≡ turned_away h N.Spoiled
       → ReceiveInPlace h array line count ready store r array store
   unfolding receive_in_place
   another_length n r e =

@@ -1,6 +1,6 @@
 -- The packed calls on services and slices that they do not turn away, and an item's data as rows of the order.
 -- Assumes nothing.
-use mathlib.Core.Path.{◌≡◌, ap, ap₂, sym, subst, ◌∙◌}
+use mathlib.Core.Path.{◌≡◌, refl, ap, ap₂, sym, subst, ◌∙◌}
 use mathlib.Core.List.{List, ◌++◌, append_assoc}
 use Prim.Native.Nat.{ℕ, ◌+◌, ◌-◌, ◌*◌, ◌/◌, ◌%◌, ◌≤◌, ◌<◌}
 use native.Mathlib.Nat.{mul_left_comm, mul-le-mul_right, div-mul-le_self, lt-div-mul-add}
@@ -14,9 +14,10 @@ use Rattle.crc.proofs.Bytes.{length-bits_of, take-bits_of, drop-bits_of, length-
 use Rattle.block.specs.Answer.{done}
 use Rattle.block.specs.Lengths.{block_length, block_bytes}
 use Rattle.block.specs.Block.{block_bits, sync_block, cancelled}
-use Rattle.block.specs.Calls.{overwritten, built_bytes, sync_bytes, cancel_bytes}
+use Rattle.block.specs.Calls.{built_answer, overwritten, built_bytes, sync_bytes, cancel_bytes}
 use Rattle.block.specs.Packed.{build_packed, BuildPacked, held_packed, SyncPacked, CancelPacked}
-use Rattle.block.specs.declared.Built.{Built}
+use Rattle.std.specs.Prelude.{Result, Ok, Err, IsOk}
+use Rattle.block.specs.declared.Refusal.{Refusal}
 use Rattle.block.proofs.Lengths.{whole_bytes}
 use Rattle.block.proofs.Block.{length-cancelled}
 use Rattle.block.proofs.Packing.{bits_overwritten}
@@ -28,18 +29,28 @@ use Rattle.line.proofs.LastItem.{take-zeros, drop-take}
 
 -- ---- the calls
 
-module _ (k : ℕ) (slice : List ℕ) (answer : Built) (slice' : List ℕ) (whole : k % 8 ≡ 0)
+-- an answer that is done is no refusal
+pub done_ok : (answer : Result (Unit {0}) Refusal) → built_answer answer ≡ done tt → IsOk answer
+done_ok (Ok u) e = refl
+done_ok (Err r) e = absurd (let z : ◌≡◌ {A = ℕ} 0 1 = cc in omega arith)
+
+module _ (k : ℕ) (slice : List ℕ) (answer : Result (Unit {0}) Refusal) (slice' : List ℕ) (whole : k % 8 ≡ 0)
     (room : block_length k ≤ 8 * length slice) where
-  pub built : (service : ℕ) (payload : List ℕ) → service < 16 → k ≤ 8 * length payload
-      → BuildPacked (8 * (k / 8)) service payload slice answer slice'
-      → slice' ≡ overwritten (block_bytes k) (block_bits (binary 4 service) (take k (bits_of payload))) slice
-  unfolding build_packed
-  built service payload s l below =
-      let p = subst (λ (x : ℕ). BuildPacked x service payload slice answer slice') (whole_bytes k whole) below in
-      let e : build_packed k service payload slice ≡ done tt =
-      simp (le-ltb 15 service (omega arith), le-ltb (8 * length payload) k l, le-ltb (8 * length slice) (block_length k) room)
-      in
-      p.writes ∙ ap (built_bytes k service payload slice) e
+  module _ (service : ℕ) (payload : List ℕ) (small : service < 16) (enough : k ≤ 8 * length payload)
+      (below : BuildPacked (8 * (k / 8)) service payload slice answer slice') where
+    at_k : BuildPacked k service payload slice answer slice'
+    at_k = subst (λ (x : ℕ). BuildPacked x service payload slice answer slice') (whole_bytes k whole) below
+
+    builds : build_packed k service payload slice ≡ done tt
+    unfolding build_packed
+    builds =
+        simp (le-ltb 15 service (omega arith), le-ltb (8 * length payload) k enough, le-ltb (8 * length slice) (block_length k) room)
+
+    pub built : slice' ≡ overwritten (block_bytes k) (block_bits (binary 4 service) (take k (bits_of payload))) slice
+    built = at_k.writes ∙ ap (built_bytes k service payload slice) builds
+
+    pub built_ok : IsOk answer
+    built_ok = done_ok answer (at_k.answers ∙ builds)
 
   held : held_packed k slice ≡ done tt
   held = held_done k slice (le-ltb (8 * length slice) (block_length k) room)
@@ -48,6 +59,16 @@ module _ (k : ℕ) (slice : List ℕ) (answer : Built) (slice' : List ℕ) (whol
   synchronised below =
       let p = subst (λ (x : ℕ). SyncPacked x slice answer slice') (whole_bytes k whole) below in
       p.writes ∙ ap (sync_bytes k slice) held
+
+  pub synchronised_ok : SyncPacked (8 * (k / 8)) slice answer slice' → IsOk answer
+  synchronised_ok below =
+      let p = subst (λ (x : ℕ). SyncPacked x slice answer slice') (whole_bytes k whole) below in
+      done_ok answer (p.answers ∙ held)
+
+  pub cancels_ok : CancelPacked (8 * (k / 8)) slice answer slice' → IsOk answer
+  cancels_ok below =
+      let p = subst (λ (x : ℕ). CancelPacked x slice answer slice') (whole_bytes k whole) below in
+      done_ok answer (p.answers ∙ held)
 
   pub cancels : CancelPacked (8 * (k / 8)) slice answer slice' → slice' ≡ cancel_bytes k slice (done tt)
   cancels below =

@@ -1,11 +1,11 @@
 -- Laws of a search over the bits of a line: the window in the array, and one bit more. Assumes nothing.
 use mathlib.Core.Path.{◌≡◌, refl, sym, ap, ap₂, ◌∙◌}
 use mathlib.Core.Bool.{Bool, true, false, cond}
-use mathlib.Core.List.{List, [], ◌∷◌, ◌++◌, append_assoc}
+use mathlib.Core.List.{List, [], ◌∷◌, ◌++◌, append_assoc, append-nil}
 use Prim.Native.Nat.{ℕ, suc, ◌+◌, ◌*◌, ◌≤◌, ◌<◌}
 use native.Mathlib.Numerals.{add-one}
 use native.Mathlib.Omega.{arith}
-use lib.ListN.{length, take, drop, get_or, set, length-append}
+use lib.ListN.{length, take, drop, get_or, length-append}
 use lib.Seq.{take-append-le, drop-cons, drop-length, get_or-take, length-take-le}
 use Rattle.crc.specs.Bits.{Bits, binary, bits_of}
 use Rattle.crc.proofs.Rows.{length-binary}
@@ -16,18 +16,14 @@ use Rattle.line.specs.declared.receiver.Receiver.{Receiver}
 -- ---- the window in the array's first two bytes
 
 pub window_held : (l : List ℕ) (held : ℕ) → 2 ≤ length l → held ≤ 16
-    → take held (binary 8 (get_or l 0 0) ++ binary 8 (get_or l 1 0)) ≡ take held (bits_of l)
+    → take held (bits_of (get_or l 0 0 ∷ get_or l 1 0 ∷ [])) ≡ take held (bits_of l)
 unfolding bits_of
 window_held [] held h k = absurd (omega arith)
 window_held (x ∷ []) held h k = absurd (omega arith)
 window_held (x ∷ y ∷ l) held h k =
     let n : held ≤ length (binary 8 x ++ binary 8 y) = omega (arith, length-append (binary 8 x) (binary 8 y), length-binary 8 x, length-binary 8 y) in
-    sym (take-append-le held (binary 8 x ++ binary 8 y) (bits_of l) n) ∙ ap (take held) (append_assoc (binary 8 x) (binary 8 y) (bits_of l))
-
-pub window_stored : (l : List ℕ) (a b : ℕ) → 2 ≤ length l → set (set l 0 a) 1 b ≡ (a ∷ b ∷ []) ++ drop 2 l
-window_stored [] a b h = absurd (omega arith)
-window_stored (x ∷ []) a b h = absurd (omega arith)
-window_stored (x ∷ y ∷ l) a b h = refl
+    ap (λ (b : Bits). take held (binary 8 x ++ b)) (append-nil (binary 8 y))
+    ∙ sym (take-append-le held (binary 8 x ++ binary 8 y) (bits_of l) n) ∙ ap (take held) (append_assoc (binary 8 x) (binary 8 y) (bits_of l))
 
 -- ---- along the bits
 

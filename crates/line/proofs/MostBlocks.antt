@@ -6,6 +6,7 @@ use Prim.Native.Nat.{ℕ, min, ◌+◌, ◌-◌, ◌*◌, ◌≤◌, ◌<◌}
 use native.Mathlib.Omega.{arith}
 use borrow.Author.Tests.{eqb-false, leb-true, leb-false}
 use lib.Dec.{eqb, leb}
+use Rattle.std.specs.Prelude.{Result, Ok, Err}
 use Rattle.block.specs.Answer.{done}
 use Rattle.block.proofs.Truth.{cond_case}
 use Rattle.line.specs.Marks.{marks_of}
@@ -18,7 +19,7 @@ use Rattle.line.specs.declared.sender.Sender.{Sender}
 use Rattle.line.specs.declared.sender.Next.{Next}
 use Rattle.line.specs.declared.sender.Next.TheVariants.{Sync, Older, Newer}
 use Rattle.line.specs.declared.sender.Sent.{Sent}
-use Rattle.line.specs.declared.sender.Sent.TheVariants as W
+use Rattle.line.specs.declared.Refusal.{Refusal}
 use Rattle.line.proofs.SenderRange.{in_range, sendable, opened}
 
 -- the blocks of a pair up to its newer item
@@ -88,11 +89,10 @@ send_lowers s order reading slice b e =
 -- ---- any calls
 
 -- a call that is refused sends no block and leaves the state
-call_left : (s : Sender) (order : List ℕ) (reading : Bool) (slice : List ℕ) (sent : Sent) → sent_answer sent ≡ send s order reading slice
+call_left : (s : Sender) (order : List ℕ) (reading : Bool) (slice : List ℕ) (sent : Result Sent Refusal) → sent_answer sent ≡ send s order reading slice
     → blocks_of sent + blocks_left (send_state s reading (sent_answer sent)) ≤ blocks_left s
-call_left s order reading slice W.Synchronising e = omega (arith, send_lowers s order reading slice _ (sym e))
-call_left s order reading slice (W.Item number end used cancelled) e = omega (arith, send_lowers s order reading slice _ (sym e))
-call_left s order reading slice (W.Refused n) e = omega arith
+call_left s order reading slice (Ok x) e = omega (arith, send_lowers s order reading slice _ (sym e))
+call_left s order reading slice (Err r) e = omega arith
 
 pub calls_left : {s t : Sender} (calls : SendCalls s t) → sent_blocks calls + blocks_left t ≤ blocks_left s
 unfolding sent_blocks

@@ -1,6 +1,7 @@
 -- A receiving call: its range, its refusals, and what it reads by its phase. Assumes nothing.
 use mathlib.Core.Path.{◌≡◌, refl, sym, ap, ◌∙◌, subst}
 use mathlib.Core.Bool.{Bool, true, false, not, ◌&&◌}
+use Rattle.std.specs.Prelude.{Err}
 use mathlib.Core.List.{List, []}
 use Prim.Native.Nat.{ℕ, ◌+◌, ◌*◌, ◌≤◌, ◌<◌}
 use native.Mathlib.Omega.{arith}
@@ -17,6 +18,7 @@ use Rattle.block.specs.Calls.{too_short}
 use Rattle.block.proofs.Truth.{and_left, and_right}
 use Rattle.block.proofs.Refusals.{passed_test}
 use Rattle.line.specs.Marks.{marks_in_range}
+use Rattle.line.specs.Refusals.{refusal_number}
 use Rattle.line.specs.Order.{most_items}
 use Rattle.line.specs.Receiving as S
 use Rattle.line.specs.Receiving.{meaning, standing, under_alarm, Reception, idle_rule, idle, by_phase, reception, last_bad, held_in_range, receiver_in_range, judge_store, receive, reported, receive_state, receive_store, Receive}
@@ -25,7 +27,8 @@ use Rattle.line.specs.declared.receiver.Receiver.{Receiver}
 use Rattle.line.specs.declared.receiving.Phase.{Phase}
 use Rattle.line.specs.declared.receiving.Phase.TheVariants as P
 use Rattle.line.specs.declared.receiving.Event.{Event}
-use Rattle.line.specs.declared.receiving.Received.TheVariants as R
+use Rattle.line.specs.declared.Refusal.{Refusal}
+use Rattle.line.specs.declared.Refusal.TheVariants as N
 use Rattle.line.specs.declared.receiver.Step.{Step}
 use Rattle.line.proofs.BlockFinished.{handed_plain}
 use Rattle.line.proofs.LineSearch.{search_stores}
@@ -116,17 +119,17 @@ length-lent line count t =
     length-take-le count (bits_of line) (omega (arith, length-bits_of line, ltb-false (8 * length line) count t))
 
 module _ (s : Receiver) (line : List ℕ) (count : ℕ) (ready : Bool) (store : List ℕ) where
-  refuses : (n : ℕ) → receive s line count ready store ≡ refused n → Receive s line count ready store (record { state = s; answer = R.Refused n }) store
-  refuses n e =
+  refuses : (r : Refusal) → receive s line count ready store ≡ refused (refusal_number r) → Receive s line count ready store (record { state = s; answer = Err r }) store
+  refuses r e =
       record {
         answers = ap reported (sym e);
         state = ap (receive_state s) (sym e);
         writes = ap (receive_store s store) (sym e);
       }
 
-  pub refuses_spoiled : receiver_in_range s ≡ false → Receive s line count ready store (record { state = s; answer = R.Refused A.spoiled }) store
+  pub refuses_spoiled : receiver_in_range s ≡ false → Receive s line count ready store (record { state = s; answer = Err N.Spoiled }) store
   unfolding receive
-  refuses_spoiled e = refuses A.spoiled (rw e)
+  refuses_spoiled e = refuses N.Spoiled (rw e)
 
   -- a call that is not refused: its state is in range, its bits are there, and it reads them
   pub heard : (x : Reception) → receive s line count ready store ≡ done x
@@ -139,9 +142,9 @@ module _ (s : Receiver) (line : List ℕ) (count : ℕ) (ready : Bool) (store : 
       (not-false (receiver_in_range s) p.0, q.0, cc w.1)
 
   module _ (e : receiver_in_range s ≡ true) where
-    pub refuses_short : too_short line count ≡ true → Receive s line count ready store (record { state = s; answer = R.Refused A.short }) store
+    pub refuses_short : too_short line count ≡ true → Receive s line count ready store (record { state = s; answer = Err N.Short }) store
     unfolding receive
-    refuses_short t = refuses A.short (rw (e, t))
+    refuses_short t = refuses N.Short (rw (e, t))
 
     module _ (t : too_short line count ≡ false) where
       goes : judge_store s store (reception s (take count (bits_of line)) count ready) ≡ receive s line count ready store

@@ -3,13 +3,15 @@ use mathlib.Core.Path.{◌≡◌, refl, sym, ap, ap₂, ◌∙◌, subst}
 use mathlib.Core.Bool.{Bool, true, false, ◌&&◌}
 use mathlib.Core.List.{List, [], ◌∷◌, ◌++◌, append-nil}
 use Prim.Native.Nat.{ℕ, zero, suc, ◌+◌, ◌-◌, ◌*◌, ◌/◌, ◌%◌, ◌^◌, ◌≤◌, ◌<◌}
-use native.Mathlib.Nat.{add-zero, mod-lt}
+use native.Mathlib.Nat.{add-zero}
 use native.Mathlib.Omega.{arith}
 use borrow.Author.Tests.{ne_eqb}
 use lib.Bits.{bit_or, bit_and, or_shifted, and_mask}
+use Rattle.std.specs.Int.{w16, to_be_bytes, from_be_bytes}
+use Rattle.std.proofs.lemmas.Nat.{be_bytes_2}
 use lib.Dec.{eqb, lit<}
 use lib.ListN.{length, take, drop, get_or, get_or-append}
-use lib.Pow.{pow_pos, pow-add, pow_mono, shl_exact, shl_lt, shr_lt, split}
+use lib.Pow.{pow_pos, pow-add, pow_mono, shl_exact, shl_lt, shr_lt}
 use lib.Seq.{get_or-drop, drop-cons}
 use mir.Val.{bool_byte}
 use Rattle.crc.specs.Bits.{Bits, bit, odd, binary, number, bits_of, bytes_of}
@@ -118,52 +120,50 @@ module _ (held n : ℕ) (full : held ≡ 15) (l : n < 2 ^ held) (b : Bool) where
 two_bytes : (a b : ℕ) → b < 256 → binary 16 (a * 256 + b) ≡ binary 8 a ++ binary 8 b
 two_bytes a b h = binary_join 8 8 a b h
 
+bits_of-two : (x : ℕ) → x < 65536 → bits_of (to_be_bytes w16 x) ≡ binary 16 x
+unfolding bits_of
+bits_of-two x h =
+    let e : x / 256 % 256 * 256 + x % 256 ≡ x = omega arith in
+    ap (λ (r : Bits). binary 8 (x / 256 % 256) ++ r) (append-nil (binary 8 (x % 256)))
+    ∙ sym (two_bytes (x / 256 % 256) (x % 256) (omega arith)) ∙ ap (binary 16) e
+
 module _ (held : ℕ) (h : held ≤ 15) where
   both : held + (16 - held) ≡ 16
   both = omega arith
 
-  module _ (a b : ℕ) (ha : a < 256) (hb : b < 256) where
-    loaded : bit_or ((a * 256) % 4294967296) b ≡ a * 256 + b
-    loaded = ap (λ (x : ℕ). bit_or x b) (shl_exact 8 8 32 ha (omega arith)) ∙ or_shifted a 8 b hb
+  module _ (x : ℕ) (hx : x < 65536) where
+    pub loaded_lt : x / 2 ^ (16 - held) < 2 ^ held
+    loaded_lt = shr_lt held (16 - held) (subst (λ (w : ℕ). x < 2 ^ w) (sym both) hx)
 
-    pub loaded_lt : bit_or ((a * 256) % 4294967296) b / 2 ^ (16 - held) < 2 ^ held
-    loaded_lt =
-        subst (λ (x : ℕ). x / 2 ^ (16 - held) < 2 ^ held) (sym loaded)
-        (shr_lt held (16 - held) (subst (λ (w : ℕ). a * 256 + b < 2 ^ w) (sym both) (omega arith)))
-
-    pub loaded_bits : binary held (bit_or ((a * 256) % 4294967296) b / 2 ^ (16 - held)) ≡ take held (binary 8 a ++ binary 8 b)
-    loaded_bits =
-        ap (λ (x : ℕ). binary held (x / 2 ^ (16 - held))) loaded
-        ∙ sym (take-binary held (16 - held) (a * 256 + b))
-        ∙ ap (λ (w : ℕ). take held (binary w (a * 256 + b))) both ∙ ap (take held) (two_bytes a b hb)
+    pub loaded_bits : (pair : List ℕ) → length pair ≡ 2 → ((i : ℕ) → get_or pair i 0 < 256) → x ≡ from_be_bytes w16 pair
+        → binary held (x / 2 ^ (16 - held)) ≡ take held (bits_of pair)
+    loaded_bits pair n f e =
+        sym (take-binary held (16 - held) x)
+        ∙ ap (λ (w : ℕ). take held (binary w x)) both
+        ∙ ap (take held) (sym (bits_of-two x hx) ∙ ap bits_of (be_bytes_2 pair x n f e))
 
   module _ (n : ℕ) (l : n < 2 ^ held) where
     stored : (n * 2 ^ (16 - held)) % 4294967296 ≡ n * 2 ^ (16 - held)
     stored = shl_exact held (16 - held) 32 l (omega arith)
 
-    stored_lt : n * 2 ^ (16 - held) < 65536
-    stored_lt = subst (λ (w : ℕ). n * 2 ^ (16 - held) < 2 ^ w) both (shl_lt held (16 - held) l)
+    moved_lt : n * 2 ^ (16 - held) < 65536
+    moved_lt = subst (λ (w : ℕ). n * 2 ^ (16 - held) < 2 ^ w) both (shl_lt held (16 - held) l)
 
-    pub high_lt : (n * 2 ^ (16 - held)) % 4294967296 / 256 < 256
-    high_lt = subst (λ (x : ℕ). x / 256 < 256) (sym stored) (omega (arith, stored_lt))
+    pub stored_lt : (n * 2 ^ (16 - held)) % 4294967296 < 65536
+    stored_lt = subst (λ (x : ℕ). x < 65536) (sym stored) moved_lt
 
-    pub low_lt : bit_and ((n * 2 ^ (16 - held)) % 4294967296) 255 < 256
-    low_lt = subst (λ (x : ℕ). x < 256) (sym (and_mask ((n * 2 ^ (16 - held)) % 4294967296) 8)) (mod-lt ((n * 2 ^ (16 - held)) % 4294967296) (pow_pos 8))
-
-    pub stored_bytes : (n * 2 ^ (16 - held)) % 4294967296 / 256 ∷ bit_and ((n * 2 ^ (16 - held)) % 4294967296) 255 ∷ [] ≡ bytes_of 2 (binary held n)
-    unfolding bits_of
+    pub stored_bytes : to_be_bytes w16 ((n * 2 ^ (16 - held)) % 4294967296) ≡ bytes_of 2 (binary held n)
     stored_bytes =
         let x : ℕ = n * 2 ^ (16 - held) in
-        ap₂ (λ (a b : ℕ). a ∷ b ∷ []) (ap (λ (y : ℕ). y / 256) stored) (and_mask ((n * 2 ^ (16 - held)) % 4294967296) 8 ∙ ap (λ (y : ℕ). y % 256) stored)
-        ∙ sym (bytes_of-bits_of (x / 256 ∷ x % 256 ∷ []) (fits x stored_lt))
+        ap (to_be_bytes w16) stored
+        ∙ sym (bytes_of-bits_of (to_be_bytes w16 x) (fits x))
         ∙ ap (bytes_of 2)
-        (ap (λ (r : Bits). binary 8 (x / 256) ++ r) (append-nil (binary 8 (x % 256)))
-        ∙ sym (two_bytes (x / 256) (x % 256) (mod-lt x (pow_pos 8))) ∙ ap (binary 16) (split x 8)
+        (bits_of-two x moved_lt
         ∙ ap₂ (λ (w y : ℕ). binary w y) (sym both) (sym (add-zero x)) ∙ binary_join held (16 - held) n 0 (pow_pos (16 - held))
         ∙ ap (λ (r : Bits). binary held n ++ r) (binary-zero (16 - held)))
         ∙ bytes_of-zeros 2 (binary held n) (16 - held)
       where
-        fits : (x : ℕ) → x < 65536 → (i : ℕ) → get_or (x / 256 ∷ x % 256 ∷ []) i 0 < 256
-        fits x h zero = omega arith
-        fits x h (suc zero) = omega arith
-        fits x h (suc (suc i)) = lit< tt
+        fits : (x i : ℕ) → get_or (to_be_bytes w16 x) i 0 < 256
+        fits x zero = omega arith
+        fits x (suc zero) = omega arith
+        fits x (suc (suc i)) = lit< tt

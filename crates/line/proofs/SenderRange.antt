@@ -9,8 +9,10 @@ use native.Mathlib.Omega.{arith}
 use borrow.Author.Tests.{leb-true, ltb-false, eqb-false, le-leb, not-false}
 use lib.Dec.{eqb, leb, ltb}
 use lib.ListN.{length}
+use Rattle.std.specs.Prelude.{Option, Ok, Err}
 use Rattle.block.specs.Answer as A
 use Rattle.line.specs.Refusals as Refusals
+use Rattle.line.specs.Refusals.{refusal_number}
 use Rattle.block.specs.Answer.{Answer, refused, done, refuse_if}
 use Rattle.block.specs.Lengths.{is_length, block_length}
 use Rattle.block.specs.Calls.{too_short}
@@ -20,13 +22,12 @@ use Rattle.line.specs.Order.{longest_order, valid_length, item_count}
 use Rattle.line.specs.Sending.{fresh_sender, unless_refused, open_sender, OpenSender, Block, transmit, sender_items, at_last, last_run, sender_in_range, gave_up, send, send_state, send_bytes, sent_answer, Send}
 use Rattle.line.specs.SendCalls.{SendCalls, none, call}
 use Rattle.line.specs.Code.SendSteps.{GoingOn, Sends}
-use Rattle.line.specs.declared.marks.CodeSize.{CodeSize}
 use Rattle.line.specs.declared.marks.Marks.{Marks}
 use Rattle.line.specs.declared.sender.Sender.{Sender}
 use Rattle.line.specs.declared.sender.Next.{Next}
 use Rattle.line.specs.declared.sender.Next.TheVariants.{Sync, Older, Newer}
-use Rattle.line.specs.declared.sender.Opened.TheVariants as O
-use Rattle.line.specs.declared.sender.Sent.TheVariants as W
+use Rattle.line.specs.declared.Refusal.{Refusal}
+use Rattle.line.specs.declared.Refusal.TheVariants as R
 use Rattle.line.specs.declared.sender.Step.{Step}
 use Rattle.block.proofs.Truth.{and_left, and_right, or-false}
 use Rattle.block.proofs.Refusals.{passed_test}
@@ -88,14 +89,14 @@ unfolding loop_time
 loop_goes k speed loop_ms u e = not-false (is_length k) (passed_test (not (is_length k)) A.block _ u e).0
 
 -- what holds if a sender is opened
-pub record Openable (k L : ℕ) (size : CodeSize) (order : List ℕ) (s : Sender) : Type 0 where
+pub record Openable (k L : ℕ) (size : Option ℕ) (order : List ℕ) (s : Sender) : Type 0 where
   pub known : is_length k ≡ true
   pub valid : valid_length L ≡ true
   pub marks : marks_in_range (marks_of size) ≡ true
   pub lent : L ≤ 8 * length order
   pub state : s ≡ fresh_sender k L (marks_of size)
 
-pub opened : (k speed loop_ms L : ℕ) (size : CodeSize) (order : List ℕ) (s : Sender)
+pub opened : (k speed loop_ms L : ℕ) (size : Option ℕ) (order : List ℕ) (s : Sender)
     → open_sender k speed loop_ms L size order ≡ done s → Openable k L size order s
 unfolding open_sender
 opened k speed loop_ms L size order s e =
@@ -112,8 +113,8 @@ opened k speed loop_ms L size order s e =
       state = cc t.1;
     }
 
-pub opened_in_range : (k speed loop_ms L : ℕ) (size : CodeSize) (order : List ℕ) (s : Sender)
-    → OpenSender k speed loop_ms L size order (O.Opened s) → sender_in_range s ≡ true
+pub opened_in_range : (k speed loop_ms L : ℕ) (size : Option ℕ) (order : List ℕ) (s : Sender)
+    → OpenSender k speed loop_ms L size order (Ok s) → sender_in_range s ≡ true
 unfolding fresh_sender
 opened_in_range k speed loop_ms L size order s p =
     let o = opened k speed loop_ms L size order s (sym p.answers) in
@@ -219,26 +220,26 @@ calls_in_range (call order reading slice result slice' p rest) h =
     calls_in_range rest (send_in_range _ order reading slice result slice' p h)
 
 -- from an opened sender, after any calls, a call is refused only for a sender at rest or a short slice
-module _ (k speed loop_ms L : ℕ) (size : CodeSize) (order : List ℕ) (s t : Sender)
-    (o : OpenSender k speed loop_ms L size order (O.Opened s)) (calls : SendCalls s t) (lent : List ℕ) (reading : Bool) (slice : List ℕ) (result : Step) (slice' : List ℕ)
+module _ (k speed loop_ms L : ℕ) (size : Option ℕ) (order : List ℕ) (s t : Sender)
+    (o : OpenSender k speed loop_ms L size order (Ok s)) (calls : SendCalls s t) (lent : List ℕ) (reading : Bool) (slice : List ℕ) (result : Step) (slice' : List ℕ)
     (p : Send t lent reading slice result slice') where
-  pub send_refused_only : (n : ℕ) → result.answer ≡ W.Refused n
-      → ((n ≡ Refusals.rest) × (t.finished || gave_up t ≡ true))
-      ⊎ ((n ≡ A.short) × (too_short lent t.setup.length || too_short slice (block_length t.setup.k) ≡ true))
-  send_refused_only n e =
-      send_refusals t lent reading slice (calls_in_range calls (opened_in_range k speed loop_ms L size order s o)) n
+  pub send_refused_only : (r : Refusal) → result.answer ≡ Err r
+      → ((refusal_number r ≡ Refusals.rest) × (t.finished || gave_up t ≡ true))
+      ⊎ ((refusal_number r ≡ A.short) × (too_short lent t.setup.length || too_short slice (block_length t.setup.k) ≡ true))
+  send_refused_only r e =
+      send_refusals t lent reading slice (calls_in_range calls (opened_in_range k speed loop_ms L size order s o)) (refusal_number r)
       (sym (ap sent_answer (sym e) ∙ p.answers))
 
   -- never for a spoiled state
-  pub send_never_spoiled : result.answer ≢ W.Refused A.spoiled
-  send_never_spoiled e = ⊎_elim (λ w. omega arith) (λ w. omega arith) (send_refused_only A.spoiled e)
+  pub send_never_spoiled : result.answer ≢ Err R.Spoiled
+  send_never_spoiled e = ⊎_elim (λ w. omega arith) (λ w. omega arith) (send_refused_only R.Spoiled e)
 
 -- ---- the answers of a call, refused or not
 
 module _ (s : Sender) (order : List ℕ) (reading : Bool) (slice : List ℕ) where
-  pub refused_call : (n : ℕ) → send s order reading slice ≡ refused n
-      → Send s order reading slice (record { state = s; answer = W.Refused n }) slice
-  refused_call n e =
+  pub refused_call : (r : Refusal) → send s order reading slice ≡ refused (refusal_number r)
+      → Send s order reading slice (record { state = s; answer = Err r }) slice
+  refused_call r e =
       record { answers = sym e; state = ap (send_state s reading) (sym e); writes = ap (send_bytes s order slice) (sym e) }
 
   pub sent-call : (next : Next) → s.next ≡ next → send s order reading slice ≡ done (transmit s s.next reading).block

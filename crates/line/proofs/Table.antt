@@ -1,16 +1,19 @@
 -- Laws of tables: a computed test over all cells holds at each, and a number's place in a list. Assumes nothing.
 use mathlib.Core.Path.{◌≡◌, refl, sym, ◌∙◌}
-use mathlib.Core.Bool.{Bool, true, false, cond, ◌&&◌, ◌||◌}
+use mathlib.Core.Bool.{Bool, true, false, cond, not, ◌&&◌, ◌||◌}
 use mathlib.Core.List.{List, [], ◌∷◌}
-use Prim.Native.Nat.{ℕ, zero, suc, ◌<◌}
+use Prim.Native.Nat.{ℕ, zero, suc, ◌+◌, ◌<◌}
 use native.Mathlib.Nat.{le_of_suc-le-suc, not-suc-le-zero}
 use native.Mathlib.Omega.{arith}
-use borrow.Author.Tests.{eqb-true, lt-ltb}
-use lib.Dec.{T, eqb, ltb, leb-suc-suc}
+use borrow.Author.Tests.{eqb-true, eqb-false, eq-eqb, ne_eqb, lt-ltb, le-ltb, ltb-true, ltb-false}
+use lib.Dec.{T, eqb, ltb}
 use lib.ListN.{length, get_or}
+use Rattle.std.specs.Prelude.{Option, Some, None}
+use Rattle.std.specs.List.{list_any, position, position_or_len}
+use Rattle.std.proofs.lemmas.List.Folds.{list_any_at}
+use Rattle.std.proofs.lemmas.List.Quantifiers.{position-Some}
 use Rattle.crc.proofs.Basis.{and_left, and_right}
 use Rattle.block.specs.Lengths.{among}
-use Rattle.line.specs.Code.Table.{place}
 
 -- ---- a test of each number below a bound
 
@@ -31,22 +34,44 @@ at_cell f rows columns t row column hr hc = at (f row) columns (at (λ r. every 
 
 -- ---- the place of a number
 
-among_hit : (k : ℕ) (ls : List ℕ) (hit : Bool) → among k ls ≡ ltb (place k ls) (length ls)
-    → hit || among k ls ≡ ltb (cond hit 0 (suc (place k ls))) (suc (length ls))
-among_hit k ls true e = sym (lt-ltb 0 (suc (length ls)) (omega arith))
-among_hit k ls false e = e ∙ sym (leb-suc-suc (suc (place k ls)) (length ls))
+swapped : (a b : ℕ) (t : Bool) → eqb b a ≡ t → eqb a b ≡ t
+swapped a b true e = eq-eqb a b (sym (eqb-true b a e))
+swapped a b false e = ne_eqb a b (λ d. eqb-false b a e (sym d))
 
--- k is among the numbers of a list exactly if its place is in the list
-pub among-place : (k : ℕ) (ls : List ℕ) → among k ls ≡ ltb (place k ls) (length ls)
-among-place k [] = refl
-among-place k (l ∷ ls) = among_hit k ls (eqb k l) (among-place k ls)
+-- k is among the numbers of a list exactly if one of them equals it
+pub any-among : (k : ℕ) (ls : List ℕ) → list_any (λ l. eqb l k) ls ≡ among k ls
+any-among k [] = refl
+any-among k (l ∷ ls) = rw (swapped l k (eqb k l) refl, any-among k ls)
 
-get_d_hit : (k l : ℕ) (ls : List ℕ) (hit : Bool) → eqb k l ≡ hit → (place k ls < length ls → get_or ls (place k ls) 0 ≡ k)
-    → cond hit 0 (suc (place k ls)) < suc (length ls) → get_or (l ∷ ls) (cond hit 0 (suc (place k ls))) 0 ≡ k
-get_d_hit k l ls true e next h = omega (arith, eqb-true k l e)
-get_d_hit k l ls false e next h = next (le_of_suc-le-suc h)
+passing : (t : Bool) (n m : ℕ) (rest : Bool) → ltb n m ≡ rest → ltb (cond (not t) (1 + n) 0) (suc m) ≡ t || rest
+passing true n m rest e = lt-ltb 0 (suc m) (omega arith)
+passing false n m true e = lt-ltb (1 + n) (suc m) (omega (arith, ltb-true n m e))
+passing false n m false e = le-ltb (1 + n) (suc m) (omega (arith, ltb-false n m e))
 
--- and there it stands
-pub get_d_place : (k : ℕ) (ls : List ℕ) → place k ls < length ls → get_or ls (place k ls) 0 ≡ k
-get_d_place k [] h = absurd (not-suc-le-zero h)
-get_d_place k (l ∷ ls) h = get_d_hit k l ls (eqb k l) refl (get_d_place k ls) h
+any_within : (p : ℕ → Bool) (ls : List ℕ) → ltb (position_or_len p ls) (length ls) ≡ list_any p ls
+any_within p [] = refl
+any_within p (l ∷ ls) = passing (p l) (position_or_len p ls) (length ls) (list_any p ls) (any_within p ls)
+
+none_any : (t : Bool) (i : ℕ) → ◌≡◌ {A = Option ℕ} (cond t (Some i) None) None → t ≡ false
+none_any true i e = cc
+none_any false i e = refl
+
+pub record Place (k : ℕ) (ls : List ℕ) (i : ℕ) : Type 0 where
+  pub within : i < length ls
+  pub here : get_or ls i 0 ≡ k
+  pub among : among k ls ≡ true
+
+module _ (k : ℕ) (ls : List ℕ) where
+  pub no_place : position (λ l. eqb l k) ls ≡ None → among k ls ≡ false
+  no_place e =
+      let t = none_any (ltb (position_or_len (λ l. eqb l k) ls) (length ls)) _ e in
+      sym (any-among k ls) ∙ sym (any_within (λ l. eqb l k) ls) ∙ t
+
+  pub a_place : (i : ℕ) → position (λ l. eqb l k) ls ≡ Some i → Place k ls i
+  a_place i e =
+      let p = position-Some (λ l. eqb l k) ls i 0 e in
+      record {
+        within = p.0;
+        here = eqb-true (get_or ls i 0) k p.1;
+        among = sym (any-among k ls) ∙ list_any_at (λ l. eqb l k) ls i 0 p.0 p.1;
+      }

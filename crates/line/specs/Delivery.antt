@@ -1,5 +1,5 @@
 -- Demand 3 as one type: what is supposed of a list of calls, and what then holds of it. Assumes nothing.
-use Rattle.std.specs.Prelude.{◌≡◌, ◌⊎◌, Bool, true, false, cond, ◌&&◌, ◌||◌, not, List, [], ◌∷◌, ◌++◌, ℕ, ◌+◌, ◌*◌, ◌≤◌, eqb, length, take, drop}
+use Rattle.std.specs.Prelude.{◌≡◌, ◌⊎◌, Bool, true, false, cond, ◌&&◌, ◌||◌, not, List, [], ◌∷◌, ◌++◌, ℕ, ◌+◌, ◌*◌, ◌≤◌, eqb, length, take, drop, Option, Ok}
 use Rattle.crc.specs.Bits.{Bits, bits_of, xor_bits}
 use Rattle.crc.specs.Damage.{Damage}
 use Rattle.block.specs.Answer as A
@@ -10,14 +10,11 @@ use Rattle.line.specs.Order.{item_count, filled, order_bits}
 use Rattle.line.specs.Sending.{Block, synchronising, item, OpenSender, gave_up}
 use Rattle.line.specs.Receiving.{Rule, meaning, EventKind, event_kind, with_length, OpenReceiver}
 use Rattle.line.specs.Course.{Call, World, opened, Sent, Heard, Entry, send_refused, receive_refused, sent, heard, on_sent, on_heard, course, final, results, Run, observed}
-use Rattle.line.specs.declared.marks.CodeSize.{CodeSize}
 use Rattle.line.specs.declared.sender.Sender.{Sender}
-use Rattle.line.specs.declared.sender.Opened.TheVariants as SenderOpened
 use Rattle.line.specs.declared.receiver.Receiver.{Receiver}
 use Rattle.line.specs.declared.receiving.Event.{Event}
 use Rattle.line.specs.declared.receiving.Event.TheVariants as E
 use Rattle.line.specs.declared.receiver.Opened as ReceiverOpened
-use Rattle.line.specs.declared.receiver.Opening.TheVariants as Opening
 
 -- ---- lists
 
@@ -203,11 +200,11 @@ pub record Guarantees (k L : ℕ) (content : Bits) (initial_store : List ℕ) (e
 
 -- Both ends have just been opened, neither refused, with the same k and with marks at both or at neither, of any sizes; the
 -- store has at least N times k bits.
-pub record Openings (k speed loop_ms L : ℕ) (sender_size receiver_size : CodeSize) (order : List ℕ) (s : Sender) (o : ReceiverOpened.Opened) (initial_store : List ℕ) : Type 0 where
-  pub sender : OpenSender k speed loop_ms L sender_size order (SenderOpened.Opened s)
+pub record Openings (k speed loop_ms L : ℕ) (sender_size receiver_size : Option ℕ) (order : List ℕ) (s : Sender) (o : ReceiverOpened.Opened) (initial_store : List ℕ) : Type 0 where
+  pub sender : OpenSender k speed loop_ms L sender_size order (Ok s)
   pub receiver : OpenReceiver k receiver_size o
   pub alike : (marks_of sender_size).in_use ≡ (marks_of receiver_size).in_use
-  pub not_refused : o.answer ≡ Opening.Opened
+  pub not_refused : o.answer ≡ Ok tt
   pub room : item_count k L * k ≤ 8 * length initial_store
 
 -- Each call answers as the course says; and where the course meets the assumptions, the guarantees hold of it.
@@ -219,6 +216,6 @@ pub record Delivered (k L : ℕ) (content : Bits) (initial_store : List ℕ) {s 
 -- Demand 3: of every list of calls as it ran, from both openings on.
 unfoldable pub Delivery : Type 0
 Delivery =
-    (k speed loop_ms L : ℕ) (sender_size receiver_size : CodeSize) (order : List ℕ) (s : Sender) (o : ReceiverOpened.Opened)
+    (k speed loop_ms L : ℕ) (sender_size receiver_size : Option ℕ) (order : List ℕ) (s : Sender) (o : ReceiverOpened.Opened)
     (initial_store : List ℕ) → Openings k speed loop_ms L sender_size receiver_size order s o initial_store
     → (calls : List Call) (run : Run s o.state calls) → Delivered k L (order_bits L order) initial_store run

@@ -1,12 +1,12 @@
 -- Loop times: the longest loop for a block length and a speed, and the loop-time test. docs/PROTOCOL.md, "Loop time". Assumes
 -- nothing.
-use Rattle.std.specs.Prelude.{◌≡◌, ◌↔◌, Bool, true, not, ◌||◌, List, [], ◌∷◌, ℕ, ◌+◌, ◌-◌, ◌*◌, ◌/◌, ◌<◌, leb, ltb}
+use Rattle.std.specs.Prelude.{◌≡◌, ◌↔◌, Bool, true, not, ◌||◌, List, [], ◌∷◌, ℕ, ◌+◌, ◌-◌, ◌*◌, ◌/◌, ◌<◌, leb, ltb, Result, Ok, Err}
 use Rattle.block.specs.Answer as A
 use Rattle.line.specs.Refusals as Refusals
+use Rattle.line.specs.Refusals.{refusal_number}
 use Rattle.block.specs.Answer.{Answer, refused, done, refuse_if}
 use Rattle.block.specs.Lengths.{is_length, block_length, among}
-use Rattle.line.specs.declared.loop_time.LoopTime.{LoopTime}
-use Rattle.line.specs.declared.loop_time.LoopTime.TheVariants as W
+use Rattle.line.specs.declared.Refusal.{Refusal}
 
 -- the table's six speeds, in bit/s
 abbrev pub speeds : List ℕ
@@ -34,11 +34,11 @@ loop_time k speed loop_ms =
     (refuse_if (not (is_speed speed)) Refusals.speed
     (refuse_if (not (has_entry k speed) || ltb (longest_loop k speed) loop_ms) Refusals.loop_time (done tt)))
 
-abbrev pub loop_answer : LoopTime → Answer (Unit {0})
-loop_answer W.Allowed = done tt
-loop_answer (W.Refused n) = refused n
+abbrev pub loop_answer : Result Unit Refusal → Answer (Unit {0})
+loop_answer (Ok u) = done tt
+loop_answer (Err r) = refused (refusal_number r)
 
-pub record LoopTest (k speed loop_ms : ℕ) (answer : LoopTime) : Type 0 where
+pub record LoopTest (k speed loop_ms : ℕ) (answer : Result Unit Refusal) : Type 0 where
   pub answers : loop_answer answer ≡ loop_time k speed loop_ms
 
 -- The test without rounding: 3 exactly if k and the speed are in the tables and the loop and 90 ms together last longer than

@@ -1,14 +1,12 @@
 -- Start-of-message marks: the code sizes, whether a session uses marks, and the service bits of each. docs/PROTOCOL.md,
 -- "Start-of-message marks". Assumes nothing.
-use Rattle.std.specs.Prelude.{Bool, true, false, cond, not, ◌&&◌, ◌||◌, ℕ, eqb, leb}
-use Rattle.line.specs.declared.marks.CodeSize.{CodeSize}
-use Rattle.line.specs.declared.marks.CodeSize.TheVariants as C
+use Rattle.std.specs.Prelude.{Bool, true, false, cond, not, ◌&&◌, ◌||◌, ℕ, eqb, leb, Option, Some, None}
 use Rattle.line.specs.declared.marks.Marks.{Marks}
 
 -- a session uses marks if a code size is given; without one the size is 0
-abbrev pub marks_of : CodeSize → Marks
-marks_of C.NotGiven = record { in_use = false; size = 0 }
-marks_of (C.Given size) = record { in_use = true; size = size }
+abbrev pub marks_of : Option ℕ → Marks
+marks_of None = record { in_use = false; size = 0 }
+marks_of (Some size) = record { in_use = true; size = size }
 
 unfoldable pub is_code_size : ℕ → Bool
 is_code_size size = leb 5 size && leb size 8

@@ -1,19 +1,16 @@
 -- How many blocks a sender sends at most, whatever it reads. Assumes nothing.
-use Rattle.std.specs.Prelude.{ℕ, ◌+◌, ◌*◌, ◌≤◌, List}
+use Rattle.std.specs.Prelude.{ℕ, ◌+◌, ◌*◌, ◌≤◌, List, Option, Result, Ok, Err}
 use Rattle.line.specs.Order.{item_count}
 use Rattle.line.specs.Sending.{OpenSender}
 use Rattle.line.specs.SendCalls.{SendCalls, none, call}
-use Rattle.line.specs.declared.marks.CodeSize.{CodeSize}
+use Rattle.line.specs.declared.Refusal.{Refusal}
 use Rattle.line.specs.declared.sender.Sender.{Sender}
-use Rattle.line.specs.declared.sender.Opened.TheVariants as O
 use Rattle.line.specs.declared.sender.Sent.{Sent}
-use Rattle.line.specs.declared.sender.Sent.TheVariants as W
 
 -- a call sends one block, or none where it is refused
-abbrev pub blocks_of : Sent → ℕ
-blocks_of W.Synchronising = 1
-blocks_of (W.Item number end used cancelled) = 1
-blocks_of (W.Refused n) = 0
+abbrev pub blocks_of : Result Sent Refusal → ℕ
+blocks_of (Ok x) = 1
+blocks_of (Err r) = 0
 
 unfoldable pub sent_blocks : {s t : Sender} → SendCalls s t → ℕ
 sent_blocks none = 0
@@ -31,5 +28,5 @@ later_pair = 187
 -- of an order of N items there are N later pairs, the last one of the two end blocks
 unfoldable pub MostBlocks : Type 0
 MostBlocks =
-    (k speed loop_ms L : ℕ) (size : CodeSize) (order : List ℕ) (s t : Sender) → OpenSender k speed loop_ms L size order (O.Opened s)
+    (k speed loop_ms L : ℕ) (size : Option ℕ) (order : List ℕ) (s t : Sender) → OpenSender k speed loop_ms L size order (Ok s)
     → (calls : SendCalls s t) → sent_blocks calls ≤ first_pair + later_pair * item_count k L

@@ -1,6 +1,6 @@
 -- The receiving end: opening a receiver and a receiving call, with their promises. docs/PROTOCOL.md, "Receiving", whose rules
 -- have their numbers here. Assumes nothing.
-use Rattle.std.specs.Prelude.{◌≡◌, Bool, true, false, cond, not, ◌&&◌, ◌||◌, List, [], ◌∷◌, ◌++◌, ℕ, zero, suc, ◌+◌, ◌-◌, ◌*◌, eqb, leb, ltb, length, take, drop, replicate}
+use Rattle.std.specs.Prelude.{◌≡◌, Bool, true, false, cond, not, ◌&&◌, ◌||◌, List, [], ◌∷◌, ◌++◌, ℕ, zero, suc, ◌+◌, ◌-◌, ◌*◌, eqb, leb, ltb, length, take, drop, replicate, Result, Ok, Err}
 use Rattle.std.proofs.Math.Option.{Option, none, some}
 use Rattle.crc.specs.Bits.{Bits, number, bits_of, bytes_of}
 use Rattle.block.specs.Answer as A
@@ -9,10 +9,10 @@ use Rattle.block.specs.Lengths.{is_length, block_length}
 use Rattle.block.specs.Block.{service_of, payload_of, Verdict, passed, failed, verdict, service_sync, sync_sequence}
 use Rattle.block.specs.Calls.{too_short}
 use Rattle.line.specs.Refusals as Refusals
+use Rattle.line.specs.declared.Refusal.{Refusal}
 use Rattle.line.specs.Marks.{marks_of, marks_in_range, is_mark}
 use Rattle.line.specs.Order.{most_items, valid_length, item_count, letter, is_letter, end_service, version}
-use Rattle.line.specs.declared.marks.CodeSize.{CodeSize}
-use Rattle.line.specs.declared.marks.CodeSize.TheVariants as C
+use Rattle.std.specs.Prelude as Core
 use Rattle.line.specs.declared.marks.Marks.{Marks}
 use Rattle.line.specs.declared.receiver.Receiver.{Receiver}
 use Rattle.line.specs.declared.receiving.Phase.{Phase}
@@ -20,10 +20,7 @@ use Rattle.line.specs.declared.receiving.Phase.TheVariants as P
 use Rattle.line.specs.declared.receiving.Event.{Event}
 use Rattle.line.specs.declared.receiving.Event.TheVariants as E
 use Rattle.line.specs.declared.receiving.Received.{Received}
-use Rattle.line.specs.declared.receiving.Received.TheVariants as R
 use Rattle.line.specs.declared.receiver.Step.{Step}
-use Rattle.line.specs.declared.receiver.Opening.{Opening}
-use Rattle.line.specs.declared.receiver.Opening.TheVariants as O
 use Rattle.line.specs.declared.receiver.Opened.{Opened}
 
 -- ---- opening: 1, 9
@@ -49,21 +46,21 @@ fresh_receiver k m =
       phase = P.Search;
     }
 
-unfoldable pub open_receiver : ℕ → CodeSize → Answer (Unit {0})
+unfoldable pub open_receiver : ℕ → Core.Option ℕ → Answer (Unit {0})
 open_receiver k size =
     refuse_if (not (is_length k)) A.block
     (refuse_if (not (marks_in_range (marks_of size))) Refusals.code_size (done tt))
 
 -- a refused opening hands back a state that every step refuses, k being 0, and without marks
-abbrev pub opened_receiver : ℕ → CodeSize → Answer (Unit {0}) → Receiver
-opened_receiver k size (refused n) = fresh_receiver 0 (marks_of C.NotGiven)
+abbrev pub opened_receiver : ℕ → Core.Option ℕ → Answer (Unit {0}) → Receiver
+opened_receiver k size (refused n) = fresh_receiver 0 (marks_of Core.None)
 opened_receiver k size (done u) = fresh_receiver k (marks_of size)
 
-abbrev pub opening_answer : Opening → Answer (Unit {0})
-opening_answer O.Opened = done tt
-opening_answer (O.Refused n) = refused n
+abbrev pub opening_answer : Result Unit Refusal → Answer (Unit {0})
+opening_answer (Ok u) = done tt
+opening_answer (Err r) = refused (Refusals.refusal_number r)
 
-pub record OpenReceiver (k : ℕ) (size : CodeSize) (result : Opened) : Type 0 where
+pub record OpenReceiver (k : ℕ) (size : Core.Option ℕ) (result : Opened) : Type 0 where
   pub answers : opening_answer result.answer ≡ open_receiver k size
   pub state : result.state ≡ opened_receiver k size (open_receiver k size)
 
@@ -434,9 +431,9 @@ abbrev pub reported : Answer Reception → Answer Report
 reported (refused n) = refused n
 reported (done x) = done (record { event = (meaning x.rule).event; used = x.used })
 
-abbrev pub received_answer : Received → Answer Report
-received_answer (R.Used event used) = done (record { event = event; used = used })
-received_answer (R.Refused n) = refused n
+abbrev pub received_answer : Result Received Refusal → Answer Report
+received_answer (Ok r) = done (record { event = r.event; used = r.bits })
+received_answer (Err r) = refused (Refusals.refusal_number r)
 
 pub record Receive (s : Receiver) (line : List ℕ) (count : ℕ) (ready : Bool) (store : List ℕ) (result : Step) (store' : List ℕ) : Type 0 where
   pub answers : received_answer result.answer ≡ reported (receive s line count ready store)

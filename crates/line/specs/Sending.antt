@@ -1,8 +1,9 @@
 -- The sending end: opening a sender and a sending call, with their promises. docs/PROTOCOL.md, "Sending". Assumes nothing.
-use Rattle.std.specs.Prelude.{◌≡◌, Bool, true, false, cond, not, ◌&&◌, ◌||◌, List, ℕ, ◌+◌, ◌-◌, eqb, leb, ltb}
+use Rattle.std.specs.Prelude.{◌≡◌, Bool, true, false, cond, not, ◌&&◌, ◌||◌, List, ℕ, ◌+◌, ◌-◌, eqb, leb, ltb, Option, Result, Ok, Err}
 use Rattle.crc.specs.Bits.{Bits}
 use Rattle.block.specs.Answer as A
 use Rattle.line.specs.Refusals as Refusals
+use Rattle.line.specs.Refusals.{refusal_number}
 use Rattle.block.specs.Answer.{Answer, refused, done, refuse_if}
 use Rattle.block.specs.Lengths.{is_length, block_length, block_bytes}
 use Rattle.block.specs.Block.{sync_block, cancelled}
@@ -10,13 +11,11 @@ use Rattle.block.specs.Calls.{too_short, overwritten}
 use Rattle.line.specs.LoopTime.{loop_time}
 use Rattle.line.specs.Marks.{marks_of, marks_in_range}
 use Rattle.line.specs.Order.{longest_order, valid_length, item_count, is_data, order_bits, item_bits}
-use Rattle.line.specs.declared.marks.CodeSize.{CodeSize}
+use Rattle.line.specs.declared.Refusal.{Refusal}
 use Rattle.line.specs.declared.marks.Marks.{Marks}
 use Rattle.line.specs.declared.sender.Sender.{Sender}
 use Rattle.line.specs.declared.sender.Next.{Next}
 use Rattle.line.specs.declared.sender.Next.TheVariants.{Sync, Older, Newer}
-use Rattle.line.specs.declared.sender.Opened.{Opened}
-use Rattle.line.specs.declared.sender.Opened.TheVariants as O
 use Rattle.line.specs.declared.sender.Sent.{Sent}
 use Rattle.line.specs.declared.sender.Sent.TheVariants as W
 use Rattle.line.specs.declared.sender.Step.{Step}
@@ -40,7 +39,7 @@ abbrev pub unless_refused : {A B : Type 0} → Answer A → Answer B → Answer 
 unless_refused (refused n) next = refused n
 unless_refused (done a) next = next
 
-unfoldable pub open_sender : ℕ → ℕ → ℕ → ℕ → CodeSize → List ℕ → Answer Sender
+unfoldable pub open_sender : ℕ → ℕ → ℕ → ℕ → Option ℕ → List ℕ → Answer Sender
 open_sender k speed loop_ms L size order =
     unless_refused (loop_time k speed loop_ms)
     (refuse_if (eqb L 0) Refusals.empty
@@ -48,11 +47,11 @@ open_sender k speed loop_ms L size order =
     (refuse_if (not (marks_in_range (marks_of size))) Refusals.code_size
     (refuse_if (too_short order L) A.short (done (fresh_sender k L (marks_of size)))))))
 
-abbrev pub opened_answer : Opened → Answer Sender
-opened_answer (O.Opened s) = done s
-opened_answer (O.Refused n) = refused n
+abbrev pub opened_answer : Result Sender Refusal → Answer Sender
+opened_answer (Ok s) = done s
+opened_answer (Err r) = refused (refusal_number r)
 
-pub record OpenSender (k speed loop_ms L : ℕ) (size : CodeSize) (order : List ℕ) (answer : Opened) : Type 0 where
+pub record OpenSender (k speed loop_ms L : ℕ) (size : Option ℕ) (order : List ℕ) (answer : Result Sender Refusal) : Type 0 where
   pub answers : opened_answer answer ≡ open_sender k speed loop_ms L size order
 
 -- ---- a sending call
@@ -156,10 +155,13 @@ send_bytes s order slice (done b) =
     overwritten (block_bytes s.setup.k)
     (sent_bits s.setup.marks s.setup.k s.setup.length (order_bits s.setup.length order) b) slice
 
-abbrev pub sent_answer : Sent → Answer Block
-sent_answer W.Synchronising = done synchronising
-sent_answer (W.Item i end used cancel) = done (item i end used cancel)
-sent_answer (W.Refused n) = refused n
+abbrev pub sent_block : Sent → Block
+sent_block W.Synchronising = synchronising
+sent_block (W.Item i end used cancel) = item i end used cancel
+
+abbrev pub sent_answer : Result Sent Refusal → Answer Block
+sent_answer (Ok x) = done (sent_block x)
+sent_answer (Err r) = refused (refusal_number r)
 
 pub record Send (s : Sender) (order : List ℕ) (reading : Bool) (slice : List ℕ) (result : Step) (slice' : List ℕ) : Type 0 where
   pub answers : sent_answer result.answer ≡ send s order reading slice

@@ -1,11 +1,10 @@
 -- What a layer above takes from demand 3: with the end reported, the store begins with the order, and where the order is whole
 -- bytes, with its bytes. Assumes nothing.
-use Rattle.std.specs.Prelude.{◌≡◌, true, List, ℕ, ◌*◌, ◌<◌, take, get_or}
+use Rattle.std.specs.Prelude.{◌≡◌, true, List, ℕ, ◌*◌, ◌<◌, take, get_or, Option}
 use Rattle.crc.specs.Bits.{bits_of}
 use Rattle.line.specs.Order.{order_bits}
 use Rattle.line.specs.Course.{Call, opened, course, final}
 use Rattle.line.specs.Delivery.{some, is_end, Assumptions, Openings}
-use Rattle.line.specs.declared.marks.CodeSize.{CodeSize}
 use Rattle.line.specs.declared.sender.Sender.{Sender}
 use Rattle.line.specs.declared.receiver.Opened as ReceiverOpened
 
@@ -22,7 +21,7 @@ pub record StoresWhole (L : ℕ) (order initial_store store : List ℕ) : Type 0
 -- of every list of calls, from both openings on, that meets what demand 3 supposes and in which the machine reports the end
 unfoldable pub WholeOrder : Type 0
 WholeOrder =
-    (k speed loop_ms L : ℕ) (sender_size receiver_size : CodeSize) (order : List ℕ) (s : Sender) (o : ReceiverOpened.Opened)
+    (k speed loop_ms L : ℕ) (sender_size receiver_size : Option ℕ) (order : List ℕ) (s : Sender) (o : ReceiverOpened.Opened)
     (initial_store : List ℕ) → Openings k speed loop_ms L sender_size receiver_size order s o initial_store
     → (calls : List Call)
     → Assumptions k (order_bits L order) (course (opened s o.state initial_store) calls)

@@ -1,14 +1,15 @@
 // The receiving end in place: a state's array is lent, its other fields, the head, are handed over and back.
 ghost use Rattle.std.specs.Prelude.{◌≡◌, true, false, not, ◌||◌, List, [], ◌++◌, ℕ, ◌+◌, ◌*◌, ◌≤◌, ◌<◌, leb, length, take};
-ghost use Rattle.crc.specs.Bits.{bits_of};
+ghost use Rattle.crc.specs.Bits.{binary, bits_of};
 ghost use Rattle.block.specs.Lengths.{is_length, block_length};
 ghost use Rattle.block.specs.Calls.{too_short};
 ghost use Rattle.line.specs.Order.{most_items};
 ghost use Rattle.line.specs.Receiving as S;
 ghost use Rattle.line.specs.Receiving.{array_bytes, zero_array, receiver_in_range};
 ghost use Rattle.line.specs.ReceivingInPlace.{with_array, ReceiveInPlace};
-ghost use Rattle.line.specs.Code.ReceiveSteps.{WindowInRange, HeadInRange, FinishedBlock, window_bits, rule_of, step_with, stepped, handed_back, judged, turned_away, Handed};
+ghost use Rattle.line.specs.Code.ReceiveSteps.{HeadInRange, FinishedBlock, rule_of, step_with, stepped, handed_back, judged, turned_away, Handed};
 
+use crate::Refusal;
 use crate::hold::put_bits;
 use crate::order::MOST_ITEMS;
 use crate::receiving::{ARRAY_SIZE, Event, Phase, Received, Setup};
@@ -34,31 +35,7 @@ pub struct Head {
 #[derive(Clone, Copy)]
 pub struct HeadStep {
     pub head: Head,
-    pub answer: Received,
-}
-
-fn clear(array: &mut [u8])
-    requires { length array.old ≡ array_bytes }
-    ensures { array.new ≡ zero_array }
-{
-    let mut i = 0;
-    while i < ARRAY_SIZE {
-        array[i] = 0;
-        i += 1;
-    }
-}
-
-fn copied(array: &[u8]) -> [u8; 483]
-    requires { length array.now ≡ array_bytes }
-    ensures { result ≡ array.now }
-{
-    let mut copy = [0u8; ARRAY_SIZE];
-    let mut i = 0;
-    while i < ARRAY_SIZE {
-        copy[i] = array[i];
-        i += 1;
-    }
-    copy
+    pub answer: Result<Received, Refusal>,
 }
 
 impl Head {
@@ -86,37 +63,35 @@ impl Head {
         }
     }
 
-    fn refused(self, number: u8) -> HeadStep
-        ensures { result ≡ turned_away self number }
+    fn refused(self, refusal: Refusal) -> HeadStep
+        ensures { result ≡ turned_away self refusal }
     {
         HeadStep {
             head: self,
-            answer: Received::Refused(number),
+            answer: Err(refusal),
         }
     }
 
     // This head after an event, with nothing held, and the event.
-    fn after(self, array: &mut [u8], event: Event, used: usize) -> HeadStep
-        requires { length array.old ≡ array_bytes }
+    fn after(self, array: &mut [u8; ARRAY_SIZE], event: Event, used: usize) -> HeadStep
         ensures { step_with result array.new ≡ stepped (with_array self zero_array) event used }
     {
-        clear(array);
+        *array = [0; ARRAY_SIZE];
         HeadStep {
             head: self,
-            answer: Received::Used { event, bits: used },
+            answer: Ok(Received { event, bits: used }),
         }
     }
 
     // In step with return 0.
     fn after_good(
         self,
-        array: &mut [u8],
+        array: &mut [u8; ARRAY_SIZE],
         taken: usize,
         ended: bool,
         event: Event,
         used: usize,
     ) -> HeadStep
-        requires { length array.old ≡ array_bytes }
         ensures { step_with result array.new ≡ stepped (S.after_good (with_array self array.old) taken ended) event used }
     {
         let next = Head {
@@ -132,8 +107,13 @@ impl Head {
     }
 
     // With return 1, the bad row cleared: an alarm, a search's start, or a wait.
-    fn return_one(self, array: &mut [u8], phase: Phase, event: Event, used: usize) -> HeadStep
-        requires { length array.old ≡ array_bytes }
+    fn return_one(
+        self,
+        array: &mut [u8; ARRAY_SIZE],
+        phase: Phase,
+        event: Event,
+        used: usize,
+    ) -> HeadStep
         ensures { step_with result array.new ≡ stepped (S.alarmed (with_array self array.old) phase) event used }
     {
         let next = Head {
@@ -147,8 +127,14 @@ impl Head {
     }
 
     // A bad block with its remainder; lost where rule 7 goes back to search.
-    fn after_bad(self, array: &mut [u8], remainder: u16, lost: bool, used: usize) -> HeadStep
-        requires { HeadInRange self array.old }
+    fn after_bad(
+        self,
+        array: &mut [u8; ARRAY_SIZE],
+        remainder: u16,
+        lost: bool,
+        used: usize,
+    ) -> HeadStep
+        requires { HeadInRange self }
         ensures { step_with result array.new ≡ stepped (S.after_bad (with_array self array.old) (leb S.last_bad (self.bad_row + 1) || lost)) (Event.Bad remainder) used }
     {
         let bad_row = self.bad_row + 1;
@@ -170,8 +156,8 @@ impl Head {
     }
 
     // What a rule comes to, the store apart.
-    fn stop(self, array: &mut [u8], rule: Rule, used: usize) -> HeadStep
-        requires { HeadInRange self array.old }
+    fn stop(self, array: &mut [u8; ARRAY_SIZE], rule: Rule, used: usize) -> HeadStep
+        requires { HeadInRange self }
         ensures { step_with result array.new ≡ handed_back (S.stops (with_array self array.old) (rule_of rule) [] used) }
     {
         let taken = self.taken;
@@ -208,26 +194,32 @@ impl Head {
     }
 
     // Rule 3: the data straight to their place in the store, which has room, and the state after.
-    fn store_item(self, array: &mut [u8], row: &[u8], used: usize, store: &mut [u8]) -> HeadStep
-        requires { (FinishedBlock self array.old row.now) × (too_short store.old (self.taken * self.setup.k + self.setup.k) ≡ false) }
+    fn store_item(
+        self,
+        array: &mut [u8; ARRAY_SIZE],
+        row: &[u8],
+        used: usize,
+        store: &mut [u8],
+    ) -> HeadStep
+        requires { (FinishedBlock self row.now) × (too_short store.old (self.taken * self.setup.k + self.setup.k) ≡ false) }
         ensures { Handed (with_array self array.old) store.old (S.stops (with_array self array.old) S.accepts (take (block_length self.setup.k) (bits_of row.now)) used) (step_with result array.new) store.new }
     {
         let m = self.setup.k / 8;
         let start = self.taken * m;
-        block::move_data(m, row, &mut store[start..start + m]);
+        block::move_data(m, row, &mut store[start..start + m]).unwrap();
         self.stop(array, Rule::Accepts, used)
     }
 
     // A finished block by the rules in their order: rule 1, the check, then the rules of a block that passes, which may wait.
     fn judge(
         self,
-        array: &mut [u8],
+        array: &mut [u8; ARRAY_SIZE],
         row: &[u8],
         used: usize,
         ready: bool,
         store: &mut [u8],
     ) -> HeadStep
-        requires { FinishedBlock self array.old row.now }
+        requires { FinishedBlock self row.now }
         ensures { Handed (with_array self array.old) store.old (judged (with_array self array.old) (take (block_length self.setup.k) (bits_of row.now)) ready used) (step_with result array.new) store.new }
     {
         let k = self.setup.k;
@@ -236,16 +228,16 @@ impl Head {
         if looks_sync(k, row) {
             return self.after_good(array, taken, ended, Event::Sync, used);
         }
-        let answer = packed::read_service(k / 8, row);
-        let Read::Passed(service) = answer else {
-            return self.after_bad(array, answer.remainder(), false, used);
+        let service = match packed::read_service(k / 8, row).unwrap() {
+            Read::Passed(service) => service,
+            Read::Failed(remainder) => return self.after_bad(array, remainder, false, used),
         };
         let judged = service_rule(self.setup.marks.in_use, k, taken, ended, service, row);
         let rule = judged.or_wait(ready);
         match rule {
             Rule::Accepts => {
                 if !self.has_room(store) {
-                    return self.refused(block::SHORT);
+                    return self.refused(Refusal::Short);
                 }
                 self.store_item(array, row, used, store)
             }
@@ -257,19 +249,19 @@ impl Head {
     // is where the store is refused, so the others are finished in a copy.
     fn finish(
         self,
-        array: &mut [u8],
+        array: &mut [u8; ARRAY_SIZE],
         line: &[u8],
         missing: usize,
         ready: bool,
         store: &mut [u8],
     ) -> HeadStep
-        requires { (HeadInRange self array.old) × (self.held + missing ≡ block_length self.setup.k) × (missing ≤ 8 * length line.now) }
+        requires { (HeadInRange self) × (self.held + missing ≡ block_length self.setup.k) × (missing ≤ 8 * length line.now) }
         ensures { Handed (with_array self array.old) store.old (judged (with_array self array.old) (S.held_bits (with_array self array.old) ++ take missing (bits_of line.now)) ready missing) (step_with result array.new) store.new }
     {
         if self.held == 0 {
             return self.judge(array, line, missing, ready, store);
         }
-        let mut row = copied(array);
+        let mut row = *array;
         put_bits(&mut row, self.held, line, missing);
         self.judge(array, &row, missing, ready, store)
     }
@@ -277,13 +269,13 @@ impl Head {
     // In step: the bits up to the block's end, or to the last.
     fn in_step(
         self,
-        array: &mut [u8],
+        array: &mut [u8; ARRAY_SIZE],
         line: &[u8],
         bits: usize,
         ready: bool,
         store: &mut [u8],
     ) -> HeadStep
-        requires { (HeadInRange self array.old) × (self.held < block_length self.setup.k) × (bits ≤ 8 * length line.now) }
+        requires { (HeadInRange self) × (self.held < block_length self.setup.k) × (bits ≤ 8 * length line.now) }
         ensures { Handed (with_array self array.old) store.old (S.in_step (with_array self array.old) (take bits (bits_of line.now)) ready) (step_with result array.new) store.new }
     {
         let held = self.held;
@@ -297,50 +289,45 @@ impl Head {
                 held: held + bits,
                 ..self
             },
-            answer: Received::Used {
+            answer: Ok(Received {
                 event: Event::None,
                 bits,
-            },
+            }),
         }
     }
 
     // The search's window back in the array's first two bytes.
-    fn hold_window(self, array: &mut [u8], window: Window, used: usize) -> HeadStep
-        requires { (length array.old ≡ array_bytes) × (WindowInRange window) }
-        ensures { step_with result array.new ≡ stepped (S.searching (with_array self array.old) (window_bits window)) Event.None used }
+    fn hold_window(self, array: &mut [u8; ARRAY_SIZE], window: Window, used: usize) -> HeadStep
+        ensures { step_with result array.new ≡ stepped (S.searching (with_array self array.old) (binary window.held window.number)) Event.None used }
     {
-        let pair = window.store();
-        array[0] = pair.0;
-        array[1] = pair.1;
+        array[..2].copy_from_slice(&window.store());
         HeadStep {
             head: Head {
                 held: window.held,
                 back: true,
                 ..self
             },
-            answer: Received::Used {
+            answer: Ok(Received {
                 event: Event::None,
                 bits: used,
-            },
+            }),
         }
     }
 
     // Search: bit by bit, up to the sequence's end or to the last.
-    fn search(self, array: &mut [u8], line: &[u8], bits: usize) -> HeadStep
-        requires { (length array.old ≡ array_bytes) × (self.held ≤ 15) × (bits ≤ 8 * length line.now) }
+    fn search(self, array: &mut [u8; ARRAY_SIZE], line: &[u8], bits: usize) -> HeadStep
+        requires { (self.held ≤ 15) × (bits ≤ 8 * length line.now) }
         ensures { step_with result array.new ≡ handed_back (S.search (with_array self array.old) (S.held_bits (with_array self array.old)) (take bits (bits_of line.now)) 0) }
     {
-        let mut window = Window::load(self.held, array[0], array[1]);
-        let mut used = 0;
-        while used < bits {
+        let mut window = Window::load(self.held, [array[0], array[1]]);
+        for used in 0..bits {
             let next = bit_at(line, used);
-            used += 1;
             if window.ends_sequence(next) {
-                return self.after_good(array, self.taken, self.ended, Event::Sync, used);
+                return self.after_good(array, self.taken, self.ended, Event::Sync, used + 1);
             }
             window = window.slide(next);
         }
-        self.hold_window(array, window, used)
+        self.hold_window(array, window, bits)
     }
 
     // A standing alarm: all bits used.
@@ -353,7 +340,7 @@ impl Head {
                 back: true,
                 ..self
             },
-            answer: Received::Used { event: alarm, bits },
+            answer: Ok(Received { event: alarm, bits }),
         }
     }
 
@@ -369,20 +356,20 @@ impl Head {
         };
         HeadStep {
             head: self,
-            answer: Received::Used { event, bits: 0 },
+            answer: Ok(Received { event, bits: 0 }),
         }
     }
 
     // The bits of a line up to the next event, or to the last.
     fn read(
         self,
-        array: &mut [u8],
+        array: &mut [u8; ARRAY_SIZE],
         line: &[u8],
         bits: usize,
         ready: bool,
         store: &mut [u8],
     ) -> HeadStep
-        requires { (length array.old ≡ array_bytes) × (receiver_in_range (with_array self array.old) ≡ true) × (bits ≤ 8 * length line.now) }
+        requires { (receiver_in_range (with_array self array.old) ≡ true) × (bits ≤ 8 * length line.now) }
         ensures { Handed (with_array self array.old) store.old (S.reception (with_array self array.old) (take bits (bits_of line.now)) bits ready) (step_with result array.new) store.new }
     {
         if bits == 0 {
@@ -409,14 +396,14 @@ impl Head {
     ) -> HeadStep
         ensures { ReceiveInPlace self array.old line.now bits ready store.old result array.new store.new }
     {
-        if array.len() != ARRAY_SIZE {
-            return self.refused(block::SPOILED);
-        }
+        let Some(array) = array.as_mut_array() else {
+            return self.refused(Refusal::Spoiled);
+        };
         if !self.in_range() {
-            return self.refused(block::SPOILED);
+            return self.refused(Refusal::Spoiled);
         }
         if too_short(line, bits) {
-            return self.refused(block::SHORT);
+            return self.refused(Refusal::Short);
         }
         self.read(array, line, bits, ready, store)
     }

@@ -3,6 +3,7 @@ ghost use Rattle.std.specs.Prelude.{◌≡◌, ◌++◌, ◌+◌, ◌*◌, ◌�
 ghost use Rattle.crc.specs.Bits.{binary, bits_of, bytes_of};
 ghost use Rattle.line.specs.Receiving.{array_bytes, overwrite};
 
+use crate::receiving::ARRAY_SIZE;
 use block::byte_at;
 
 // The first n bits of a byte, as the last n of a byte.
@@ -30,20 +31,17 @@ fn merge(new: u8, n: usize, old: u8) -> u8
 }
 
 // The first count bits of the line become the array's from place held on; no other bit of the array changes.
-pub(crate) fn put_bits(array: &mut [u8], held: usize, line: &[u8], count: usize)
-    requires { (length array.old ≡ array_bytes) × (held + count < 8 * array_bytes) × (count ≤ 8 * length line.now) }
+pub(crate) fn put_bits(array: &mut [u8; ARRAY_SIZE], held: usize, line: &[u8], count: usize)
+    requires { (held + count < 8 * array_bytes) × (count ≤ 8 * length line.now) }
     ensures { array.new ≡ bytes_of array_bytes (overwrite held (take count (bits_of line.now)) (bits_of array.old)) }
 {
     let shift = held % 8;
     let from = held / 8;
     let whole = (shift + count) / 8;
     let mut carry = first_bits(array[from], shift);
-    let mut i = 0;
-    while i < whole {
-        let x = line[i];
-        array[from + i] = join(carry, shift, x);
-        carry = x;
-        i += 1;
+    for (i, x) in line[..whole].iter().enumerate() {
+        array[from + i] = join(carry, shift, *x);
+        carry = *x;
     }
     let to = from + whole;
     let last = join(carry, shift, byte_at(line, whole));

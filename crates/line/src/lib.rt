@@ -15,19 +15,6 @@ mod rules;
 pub mod sender;
 mod window;
 
-// docs/PROTOCOL.md, "What the ends turn away"; the crate block has the numbers of what it turns away itself.
-pub const SPEED: u8 = 2;
-
-pub const LOOP_TIME: u8 = 3;
-
-pub const EMPTY: u8 = 4;
-
-pub const LONG: u8 = 5;
-
-pub const REST: u8 = 8;
-
-pub const CODE_SIZE: u8 = 9;
-
 // Why a call turns its input away, each with its number; docs/PROTOCOL.md, "What the ends turn away".
 #[derive(Clone, Copy, Debug, PartialEq, Eq)]
 pub enum Refusal {

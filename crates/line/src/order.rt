@@ -118,7 +118,7 @@ fn write_end(k: usize, bits: usize, block: &mut [u8])
     ensures { block.new ≡ overwritten (block_bytes k) (block_bits (binary 4 end_service) (end_payload k bits)) block.old }
 {
     let payload = end_data(bits);
-    packed::build(k / 8, END, &payload, block);
+    packed::build(k / 8, END, &payload, block).unwrap();
 }
 
 // Item i, whose data are all of the order, under these service bits over the first bytes of block.
@@ -128,7 +128,7 @@ fn write_whole(k: usize, i: usize, service: u8, order: &[u8], block: &mut [u8])
 {
     let start = i * (k / 8);
     let end = start + k / 8;
-    packed::build(k / 8, service, &order[start..end], block);
+    packed::build(k / 8, service, &order[start..end], block).unwrap();
 }
 
 // Item i, the order's last bits and the filling behind them, under these service bits over the first bytes of block.
@@ -137,7 +137,7 @@ fn write_last(k: usize, bits: usize, i: usize, service: u8, order: &[u8], block:
     ensures { block.new ≡ overwritten (block_bytes k) (block_bits (binary 4 service) (drop (i * k) (order_bits bits order.now) ++ zeros (i * k + k - bits))) block.old }
 {
     let payload = last_data(order, bits, i * (k / 8));
-    packed::build(k / 8, service, &payload, block);
+    packed::build(k / 8, service, &payload, block).unwrap();
 }
 
 // Item i over the first bytes of block.

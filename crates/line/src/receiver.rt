@@ -1,19 +1,20 @@
 // The receiving end.
-ghost use Rattle.std.specs.Prelude.{◌≡◌};
+ghost use Rattle.std.specs.Prelude.{◌≡◌, cond, Ok, Err};
+ghost use Rattle.block.specs.Lengths.{is_length};
+ghost use Rattle.line.specs.Marks.{marks_of, marks_in_range};
 ghost use Rattle.line.specs.Receiving.{OpenReceiver, fresh_receiver, Receive};
 ghost use Rattle.line.specs.ReceivingInPlace.{with_array};
-ghost use Rattle.line.specs.Code.ReceiveSteps.{refused_opening};
 
-use crate::CODE_SIZE;
+use crate::Refusal;
 use crate::head::Head;
-use crate::marks::{CodeSize, Marks};
-use crate::receiving::{Phase, Received, Setup};
+use crate::marks::Marks;
+use crate::receiving::{ARRAY_SIZE, Phase, Received, Setup};
 
 #[derive(Clone, Copy)]
 pub struct Receiver {
     pub setup: Setup,
     // The bits of one unfinished block.
-    pub bits: [u8; 483],
+    pub bits: [u8; ARRAY_SIZE],
     pub held: usize,
     // How many bad blocks came in a row.
     pub bad_row: usize,
@@ -29,20 +30,14 @@ pub struct Receiver {
 #[derive(Clone, Copy)]
 pub struct Step {
     pub state: Receiver,
-    pub answer: Received,
-}
-
-#[derive(Clone, Copy)]
-pub enum Opening {
-    Opened,
-    Refused(u8),
+    pub answer: Result<Received, Refusal>,
 }
 
 // A refused opening hands back a state that every step refuses: its k is 0.
 #[derive(Clone, Copy)]
 pub struct Opened {
     pub state: Receiver,
-    pub answer: Opening,
+    pub answer: Result<(), Refusal>,
 }
 
 impl Receiver {
@@ -62,30 +57,30 @@ impl Receiver {
         }
     }
 
-    fn refused(number: u8) -> Opened
-        ensures { result ≡ refused_opening number }
+    // Of blocks of k data bits.
+    fn opened(k: usize, size: Option<usize>) -> Result<Receiver, Refusal>
+        ensures { result ≡ cond (is_length k) (cond (marks_in_range (marks_of size)) (Ok (fresh_receiver k (marks_of size))) (Err Refusal.CodeSize)) (Err Refusal.Block) }
     {
-        let marks = Marks::of(CodeSize::NotGiven);
-        Opened {
-            state: Receiver::fresh(0, marks),
-            answer: Opening::Refused(number),
+        if !block::known_length(k) {
+            return Err(Refusal::Block);
         }
+        Ok(Receiver::fresh(k, Marks::of(size)?))
     }
 
     // A receiver of blocks of k data bits.
-    pub fn open(k: usize, size: CodeSize) -> Opened
+    #[tactic(auto, unfolding(crate::specs::Receiving::open_receiver))]
+    pub fn open(k: usize, size: Option<usize>) -> Opened
         ensures { OpenReceiver k size result }
     {
-        if !block::known_length(k) {
-            return Receiver::refused(block::BLOCK);
-        }
-        if !size.in_range() {
-            return Receiver::refused(CODE_SIZE);
-        }
-        let marks = Marks::of(size);
-        Opened {
-            state: Receiver::fresh(k, marks),
-            answer: Opening::Opened,
+        match Receiver::opened(k, size) {
+            Ok(state) => Opened {
+                state,
+                answer: Ok(()),
+            },
+            Err(refusal) => Opened {
+                state: Receiver::fresh(0, Marks::NONE),
+                answer: Err(refusal),
+            },
         }
     }
 

@@ -5,7 +5,7 @@ use crate::marks::Marks;
 // The bytes of the array that holds one unfinished block.
 pub const ARRAY_SIZE: usize = 483;
 
-#[derive(Clone, Copy)]
+#[derive(Clone, Copy, Debug, PartialEq, Eq)]
 pub enum Phase {
     Search,
     InStep,
@@ -20,7 +20,8 @@ pub struct Setup {
     pub marks: Marks,
 }
 
-#[derive(Clone, Copy)]
+// An event of its own where a call used all bits: order_line_receive answers it with a number, and theorems name it.
+#[derive(Clone, Copy, Debug, PartialEq, Eq)]
 pub enum Event {
     None,
     Sync,
@@ -36,8 +37,9 @@ pub enum Event {
     Wait,
 }
 
-#[derive(Clone, Copy)]
-pub enum Received {
-    Used { event: Event, bits: usize },
-    Refused(u8),
+// What a call read: the event, and the number of bits used.
+#[derive(Clone, Copy, Debug, PartialEq, Eq)]
+pub struct Received {
+    pub event: Event,
+    pub bits: usize,
 }

@@ -183,7 +183,7 @@ pub(crate) fn service_rule(
     }
     if service == END {
         let mut payload = [0u8; 5];
-        block::move_data(5, row, &mut payload);
+        block::move_data(5, row, &mut payload).unwrap();
         return end_rule(k, taken, ended, &payload);
     }
     mark_rule(in_use, taken, ended, service)

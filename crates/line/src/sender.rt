@@ -1,14 +1,13 @@
 // The sending end.
 ghost use Rattle.std.specs.Prelude.{◌≡◌, Bool, ◌||◌, List, ℕ, ◌*◌, ◌≤◌, length};
-ghost use Rattle.block.specs.Answer.{done};
 ghost use Rattle.block.specs.Lengths.{block_length};
-ghost use Rattle.line.specs.Sending.{confirmed, repeated, item_block, sender_in_range, gave_up, sent_answer, OpenSender, Send};
+ghost use Rattle.line.specs.Sending.{confirmed, repeated, item_block, sender_in_range, gave_up, sent_block, OpenSender, Send};
 ghost use Rattle.line.specs.Code.SendSteps.{GoingOn, Lent, Sends};
 
-use crate::loop_time::{LoopTime, loop_time};
-use crate::marks::{CodeSize, Marks};
+use crate::Refusal;
+use crate::loop_time::loop_time;
+use crate::marks::Marks;
 use crate::order::{LONGEST_ORDER, order_items, write_item};
-use crate::{CODE_SIZE, EMPTY, LONG, REST};
 use block::{OVERHEAD, packed, too_short};
 
 // The run of cancels at which a synchronising block comes before the repeat, and at which the sender gives up.
@@ -44,12 +43,6 @@ pub struct Sender {
     pub finished: bool,
 }
 
-#[derive(Clone, Copy)]
-pub enum Opened {
-    Opened(Sender),
-    Refused(u8),
-}
-
 // What a sending call sent.
 #[derive(Clone, Copy)]
 pub enum Sent {
@@ -62,44 +55,39 @@ pub enum Sent {
         used: bool,
         cancelled: bool,
     },
-    Refused(u8),
 }
 
 #[derive(Clone, Copy)]
 pub struct Step {
     pub state: Sender,
-    pub answer: Sent,
+    pub answer: Result<Sent, Refusal>,
 }
 
 impl Sender {
     // The pair is 0 and 1, opening lasts, and the first block is a synchronising block.
+    #[tactic(auto, unfolding(crate::specs::Sending::open_sender, crate::specs::Sending::fresh_sender))]
     pub fn open(
         k: usize,
         speed: u32,
         loop_ms: u32,
         length: usize,
-        size: CodeSize,
+        size: Option<usize>,
         order: &[u8],
-    ) -> Opened
+    ) -> Result<Sender, Refusal>
         ensures { OpenSender k speed loop_ms length size order.now result }
     {
-        if let LoopTime::Refused(number) = loop_time(k, speed, loop_ms) {
-            return Opened::Refused(number);
-        }
+        loop_time(k, speed, loop_ms)?;
         if length == 0 {
-            return Opened::Refused(EMPTY);
+            return Err(Refusal::Empty);
         }
         if LONGEST_ORDER < length {
-            return Opened::Refused(LONG);
+            return Err(Refusal::Long);
         }
-        if !size.in_range() {
-            return Opened::Refused(CODE_SIZE);
-        }
+        let marks = Marks::of(size)?;
         if too_short(order, length) {
-            return Opened::Refused(block::SHORT);
+            return Err(Refusal::Short);
         }
-        let marks = Marks::of(size);
-        Opened::Opened(Sender {
+        Ok(Sender {
             setup: Setup { k, length, marks },
             newer: 1,
             run: 0,
@@ -199,7 +187,7 @@ impl Sender {
     // What a call says of the item that it sent.
     fn item(self, number: usize, used: bool, cancelled: bool) -> Sent
         requires { GoingOn self }
-        ensures { sent_answer result ≡ done (item_block self number used cancelled) }
+        ensures { sent_block result ≡ item_block self number used cancelled }
     {
         let setup = self.setup;
         Sent::Item {
@@ -216,13 +204,13 @@ impl Sender {
         ensures { (order : List ℕ) (reading : Bool) → Sends self Next.Sync reading order block.old result block.new }
     {
         let setup = self.setup;
-        packed::synchronising(setup.k / 8, block);
+        packed::synchronising(setup.k / 8, block).unwrap();
         Step {
             state: Sender {
                 next: Next::Older,
                 ..self
             },
-            answer: Sent::Synchronising,
+            answer: Ok(Sent::Synchronising),
         }
     }
 
@@ -239,7 +227,7 @@ impl Sender {
                 next: Next::Newer,
                 ..self
             },
-            answer: self.item(older, false, false),
+            answer: Ok(self.item(older, false, false)),
         }
     }
 
@@ -252,15 +240,15 @@ impl Sender {
         let newer = self.newer;
         write_item(setup.marks, setup.k, setup.length, newer, order, block);
         if reading {
-            packed::cancel(setup.k / 8, block);
+            packed::cancel(setup.k / 8, block).unwrap();
             return Step {
                 state: self.repeated(),
-                answer: self.item(newer, true, true),
+                answer: Ok(self.item(newer, true, true)),
             };
         }
         Step {
             state: self.confirmed(),
-            answer: self.item(newer, true, false),
+            answer: Ok(self.item(newer, true, false)),
         }
     }
 
@@ -271,26 +259,26 @@ impl Sender {
         if !self.in_range() {
             return Step {
                 state: self,
-                answer: Sent::Refused(block::SPOILED),
+                answer: Err(Refusal::Spoiled),
             };
         }
         if self.at_rest() {
             return Step {
                 state: self,
-                answer: Sent::Refused(REST),
+                answer: Err(Refusal::Rest),
             };
         }
         let setup = self.setup;
         if too_short(order, setup.length) {
             return Step {
                 state: self,
-                answer: Sent::Refused(block::SHORT),
+                answer: Err(Refusal::Short),
             };
         }
         if too_short(block, setup.k + OVERHEAD) {
             return Step {
                 state: self,
-                answer: Sent::Refused(block::SHORT),
+                answer: Err(Refusal::Short),
             };
         }
         let next = self.next;

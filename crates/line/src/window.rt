@@ -2,7 +2,6 @@
 ghost use Rattle.std.specs.Prelude.{◌≡◌, false, [], ◌∷◌, ◌++◌, ◌+◌, ◌*◌, ◌^◌, ◌≤◌, ◌<◌, length, take, get_or};
 ghost use Rattle.crc.specs.Bits.{bit, binary, bits_of, bytes_of};
 ghost use Rattle.line.specs.Receiving.{latest, is_sequence};
-ghost use Rattle.line.specs.Code.ReceiveSteps.{WindowInRange, window_bits};
 
 use block::SEQUENCE;
 
@@ -11,11 +10,9 @@ pub(crate) struct Window {
     pub held: usize,
     // The bits held, as a number.
     pub number: u16,
+    ghost few: { held ≤ 15 },
+    ghost within: { number < 2 ^ held },
 }
-
-// The first two bytes of an array.
-#[derive(Clone, Copy)]
-pub(crate) struct Pair(pub u8, pub u8);
 
 pub(crate) fn bit_at(s: &[u8], i: usize) -> bool
     requires { i < 8 * length s.now }
@@ -27,11 +24,11 @@ pub(crate) fn bit_at(s: &[u8], i: usize) -> bool
 
 impl Window {
     // From the array's first two bytes.
-    pub(crate) fn load(held: usize, first: u8, second: u8) -> Window
+    pub(crate) fn load(held: usize, pair: [u8; 2]) -> Window
         requires { held ≤ 15 }
-        ensures { (result.held ≡ held) × (result.number < 2 ^ held) × (window_bits result ≡ take held (binary 8 first ++ binary 8 second)) }
+        ensures { (result.held ≡ held) × (binary result.held result.number ≡ take held (bits_of pair)) }
     {
-        let both = (first as u32) << 8 | second as u32;
+        let both = u32::from(u16::from_be_bytes(pair));
         Window {
             held,
             number: (both >> (16 - held)) as u16,
@@ -39,37 +36,30 @@ impl Window {
     }
 
     // Into two bytes, zero bits behind it.
-    pub(crate) fn store(self) -> Pair
-        requires { WindowInRange self }
-        ensures { result.0 ∷ result.1 ∷ [] ≡ bytes_of 2 (window_bits self) }
+    pub(crate) fn store(self) -> [u8; 2]
+        ensures { result ≡ bytes_of 2 (binary self.held self.number) }
     {
-        let both = (self.number as u32) << (16 - self.held);
-        Pair((both >> 8) as u8, (both & 255) as u8)
+        let both = u32::from(self.number) << (16 - self.held);
+        (both as u16).to_be_bytes()
     }
 
     // One bit more.
     fn shifted(self, next: bool) -> u16
-        requires { WindowInRange self }
         ensures { result ≡ self.number * 2 + bit next }
     {
-        self.number << 1 | next as u16
+        self.number << 1 | u16::from(next)
     }
 
     // Whether the next bit ends the sequence.
     pub(crate) fn ends_sequence(self, next: bool) -> bool
-        requires { WindowInRange self }
-        ensures { result ≡ is_sequence (window_bits self ++ (next ∷ [])) }
+        ensures { result ≡ is_sequence (binary self.held self.number ++ (next ∷ [])) }
     {
-        if self.held < 15 {
-            return false;
-        }
-        self.shifted(next) == SEQUENCE
+        self.held == 15 && self.shifted(next) == SEQUENCE
     }
 
     // The next bit in, and the earliest of sixteen out.
     pub(crate) fn slide(self, next: bool) -> Window
-        requires { WindowInRange self }
-        ensures { (WindowInRange result) × (window_bits result ≡ latest (window_bits self ++ (next ∷ []))) }
+        ensures { binary result.held result.number ≡ latest (binary self.held self.number ++ (next ∷ [])) }
     {
         let number = self.shifted(next);
         if self.held < 15 {

@@ -1,14 +1,16 @@
 -- `cancel_block` is the look_up, then `packed::cancel`. Assumes nothing.
 use mathlib.Core.Path.{sym, ap, ◌∙◌}
+use Rattle.std.proofs.lemmas.Result.{err_from_is_err_and}
 use Rattle.block.specs.Packed.{length_answer}
-use Rattle.block.proofs.LookUp.{found, not_found, cancel_known, cancel_unknown}
+use Rattle.block.proofs.LookUp.{found, cancel_known, cancel_unknown}
 use Rattle.block.proofs.cancel_block.Goals as goal
 
-pub returns-in-Bytes : goal.returns-in-Bytes
-returns-in-Bytes c = let a = c.args in
-    let f = found a.k _ (sym c.look_up.ensures.answers ∙ ap length_answer c.in-Bytes.is) in
+pub returns : goal.returns
+returns c = let a = c.args in
+    let f = found a.k _ (sym c.look_up.ensures.answers ∙ ap length_answer c.in_ok-m.was) in
     cancel_known a.k f.0 _ f.1 a.block.now _ _ c.cancel.ensures
 
-pub returns-in-Unknown : goal.returns-in-Unknown
-returns-in-Unknown c = let a = c.args in
-    cancel_unknown a.k (not_found a.k _ (sym c.look_up.ensures.answers ∙ ap length_answer c.in-Unknown.is)) a.block.now
+pub returns-in_err-m : goal.returns-in_err-m
+returns-in_err-m c = let a = c.args in
+    let p = err_from_is_err_and c.from_residual.result c.from_residual.ensures.1 in
+    rw (p.1, p.2) (cancel_unknown a.k _ (sym c.look_up.ensures.answers ∙ ap length_answer c.in_err-m.was) a.block.now)

@@ -1,14 +1,16 @@
 -- `read_block` is the look_up, then `packed::read`. Assumes nothing.
 use mathlib.Core.Path.{sym, ap, ◌∙◌}
+use Rattle.std.proofs.lemmas.Result.{err_from_is_err_and}
 use Rattle.block.specs.Packed.{length_answer}
-use Rattle.block.proofs.LookUp.{found, not_found, read_known, read_unknown}
+use Rattle.block.proofs.LookUp.{found, read_known, read_unknown}
 use Rattle.block.proofs.read_block.Goals as goal
 
-pub returns-in-Bytes : goal.returns-in-Bytes
-returns-in-Bytes c = let a = c.args in
-    let f = found a.k _ (sym c.look_up.ensures.answers ∙ ap length_answer c.in-Bytes.is) in
+pub returns : goal.returns
+returns c = let a = c.args in
+    let f = found a.k _ (sym c.look_up.ensures.answers ∙ ap length_answer c.in_ok-m.was) in
     read_known a.k f.0 _ f.1 a.block.now a.payload.now _ _ c.read.ensures
 
-pub returns-in-Unknown : goal.returns-in-Unknown
-returns-in-Unknown c = let a = c.args in
-    read_unknown a.k (not_found a.k _ (sym c.look_up.ensures.answers ∙ ap length_answer c.in-Unknown.is)) a.block.now a.payload.now
+pub returns-in_err-m : goal.returns-in_err-m
+returns-in_err-m c = let a = c.args in
+    let p = err_from_is_err_and c.from_residual.result c.from_residual.ensures.1 in
+    rw (p.1, p.2) (read_unknown a.k _ (sym c.look_up.ensures.answers ∙ ap length_answer c.in_err-m.was) a.block.now a.payload.now)

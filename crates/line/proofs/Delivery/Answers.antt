@@ -1,22 +1,32 @@
 -- Each call answers as the course says: whatever was called, what the calls answered, handed back and wrote follows from
 -- the openings and the arguments. Assumes nothing.
-use mathlib.Core.Path.{◌≡◌, refl, ap₂, ◌∙◌}
-use mathlib.Core.Bool.{Bool}
+use mathlib.Core.Path.{◌≡◌, refl, ap, ap₂, ◌∙◌}
+use mathlib.Core.Bool.{Bool, true, false, cond, not, ◌&&◌}
+use Rattle.std.specs.Prelude.{Ok, Err}
+use Rattle.std.specs.Prelude as Prelude
 use mathlib.Core.List.{List, [], ◌∷◌}
-use Prim.Native.Nat.{ℕ}
-use Rattle.crc.specs.Bits.{Bits}
-use Rattle.block.specs.Answer.{Answer, refused, done}
-use Rattle.line.specs.Sending.{Block, synchronising, item, send, send_state, send_bytes, sent_answer, Send}
-use Rattle.line.specs.Receiving.{meaning, Reception, receive, receive_state, receive_store, reported, received_answer, Receive}
+use Prim.Native.Nat.{ℕ, ◌+◌, ◌*◌}
+use lib.Dec.{eqb}
+use lib.ListN.{take}
+use Rattle.crc.specs.Bits.{Bits, bits_of}
+use Rattle.block.specs.Answer as A
+use Rattle.block.specs.Answer.{Answer, refused, done, refuse_if}
+use Rattle.block.specs.Calls.{too_short}
+use Rattle.line.specs.Refusals as Refusals
+use Rattle.line.specs.Sending.{Block, synchronising, item, send, send_state, send_bytes, sent_block, sent_answer, Send}
+use Rattle.line.specs.Receiving.{meaning, Reception, reception, receiver_in_range, receive, receive_state, receive_store, reported, received_answer, Receive}
 use Rattle.line.specs.Course.{Call, sending, receiving, World, send_after, receive_after, next, Result, result, results, Run, none, sends, receives, observed}
+use Rattle.line.specs.declared.Refusal.{Refusal}
+use Rattle.line.specs.declared.Refusal.TheVariants as N
 use Rattle.line.specs.declared.sender.Sender.{Sender}
 use Rattle.line.specs.declared.sender.Step as SenderStep
 use Rattle.line.specs.declared.sender.Sent.{Sent}
 use Rattle.line.specs.declared.sender.Sent.TheVariants as W
+use Rattle.line.specs.declared.Refusal.{Refusal}
+use Rattle.line.specs.declared.Refusal.TheVariants as N
 use Rattle.line.specs.declared.receiver.Receiver.{Receiver}
 use Rattle.line.specs.declared.receiver.Step as ReceiverStep
 use Rattle.line.specs.declared.receiving.Received.{Received}
-use Rattle.line.specs.declared.receiving.Received.TheVariants as R
 
 -- ---- the states that the course hands on are those that the calls hand back
 
@@ -73,33 +83,61 @@ answers (receives {r = r} {line = line} {count = count} {ready = ready} {store =
 
 -- ---- every list of calls has such a run: the promises can be kept
 
-sent_of : Answer Block → Sent
-sent_of (refused n) = W.Refused n
-sent_of (done synchronising) = W.Synchronising
-sent_of (done (item i end used cancel)) = W.Item i end used cancel
+block_of : Block → Sent
+block_of synchronising = W.Synchronising
+block_of (item i end used cancel) = W.Item i end used cancel
 
-sent_of_lem : (a : Answer Block) → sent_answer (sent_of a) ≡ a
+sent_of : (spoiled rest short : Bool) → Block → Prelude.Result Sent Refusal
+sent_of spoiled rest short b =
+    cond spoiled (Prelude.Err N.Spoiled) (cond rest (Prelude.Err N.Rest) (cond short (Prelude.Err N.Short) (Prelude.Ok (block_of b))))
+
+block_of_lem : (b : Block) → sent_block (block_of b) ≡ b
+unfolding block_of
+block_of_lem synchronising = refl
+block_of_lem (item i end used cancel) = refl
+
+sent_of_lem : (spoiled rest short : Bool) (b : Block) → sent_answer (sent_of spoiled rest short b)
+    ≡ refuse_if spoiled A.spoiled (refuse_if rest Refusals.rest (refuse_if short A.short (done b)))
 unfolding sent_of
-sent_of_lem (refused n) = refl
-sent_of_lem (done synchronising) = refl
-sent_of_lem (done (item i end used cancel)) = refl
+sent_of_lem true rest short b = refl
+sent_of_lem false true short b = refl
+sent_of_lem false false true b = refl
+sent_of_lem false false false b = ap done (block_of_lem b)
 
-received_of : Answer Reception → Received
-received_of (refused n) = R.Refused n
-received_of (done x) = R.Used (meaning x.rule).event x.used
+-- what a sending call answers
+can_send : (s : Sender) (order : List ℕ) (reading : Bool) (slice : List ℕ)
+    → (r : Prelude.Result Sent Refusal) × (sent_answer r ≡ send s order reading slice)
+unfolding send
+can_send s order reading slice = (_, sent_of_lem _ _ _ _)
 
-received_of_lem : (a : Answer Reception) → received_answer (received_of a) ≡ reported a
-unfolding received_of
-received_of_lem (refused n) = refl
-received_of_lem (done x) = refl
+received_of : Answer Reception → Prelude.Result Received Refusal
+received_of (refused n) = Err (cond (eqb n A.spoiled) N.Spoiled N.Short)
+received_of (done x) = Ok (record { event = (meaning x.rule).event; bits = x.used })
+
+-- what a receiving call refuses has the number of a refusal
+received_of_lem : (r : Receiver) (line : List ℕ) (count : ℕ) (ready : Bool) (store : List ℕ)
+    → received_answer (received_of (receive r line count ready store)) ≡ reported (receive r line count ready store)
+unfolding receive received_of
+received_of_lem r line count ready store =
+    let x : Reception = reception r (take count (bits_of line)) count ready in
+    by (not (receiver_in_range r)) (too_short line count) ((meaning x.rule).stores && too_short store (r.taken * r.setup.k + r.setup.k)) x
+  where
+    by : (a b c : Bool) (x : Reception)
+        → received_answer (received_of (refuse_if a A.spoiled (refuse_if b A.short (refuse_if c A.short (done x)))))
+        ≡ reported (refuse_if a A.spoiled (refuse_if b A.short (refuse_if c A.short (done x))))
+    by true b c x = refl
+    by false true c x = refl
+    by false false true x = refl
+    by false false false x = refl
 
 pub runs : (s : Sender) (r : Receiver) (calls : List Call) → Run s r calls
 runs s r [] = none
 runs s r (sending order reading slice arrives ∷ calls) =
     let a = send s order reading slice in
-    sends (record { state = send_state s reading a; answer = sent_of a }) (send_bytes s order slice a)
-    (record { answers = sent_of_lem a; state = refl; writes = refl }) (runs (send_state s reading a) r calls)
+    let x = can_send s order reading slice in
+    sends (record { state = send_state s reading a; answer = x.0 }) (send_bytes s order slice a)
+    (record { answers = x.1; state = refl; writes = refl }) (runs (send_state s reading a) r calls)
 runs s r (receiving line count ready store ∷ calls) =
     let a = receive r line count ready store in
     receives (record { state = receive_state r a; answer = received_of a }) (receive_store r store a)
-    (record { answers = received_of_lem a; state = refl; writes = refl }) (runs s (receive_state r a) calls)
+    (record { answers = received_of_lem r line count ready store; state = refl; writes = refl }) (runs s (receive_state r a) calls)

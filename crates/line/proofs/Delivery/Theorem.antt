@@ -8,6 +8,7 @@ use native.Mathlib.Omega.{arith}
 use native.Mathlib.Nat.{zero-mul}
 use Prim.Native.Nat.{ℕ, ◌*◌, ◌≤◌}
 use lib.ListN.{length, take, drop}
+use Rattle.std.specs.Prelude as Prelude
 use Rattle.crc.specs.Bits.{bit, bits_of}
 use borrow.Author.Tests.{not-false}
 use Rattle.block.specs.Answer as A
@@ -22,12 +23,10 @@ use Rattle.line.specs.Sending.{fresh_sender}
 use Rattle.line.specs.Receiving.{with_length, fresh_receiver, open_receiver, opened_receiver, opening_answer, OpenReceiver}
 use Rattle.line.specs.Course.{Call, World, opened, Entry, course, final}
 use Rattle.line.specs.Delivery.{All, some, kind_of, is_end, is_lost, reports_end, accepted, Period, group, Undisturbed, brings, Assumptions, Guarantees, Openings, Delivery}
-use Rattle.line.specs.declared.marks.CodeSize.{CodeSize}
 use Rattle.line.specs.declared.marks.Marks.{Marks}
 use Rattle.line.specs.declared.sender.Sender.{Sender}
 use Rattle.line.specs.declared.receiver.Receiver.{Receiver}
 use Rattle.line.specs.declared.receiver.Opened as ReceiverOpened
-use Rattle.line.specs.declared.receiver.Opening.TheVariants as Opening
 use Rattle.line.proofs.Items.{length-order_bits}
 use Rattle.line.proofs.SenderRange.{Openable, opened as sender-opened}
 use Rattle.line.proofs.Delivery.Ends.{Basic}
@@ -43,11 +42,11 @@ use Rattle.line.proofs.Delivery.Answers.{answers}
 -- ---- the openings
 
 -- what holds if a receiver is opened
-record ReceiverOpens (k : ℕ) (size : CodeSize) (r : Receiver) : Type 0 where
+record ReceiverOpens (k : ℕ) (size : Prelude.Option ℕ) (r : Receiver) : Type 0 where
   in_range : marks_in_range (marks_of size) ≡ true
   state : r ≡ fresh_receiver k (marks_of size)
 
-receiver_opens : (k : ℕ) (size : CodeSize) (o : ReceiverOpened.Opened) → OpenReceiver k size o → o.answer ≡ Opening.Opened
+receiver_opens : (k : ℕ) (size : Prelude.Option ℕ) (o : ReceiverOpened.Opened) → OpenReceiver k size o → o.answer ≡ Prelude.Ok tt
     → ReceiverOpens k size o.state
 unfolding open_receiver
 receiver_opens k size o h e =
@@ -173,7 +172,7 @@ module _ (o : Session) (fit : Fit o) (calls : List Call) (w : World) (base : Bas
 
 -- ---- from the openings
 
-module _ (k speed loop_ms L : ℕ) (sender_size receiver_size : CodeSize) (order : List ℕ) (s : Sender) (r : ReceiverOpened.Opened)
+module _ (k speed loop_ms L : ℕ) (sender_size receiver_size : Prelude.Option ℕ) (order : List ℕ) (s : Sender) (r : ReceiverOpened.Opened)
     (initial_store : List ℕ) (h : Openings k speed loop_ms L sender_size receiver_size order s r initial_store) where
   pub opened_well : Openable k L sender_size order s
   opened_well = sender-opened k speed loop_ms L sender_size order s (sym h.sender.answers)

@@ -1,43 +1,32 @@
 -- What the receiver's private functions ask and promise: the code's rules, and what is handed back for a reception.
 -- Assumes nothing.
-use Rattle.std.specs.Prelude.{◌≡◌, Bool, true, List, ℕ, ◌*◌, ◌^◌, ◌≤◌, ◌<◌, length}
-use Rattle.crc.specs.Bits.{Bits, binary}
+use Rattle.std.specs.Prelude.{◌≡◌, Bool, true, List, ℕ, ◌*◌, ◌≤◌, ◌<◌, length, Err, Ok}
+use Rattle.crc.specs.Bits.{Bits}
 use Rattle.block.specs.Lengths.{is_length, block_length}
+use Rattle.line.specs.declared.Refusal.{Refusal}
 use Rattle.line.specs.declared.receiver.Receiver.{Receiver}
 use Rattle.line.specs.declared.receiving.Event.{Event}
 use Rattle.line.specs.declared.receiver.Step.{Step}
-use Rattle.line.specs.declared.receiving.Received.TheVariants as R
 use Rattle.line.specs.declared.head.Head.{Head}
 use Rattle.line.specs.declared.head.HeadStep.{HeadStep}
-use Rattle.line.specs.declared.window.Window.{Window}
 use Rattle.line.specs.declared.rules.Rule as D
 use Rattle.line.specs.declared.rules.Rule.TheVariants as C
-use Rattle.line.specs.declared.marks.CodeSize.TheVariants as Size
-use Rattle.line.specs.declared.receiver.Opened.{Opened}
-use Rattle.line.specs.declared.receiver.Opening.TheVariants as O
-use Rattle.line.specs.Marks.{marks_of}
 use Rattle.line.specs.Order.{most_items}
-use Rattle.line.specs.Receiving.{array_bytes, fresh_receiver, last_bad, Rule, accepts, previous, out_of_sequence, ends, wrong_length, ends_again, anything_else, waits, meaning, block_rule, stops, Reception, judge_store, received_answer, reported, receive_state, receive_store}
+use Rattle.line.specs.Receiving.{last_bad, Rule, accepts, previous, out_of_sequence, ends, wrong_length, ends_again, anything_else, waits, meaning, block_rule, stops, Reception, judge_store, received_answer, reported, receive_state, receive_store}
 use Rattle.line.specs.ReceivingInPlace.{with_array}
 
 -- ---- what the private functions ask of their arguments
 
--- an array of a receiver's length, and a head whose fields that a block's judging uses are in range
-pub record HeadInRange (h : Head) (array : List ℕ) : Type 0 where
-  pub array_length : length array ≡ array_bytes
+-- a head whose fields that a block's judging uses are in range
+pub record HeadInRange (h : Head) : Type 0 where
   pub known : is_length h.setup.k ≡ true
   pub bad_row : h.bad_row < last_bad
   pub items : h.taken ≤ most_items
 
 -- and a slice that holds the n bits of a block
-pub record FinishedBlock (h : Head) (array slice : List ℕ) : Type 0 where
-  pub range : HeadInRange h array
+pub record FinishedBlock (h : Head) (slice : List ℕ) : Type 0 where
+  pub range : HeadInRange h
   pub held : block_length h.setup.k ≤ 8 * length slice
-
--- a window of at most 15 bits
-pub record WindowInRange (w : Window) : Type 0 where
-  pub held : w.held ≤ 15
-  pub number : w.number < 2 ^ w.held
 
 -- ---- what they promise
 
@@ -52,28 +41,20 @@ rule_of C.EndsAgain = ends_again
 rule_of C.AnythingElse = anything_else
 rule_of C.Waits = waits
 
--- the bits that a window holds
-abbrev pub window_bits : Window → Bits
-window_bits w = binary w.held w.number
-
 -- what a call hands back, its head and the array as one state
 abbrev pub step_with : HeadStep → List ℕ → Step
 step_with r array = record { state = with_array r.head array; answer = r.answer }
 
-abbrev pub turned_away : Head → ℕ → HeadStep
-turned_away h n = record { head = h; answer = R.Refused n }
+abbrev pub turned_away : Head → Refusal → HeadStep
+turned_away h r = record { head = h; answer = Err r }
 
 -- a state, an event and the bits used, as a call hands them back
 abbrev pub stepped : Receiver → Event → ℕ → Step
-stepped s event used = record { state = s; answer = R.Used event used }
+stepped s event used = record { state = s; answer = Ok (record { event = event; bits = used }) }
 
 -- what a call hands back for what it read where nothing is stored
 abbrev pub handed_back : Reception → Step
 handed_back x = stepped x.state (meaning x.rule).event x.used
-
--- what a refused opening hands back
-abbrev pub refused_opening : ℕ → Opened
-refused_opening n = record { state = fresh_receiver 0 (marks_of Size.NotGiven); answer = O.Refused n }
 
 -- what is read where these n bits complete a block
 abbrev pub judged : Receiver → Bits → Bool → ℕ → Reception

@@ -1,7 +1,7 @@
--- A table's rows and columns: the place of a number in a list. Assumes nothing.
-use Rattle.std.specs.Prelude.{cond, List, [], ◌∷◌, ℕ, suc, eqb}
+-- The table of the longest loops, as the code looks it up. Assumes nothing.
+use Rattle.std.specs.Prelude.{cond, ℕ, Option, Some, None}
+use Rattle.line.specs.LoopTime.{has_entry, longest_loop}
 
--- the first place where k stands, and the length of the list if there is none
-abbrev pub place : ℕ → List ℕ → ℕ
-place k [] = 0
-place k (l ∷ ls) = cond (eqb k l) 0 (suc (place k ls))
+-- the longest loop, where the table has an entry
+abbrev pub entry : ℕ → ℕ → Option ℕ
+entry k speed = cond (has_entry k speed) (Some (longest_loop k speed)) None

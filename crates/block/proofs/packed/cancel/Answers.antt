@@ -105,9 +105,6 @@ overflow_add-block c = let r = room (goal.at.overflow_add-block c).Else-short_of
 pub bounds-block-m : goal.bounds-block-m
 bounds-block-m c = room (goal.at.bounds-block-m c).Else-short_of_block
 
-pub overflow_add-block-2 : goal.overflow_add-block-2
-overflow_add-block-2 c = let r = room (goal.at.overflow_add-block-2 c).Else-short_of_block in search rules
-
 pub bounds-block-m-2 : goal.bounds-block-m-2
 bounds-block-m-2 c = room (goal.at.bounds-block-m-2 c).Else-short_of_block
 

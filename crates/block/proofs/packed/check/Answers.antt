@@ -17,8 +17,8 @@ pub remainder_of-requires : goal.remainder_of-requires
 remainder_of-requires c = let a = c.args in
     omega (arith, ltb-false (8 * length a.block.now) (block_length (8 * a.m)) (sym c.short_of_block.ensures ∙ c.if-short_of_block.false))
 
-pub returns : goal.returns
-returns c = let a = c.args in
+pub returns-else-short_of_block : goal.returns-else-short_of_block
+returns-else-short_of_block c = let a = c.args in
     record {
       answers = ap done c.remainder_of.ensures
           ∙ sym (check_done (8 * a.m) a.block.now (sym c.short_of_block.ensures ∙ c.if-short_of_block.false));

@@ -1,6 +1,4 @@
 -- `fill_sync`: whole bytes of 10101010, the last three behind them, and the first four bits inverted. Assumes nothing.
-use borrow.Author.Fill.{fill_none, fill_more}
-use borrow.Author.Rules.{rules}
 use mathlib.Core.Bool.{true, false}
 use mathlib.Core.List.{List, [], ◌∷◌, ◌++◌, append_assoc}
 use mathlib.Core.Path.{◌≡◌, refl, sym, ap, ap₂, ◌∙◌}
@@ -8,8 +6,8 @@ use native.Mathlib.Omega.{arith}
 use Prim.Native.Nat.{ℕ, zero, suc, ◌+◌, ◌*◌, ◌/◌, ◌≤◌}
 use native.Mathlib.Nat.{suc-add}
 use lib.Bits.{bit_xor}
-use lib.ListN.{length, get_or, drop, set, replicate, length-set, length-append, length-drop, length-replicate}
-use lib.Seq.{take_at, drop-append-add, drop-drop}
+use lib.ListN.{length, get_or, take, drop, set, replicate, length-append, length-drop, length-replicate}
+use lib.Seq.{length-take-le, take_at, drop-append-add, drop-drop}
 use Rattle.crc.specs.Bits.{number, bytes_of}
 use Rattle.block.specs.Block.{tens, service_sync, sync_sequence, sync_block}
 use Rattle.block.specs.Calls.{overwritten}
@@ -41,7 +39,7 @@ inverted (suc j) rest =
     (ap₂ (λ (n i : ℕ). bytes_of n ((service_sync ++ tens i) ++ sync_sequence)) (suc-add j 3) e
     ∙ ap (λ (l : List ℕ). 0x5a ∷ l) (to_come_lem j)))
 
-module _ (m i : ℕ) (filled block : List ℕ) (held : m + 3 ≤ length block) (all : i ≡ m) (fill : filled ≡ replicate i 0xaa ++ drop i block) where
+module _ (m : ℕ) (filled block : List ℕ) (held : m + 3 ≤ length block) (fill : filled ≡ replicate m 0xaa ++ drop m block) where
   abbrev stored : List ℕ
   stored = set (set (set filled m 0xa5) (m + 1) 0x0a) (m + 2) 0x50
 
@@ -50,12 +48,11 @@ module _ (m i : ℕ) (filled block : List ℕ) (held : m + 3 ≤ length block) (
       let p : List ℕ = replicate m 0xaa in
       let n : length p ≡ m = length-replicate m 0xaa in
       let l : List ℕ = p ++ drop m block in
-      let f : filled ≡ l = fill ∙ ap (λ (x : ℕ). replicate x 0xaa ++ drop x block) all in
       let d : drop (m + 3) l ≡ drop (m + 3) block =
       ap (λ (x : ℕ). drop (x + 3) l) (sym n) ∙ drop-append-add p (drop m block) 3 ∙ drop-drop 3 m block in
       let hn : length l ≡ length block =
       length-append p (drop m block) ∙ ap₂ (λ (x y : ℕ). x + y) n (length-drop m block) ∙ omega arith in
-      ap (λ (x : List ℕ). set (set (set x m 0xa5) (m + 1) 0x0a) (m + 2) 0x50) f
+      ap (λ (x : List ℕ). set (set (set x m 0xa5) (m + 1) 0x0a) (m + 2) 0x50) fill
       ∙ three_stores l m 0xa5 0x0a 0x50 (omega arith)
       ∙ ap₂ (λ (x y : List ℕ). x ++ ((0xa5 ∷ 0x0a ∷ 0x50 ∷ []) ++ y)) (take_at p (drop m block) m n) d
       ∙ sym (append_assoc p (0xa5 ∷ 0x0a ∷ 0x50 ∷ []) (drop (m + 3) block))
@@ -63,33 +60,8 @@ module _ (m i : ℕ) (filled block : List ℕ) (held : m + 3 ≤ length block) (
   written : set stored 0 (bit_xor (get_or stored 0 0) 0xf0) ≡ overwritten (m + 3) (sync_block (8 * m)) block
   written = ap (λ (x : List ℕ). set x 0 (bit_xor (get_or x 0 0) 0xf0)) bytes_stored ∙ inverted m (drop (m + 3) block)
 
-pub loop-at-init : goal.loop-at-init
-loop-at-init c = (search rules, fill_none c.args.block.now 0xaa, refl)
-
-pub loop-at-preserved : goal.loop-at-preserved
-loop-at-preserved c = let l = c.loop-at in
-    let a = c.args in (
-      omega arith,
-      ap (λ (o : List ℕ). set o l.at 0xaa) l.invariant.1 ∙ fill_more l.at 0xaa a.block.now (omega arith),
-      length-set l.block l.at 0xaa ∙ l.invariant.2,
-    )
-
-pub bounds-block-m-2 : goal.bounds-block-m-2
-bounds-block-m-2 c = simp length-set (omega arith)
-
-pub bounds-block-m-3 : goal.bounds-block-m-3
-bounds-block-m-3 c = simp length-set (omega arith)
-
-pub bounds-block-0 : goal.bounds-block-0
-bounds-block-0 c = simp length-set (omega arith)
-
-pub bounds-block-0-2 : goal.bounds-block-0-2
-bounds-block-0-2 c = simp length-set (omega arith)
-
-pub shape_of-block : goal.shape_of-block
-shape_of-block c = simp length-set c.loop-at.invariant.2
-
 pub returns : goal.returns
-returns c = let l = c.loop-at in
-    let a = c.args in
-    written a.m l.at l.block a.block.now (omega arith) (omega arith) l.invariant.1
+returns c = let a = c.args in
+    let n : length (take a.m a.block.now) ≡ a.m = length-take-le a.m a.block.now (omega arith) in
+    written a.m _ a.block.now (omega arith)
+    (ap (λ (l : List ℕ). l ++ drop a.m a.block.now) (c.fill.ensures.after (λ y e. e) ∙ ap (λ (x : ℕ). replicate x 0xaa) n))

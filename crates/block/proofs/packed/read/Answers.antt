@@ -5,13 +5,11 @@ use Prim.Native.Nat.{ℕ, ◌*◌, ◌/◌}
 use native.Mathlib.Omega.{arith}
 use lib.ListN.{take, drop}
 use Rattle.crc.specs.Bits.{bits_of}
-use Rattle.block.specs.Answer.{done}
 use Rattle.block.specs.Lengths.{block_length}
 use Rattle.block.specs.Block.{payload_of, verdict}
-use Rattle.block.specs.Calls.{read_answer, overwritten}
+use Rattle.block.specs.Calls.{verdict_of, overwritten}
 use Rattle.block.proofs.Packing.{row_judged}
 use Rattle.block.proofs.Refusals.{data_bytes, read_slice, read_payload, read_kept, read-moved}
-use borrow.Enum.Refused.{opened}
 use Rattle.block.proofs.packed.read.Goals as goal
 use Rattle.block.proofs.packed.read.Goals.{After-judged-answer}
 
@@ -24,12 +22,11 @@ returns-then-block-m c = let a = c.args in
     read_slice (8 * a.m) a.block.now a.payload.now (omega arith)
 
 answered : (c : After-judged-answer)
-    → read_answer c.judged-answer.result ≡ done (verdict (take (block_length (8 * c.args.m)) (bits_of c.args.block.now)))
+    → verdict_of c.judged-answer.result ≡ verdict (take (block_length (8 * c.args.m)) (bits_of c.args.block.now))
 answered c =
     let a = c.args in
     c.judged-answer.ensures
-    ∙ ap done
-    (row_judged (block_length (8 * a.m)) a.block.now _ (omega arith) (omega arith) (c.shared_slice_known-2-1.given 0).fits c.remainder_of.ensures)
+    ∙ row_judged (block_length (8 * a.m)) a.block.now _ (omega arith) (omega arith) (c.shared_slice_known-2-1.given 0).fits c.remainder_of.ensures
 
 pub returns-in-Passed : goal.returns-in-Passed
 returns-in-Passed c = let a = c.args in
@@ -41,4 +38,4 @@ returns-in-Passed c = let a = c.args in
 
 pub returns-in_default : goal.returns-in_default
 returns-in_default c = let a = c.args in
-    read_kept (8 * a.m) a.block.now a.payload.now (omega arith) (omega arith) _ (answered (goal.at.returns-in_default c).After-judged-answer) (opened c.in_default.in_default-own.keys2)
+    read_kept (8 * a.m) a.block.now a.payload.now (omega arith) (omega arith) _ (answered (goal.at.returns-in_default c).After-judged-answer) c.in_default.in_default-own.keys2

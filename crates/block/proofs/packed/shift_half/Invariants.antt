@@ -14,6 +14,3 @@ to_come from i = binary 4 (get_or from i 0) ++ bits_of (drop (i + 1) from)
 abbrev pub invariant-loop-i : goal.invariant-loop-i
 invariant-loop-i l = (l.i ≤ l.m) × (length l.to ≡ length l.initial.to) × (drop l.i l.to ≡ drop l.i l.initial.to)
     × (take l.i l.to ++ bytes_of (l.m - l.i) (to_come l.from l.i) ≡ bytes_of l.m (drop 4 (bits_of l.from)))
-
-abbrev pub decreases-loop-i : goal.decreases-loop-i
-decreases-loop-i l = l.m - l.i

@@ -1,101 +1,113 @@
 -- `loop_time` answers as the definition: what is in the table stands at its place. Assumes nothing.
 use borrow.Author.Tests.{lt-ltb, le-ltb}
-use mathlib.Core.Path.{◌≡◌, ap, sym, ◌∙◌}
-use mathlib.Core.Bool.{true, false}
-use Prim.Native.Nat.{ℕ, ◌<◌, ◌≤◌}
-use lib.Dec.{ltb}
+use borrow.Author.Rules.{rules}
+use mathlib.Core.Path.{◌≡◌, refl, ap, sym, ◌∙◌}
+use mathlib.Core.Bool.{Bool, true, false, cond, not, ◌||◌}
+use Prim.Native.Nat.{ℕ}
+use lib.Dec.{eqb, ltb}
 use lib.ListN.{get_or}
+use Rattle.std.specs.Prelude.{Option, Some, None, Err, ok_or}
+use Rattle.std.specs.List.{position}
+use Rattle.std.proofs.Common.{tests}
+use Rattle.std.proofs.lemmas.Iterator.{YieldsList-from_slice}
+use Rattle.std.proofs.lemmas.Iterator.Search.{position_from_yields_List}
+use Rattle.std.proofs.lemmas.Result.{err_from_is_err_and}
 use Rattle.line.specs.Refusals as Refusals
-use Rattle.block.specs.Answer.{refused, done, refuse_if}
+use Rattle.block.specs.Answer as A
+use Rattle.block.specs.Answer.{Answer, refused, done, refuse_if}
 use Rattle.block.specs.Lengths.{lengths, is_length}
-use Rattle.line.specs.Code.Table.{place}
+use Rattle.line.specs.Code.Table.{entry}
 use Rattle.line.specs.LoopTime.{speeds, is_speed, has_entry, longest_loop, loop_time}
-use Rattle.line.proofs.Table.{among-place, get_d_place}
+use Rattle.line.specs.declared.Refusal.{Refusal}
+use Rattle.line.specs.declared.Refusal.TheVariants as R
+use Rattle.line.proofs.Table.{Place, no_place, a_place}
 use Rattle.line.proofs.loop_time.loop_time.Goals as goal
-use Rattle.line.proofs.loop_time.loop_time.Goals.{After-longest_loop}
+use Rattle.line.proofs.loop_time.loop_time.Goals.{In_ok-row, In_ok-column, After-longest_loop}
 
--- what the place of k or of a speed tells
-module _ (k row : ℕ) (e : row ≡ place k lengths) where
-  no_length : 4 ≤ row → is_length k ≡ false
-  unfolding is_length
-  no_length h = among-place k lengths ∙ le-ltb (place k lengths) 4 (rw (← e) h)
+-- a refusal by `ok_or`
+refused_by : (o : Option ℕ) (r s t : Refusal) → o ≡ None → Err s ≡ ok_or o r → t ≡ s → t ≡ r
+refused_by None r s t n e h = cc
+refused_by (Some i) r s t n e h = cc
 
-  a_length : row < 4 → is_length k ≡ true
-  unfolding is_length
-  a_length h = among-place k lengths ∙ lt-ltb (place k lengths) 4 (rw (← e) h)
+-- what is answered where the table has this
+judged : ℕ → Option ℕ → Answer (Unit {0})
+judged loop_ms None = refused Refusals.loop_time
+judged loop_ms (Some limit) = refuse_if (ltb limit loop_ms) Refusals.loop_time (done tt)
 
-  at_length : row < 4 → get_or lengths row 0 ≡ k
-  at_length h = ap (λ (i : ℕ). get_or lengths i 0) e ∙ get_d_place k lengths (rw (← e) h)
+judged_entry : (loop_ms limit : ℕ) (has : Bool)
+    → judged loop_ms (cond has (Some limit) None) ≡ refuse_if (not has || ltb limit loop_ms) Refusals.loop_time (done tt)
+unfolding judged
+judged_entry loop_ms limit true = refl
+judged_entry loop_ms limit false = refl
 
-module _ (speed column : ℕ) (e : column ≡ place speed speeds) where
-  no_speed : 6 ≤ column → is_speed speed ≡ false
-  unfolding is_speed
-  no_speed h = among-place speed speeds ∙ le-ltb (place speed speeds) 6 (rw (← e) h)
+-- what the places of k and of a speed tell
+module _ (k speed loop_ms : ℕ) where
+  no_length : position (λ l. eqb l k) lengths ≡ None → refused A.block ≡ loop_time k speed loop_ms
+  unfolding loop_time is_length
+  no_length e = simp (no_place k lengths e)
 
-  a_speed : column < 6 → is_speed speed ≡ true
-  unfolding is_speed
-  a_speed h = among-place speed speeds ∙ lt-ltb (place speed speeds) 6 (rw (← e) h)
+  module _ (row : ℕ) (p : Place k lengths row) where
+    no_speed : position (λ l. eqb l speed) speeds ≡ None → refused Refusals.speed ≡ loop_time k speed loop_ms
+    unfolding loop_time is_length is_speed
+    no_speed e = simp (p.among, no_place speed speeds e)
 
-  at_speed : column < 6 → get_or speeds column 0 ≡ speed
-  at_speed h = ap (λ (i : ℕ). get_or speeds i 0) e ∙ get_d_place speed speeds (rw (← e) h)
+    tested : (column : ℕ) (q : Place speed speeds column) (o : Option ℕ)
+        → o ≡ entry (get_or lengths row 0) (get_or speeds column 0) → judged loop_ms o ≡ loop_time k speed loop_ms
+    unfolding loop_time is_length is_speed
+    tested column q o e =
+        let f : o ≡ entry k speed = rw (p.here, q.here) at e in
+        ap (judged loop_ms) f ∙ judged_entry loop_ms (longest_loop k speed) (has_entry k speed)
+        ∙ sym (simp (p.among, q.among))
 
-module _ (k row speed column loop_ms : ℕ) (e : row ≡ place k lengths) (f : column ≡ place speed speeds) (h : row < 4)
-    (g : column < 6) where
-  no_entry : false ≡ has_entry (get_or lengths row 0) (get_or speeds column 0)
-      → refused Refusals.loop_time ≡ loop_time k speed loop_ms
-  unfolding loop_time
-  no_entry n =
-      let m : has_entry k speed ≡ false = sym (rw (at_length k row e h, at_speed speed column f g) at n) in
-      simp (a_length k row e h, a_speed speed column f g, m)
+pub returns-in_err-row : goal.returns-in_err-row
+returns-in_err-row c =
+    let a = c.args in
+    let p = err_from_is_err_and c.from_residual.result c.from_residual.ensures.1 in
+    let e = position_from_yields_List (λ l. eqb l a.k) _ _ c.position.result c.position.ensures.ran (YieldsList-from_slice lengths c.iter.ensures.rest) (λ x b q k. search (rules, tests)) in
+    let f = c.in_err-row.ensures in
+    let r : p.0 ≡ R.Block = refused_by c.position.result R.Block _ _ f.ok_part f.value p.2 in
+    record { answers = rw (p.1, r) (no_length a.k a.speed a.loop_ms (sym e ∙ f.ok_part)) }
 
-  judged : true ≡ has_entry (get_or lengths row 0) (get_or speeds column 0) → (limit : ℕ)
-      → limit ≡ longest_loop (get_or lengths row 0) (get_or speeds column 0)
-      → refuse_if (ltb limit loop_ms) Refusals.loop_time (done tt) ≡ loop_time k speed loop_ms
-  unfolding loop_time
-  judged n limit l =
-      let m : has_entry k speed ≡ true = sym (rw (at_length k row e h, at_speed speed column f g) at n) in
-      let o : limit ≡ longest_loop k speed = rw (at_length k row e h, at_speed speed column f g) at l in
-      simp (a_length k row e h, a_speed speed column f g, m, o)
+row_position : (c : In_ok-row) → Place c.args.k lengths c.in_ok-row.row
+row_position c =
+    let e = position_from_yields_List (λ l. eqb l c.args.k) _ _ c.position.result c.position.ensures.ran (YieldsList-from_slice lengths c.iter.ensures.rest) (λ x b q k. search (rules, tests)) in
+    a_place c.args.k lengths c.in_ok-row.row (sym e ∙ c.in_ok-row.ensures.ok_part)
 
-pub returns-then-row-ge4 : goal.returns-then-row-ge4
-unfolding loop_time
-returns-then-row-ge4 c = let r = c.length_row-row in
-    record { answers = simp (no_length c.args.k r.result r.ensures c.if-row-ge4.true) }
-
-pub returns-then-column-ge6 : goal.returns-then-column-ge6
-unfolding loop_time
-returns-then-column-ge6 c = let a = c.args in
-    let r = c.length_row-row in
-    let s = c.speed_column-column in
+pub returns-in_err-column : goal.returns-in_err-column
+returns-in_err-column c =
+    let a = c.args in
+    let p = err_from_is_err_and c.from_residual-in_err-column.result c.from_residual-in_err-column.ensures.1 in
+    let e = position_from_yields_List (λ l. eqb l a.speed) _ _ c.position-2.result c.position-2.ensures.ran (YieldsList-from_slice speeds c.iter-2.ensures.rest) (λ x b q k. search (rules, tests)) in
+    let f = c.in_err-column.ensures in
+    let r : p.0 ≡ R.Speed = refused_by c.position-2.result R.Speed _ _ f.ok_part f.value p.2 in
     record {
       answers =
-          simp (
-            a_length a.k r.result r.ensures c.if-row-ge4.false,
-            no_speed a.speed s.result s.ensures c.if-column-ge6.true,
-          );
+          rw (p.1, r)
+          (no_speed a.k a.speed a.loop_ms c.in_ok-row.row (row_position (goal.at.returns-in_err-column c).In_ok-row) (sym e ∙ f.ok_part));
     }
 
-pub returns-then-not-has_entry : goal.returns-then-not-has_entry
-returns-then-not-has_entry c = record {
-  answers =
-      no_entry _ _ _ _ _ c.length_row-row.ensures
-      c.speed_column-column.ensures c.if-row-ge4.false
-      c.if-column-ge6.false (sym (c.if-not-has_entry.true) ∙ c.has_entry.ensures);
-}
+column_position : (c : In_ok-column) → Place c.args.speed speeds c.in_ok-column.column
+column_position c =
+    let e = position_from_yields_List (λ l. eqb l c.args.speed) _ _ c.position-2.result c.position-2.ensures.ran (YieldsList-from_slice speeds c.iter-2.ensures.rest) (λ x b q k. search (rules, tests)) in
+    a_place c.args.speed speeds c.in_ok-column.column (sym e ∙ c.in_ok-column.ensures.ok_part)
 
--- the answer where there is an entry
-after : (c : After-longest_loop)
-    → refuse_if (ltb c.longest_loop.result c.args.loop_ms) Refusals.loop_time (done tt)
-    ≡ loop_time c.args.k c.args.speed
-    c.args.loop_ms
-after c =
-    judged _ _ _ _ _ c.length_row-row.ensures
-    c.speed_column-column.ensures c.if-row-ge4.false
-    c.if-column-ge6.false (sym (c.if-not-has_entry.false) ∙ c.has_entry.ensures) _
-    c.longest_loop.ensures
+pub longest_loop-requires : goal.longest_loop-requires
+longest_loop-requires c =
+    ((row_position (goal.at.longest_loop-requires c).In_ok-row).within, (column_position c).within)
 
-pub returns-then-longest_loop-loop_ms : goal.returns-then-longest_loop-loop_ms
-returns-then-longest_loop-loop_ms c = record { answers = rw (lt-ltb _ _ c.if-longest_loop-loop_ms.true) at (after (goal.at.returns-then-longest_loop-loop_ms c).After-longest_loop) }
+-- the answer where the table has an entry, and where it has none
+found : (c : After-longest_loop) → judged c.args.loop_ms c.longest_loop.result ≡ loop_time c.args.k c.args.speed c.args.loop_ms
+found c =
+    tested _ _ _ _ (row_position (goal.at-After-longest_loop c).In_ok-row) _ (column_position (goal.at-After-longest_loop c).In_ok-column) _ c.longest_loop.ensures
 
-pub returns : goal.returns
-returns c = record { answers = rw (le-ltb _ _ c.if-longest_loop-loop_ms.false) at (after (goal.at.returns c).After-longest_loop) }
+pub returns-in-Some : goal.returns-in-Some
+unfolding judged
+returns-in-Some c = record { answers = rw (c.in-Some.is, le-ltb _ _ c.if-loop_ms-limit.true) at (found (goal.at.returns-in-Some c).After-longest_loop) }
+
+pub returns-in_default : goal.returns-in_default
+unfolding judged
+returns-in_default c = record { answers = rw (c.in-Some.is, lt-ltb _ _ c.if-loop_ms-limit.false) at (found (goal.at.returns-in_default c).After-longest_loop) }
+
+pub returns-in_default-2 : goal.returns-in_default-2
+unfolding judged
+returns-in_default-2 c = record { answers = rw c.in_default.is at (found (goal.at.returns-in_default-2 c).After-longest_loop) }

@@ -9,8 +9,14 @@ use Rattle.block.specs.Block.{block_bits}
 use Rattle.block.specs.Calls.{overwritten}
 use Rattle.block.proofs.Lengths.{length_facts}
 use Rattle.line.specs.Order.{end_service}
-use Rattle.line.proofs.ItemBlocks.{built, end_data}
+use Rattle.line.proofs.ItemBlocks.{built, built_ok, end_data}
 use Rattle.line.proofs.order.write_end.Goals as goal
+
+pub unwrap-requires : goal.unwrap-requires
+unwrap-requires c = let a = c.args in
+    let f = length_facts a.k c.requires.0 in
+    let n : length c.end_data-payload.result ≡ 480 = search rules in
+    built_ok a.k a.block.now _ _ f.0 c.requires.2 end_service c.end_data-payload.result (omega arith) (omega arith) c.build.ensures
 
 pub returns : goal.returns
 returns c = let a = c.args in

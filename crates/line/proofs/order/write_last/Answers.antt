@@ -8,7 +8,7 @@ use Rattle.block.specs.Lengths.{block_bytes}
 use Rattle.block.specs.Block.{block_bits}
 use Rattle.block.specs.Calls.{overwritten}
 use Rattle.block.proofs.Lengths.{length_facts}
-use Rattle.line.proofs.ItemBlocks.{built, item_byte, last_data}
+use Rattle.line.proofs.ItemBlocks.{built, built_ok, item_byte, last_data}
 use Rattle.line.proofs.order.write_last.Goals as goal
 
 pub overflow_mul-i : goal.overflow_mul-i
@@ -18,6 +18,12 @@ pub last_data-payload-requires : goal.last_data-payload-requires
 last_data-payload-requires c = let e = item_byte c.args.i c.args.k (length_facts c.args.k c.requires.0).0 in
     let f = length_facts c.args.k c.requires.0 in
     search rules
+
+pub unwrap-requires : goal.unwrap-requires
+unwrap-requires c = let a = c.args in
+    let f = length_facts a.k c.requires.0 in
+    let n : length c.last_data-payload.result ≡ 480 = search rules in
+    built_ok a.k a.block.now _ _ f.0 c.requires.4 a.service c.last_data-payload.result c.requires.5 (omega arith) c.build.ensures
 
 pub returns : goal.returns
 returns c = let a = c.args in

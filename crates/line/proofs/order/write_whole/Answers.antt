@@ -11,7 +11,7 @@ use Rattle.block.specs.Lengths.{block_bytes}
 use Rattle.block.specs.Block.{block_bits}
 use Rattle.block.specs.Calls.{overwritten}
 use Rattle.block.proofs.Lengths.{length_facts}
-use Rattle.line.proofs.ItemBlocks.{built, item_byte, whole_data}
+use Rattle.line.proofs.ItemBlocks.{built, built_ok, item_byte, whole_data}
 use Rattle.line.proofs.order.write_whole.Goals as goal
 
 pub overflow_mul-start : goal.overflow_mul-start
@@ -26,6 +26,19 @@ pub slice_bounds-build-end : goal.slice_bounds-build-end
 slice_bounds-build-end c = let e = item_byte c.args.i c.args.k (length_facts c.args.k c.requires.0).0 in
     let f = length_facts c.args.k c.requires.0 in
     search rules
+
+pub unwrap-requires : goal.unwrap-requires
+unwrap-requires c = let a = c.args in
+    let f = length_facts a.k c.requires.0 in
+    let g = item_byte a.i a.k f.0 in
+    let m = a.k / 8 in
+    let from = a.i * (a.k / 8) in
+    let part : List ℕ = take (from + m - from) (drop from a.order.now) in
+    let e : from + m - from ≡ m = omega arith in
+    let n : length part ≡ m =
+    length-take-le (from + m - from) (drop from a.order.now) (omega (arith, length-drop from a.order.now)) ∙ e
+    in
+    built_ok a.k a.block.now _ _ f.0 c.requires.2 a.service part c.requires.3 (omega arith) c.build.ensures
 
 pub returns : goal.returns
 returns c = let a = c.args in

@@ -11,9 +11,13 @@ use Rattle.block.specs.Lengths.{block_length}
 use Rattle.block.specs.Block.{payload_of}
 use Rattle.block.proofs.Lengths.{length_facts}
 use Rattle.line.specs.Receiving.{end_rule, service_rule}
-use Rattle.line.proofs.BlockFinished.{length_data, bits_moved, end_first_bits}
+use Rattle.line.proofs.BlockFinished.{length_data, moved_ok, bits_moved, end_first_bits}
 use borrow.Author.Rules.{rules}
 use Rattle.line.proofs.rules.service_rule.Goals as goal
+
+pub unwrap-requires : goal.unwrap-requires
+unwrap-requires c = let f = length_facts c.args.k c.requires.0 in
+    moved_ok c.args.k c.args.row.now c.requires.2 5 (omega arith) _ (omega arith) _ _ c.move_data.ensures
 
 pub returns-then-ended : goal.returns-then-ended
 unfolding service_rule

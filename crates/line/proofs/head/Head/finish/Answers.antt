@@ -5,10 +5,9 @@ use mathlib.Core.List.{List}
 use Prim.Native.Nat.{ℕ}
 use native.Mathlib.Omega.{arith}
 use lib.ListN.{length, take}
-use Rattle.crc.specs.Bits.{Bits, bits_of, bytes_of}
+use Rattle.crc.specs.Bits.{Bits, bits_of}
 use Rattle.block.specs.Lengths.{block_length}
 use Rattle.block.proofs.Lengths.{length_facts}
-use Rattle.line.specs.Receiving.{array_bytes, overwrite}
 use Rattle.line.specs.ReceivingInPlace.{with_array}
 use Rattle.line.specs.Code.ReceiveSteps.{step_with, judged, Handed}
 use Rattle.line.specs.declared.head.Head.{Head}
@@ -33,8 +32,7 @@ returns-then-self-eq0 c = by_row _ _ _ _ _ _ _ _ _ _ (finished_in_line (with_arr
 
 pub put_bits-requires : goal.put_bits-requires
 put_bits-requires c = let f = length_facts c.args.self.setup.k c.requires.0.known in
-    let n : length c.copied-row.result ≡ 483 = search rules in
-    (n, omega arith, omega arith)
+    (omega arith, omega arith)
 
 pub judge-requires-2 : goal.judge-requires-2
 judge-requires-2 c = let f = length_facts c.args.self.setup.k c.requires.0.known in
@@ -44,11 +42,8 @@ judge-requires-2 c = let f = length_facts c.args.self.setup.k c.requires.0.known
 pub returns : goal.returns
 returns c = let f = length_facts c.args.self.setup.k c.requires.0.known in
     let n : ℕ = block_length c.args.self.setup.k in
-    let new : Bits = take c.args.missing (bits_of c.args.line.now) in
-    let put : c.put_bits.new.array ≡ bytes_of array_bytes (overwrite c.args.self.held new (bits_of c.args.array.now)) =
-    c.put_bits.ensures
-    ∙ ap (λ (x : List ℕ). bytes_of array_bytes (overwrite c.args.self.held new (bits_of x))) c.copied-row.ensures in
+    let full : length c.args.array.now ≡ 483 = search rules in
     by_row _ _ _ _ _ _ _ _ _ _
-    (ap (λ (x : List ℕ). take n (bits_of x)) put
-    ∙ finished_in_array (with_array c.args.self c.args.array.now) c.args.line.now c.args.missing c.requires.1 c.requires.2 c.requires.0.array_length (omega arith))
+    (ap (λ (x : List ℕ). take n (bits_of x)) c.put_bits.ensures
+    ∙ finished_in_array (with_array c.args.self c.args.array.now) c.args.line.now c.args.missing c.requires.1 c.requires.2 full (omega arith))
     c.judge-2.ensures

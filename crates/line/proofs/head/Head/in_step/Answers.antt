@@ -27,7 +27,7 @@ returns-then-missing-bits c = let call = c.finish in
 
 pub put_bits-requires : goal.put_bits-requires
 put_bits-requires c = let f = length_facts c.args.self.setup.k c.requires.0.known in
-    (c.requires.0.array_length, omega arith, omega arith)
+    (omega arith, omega arith)
 
 pub overflow_add-result : goal.overflow_add-result
 overflow_add-result c = let f = length_facts c.args.self.setup.k c.requires.0.known in

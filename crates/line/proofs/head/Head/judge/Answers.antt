@@ -7,14 +7,14 @@ use borrow.Author.Tests.{not-true, not-false}
 use lib.ListN.{take}
 use Rattle.crc.specs.Bits.{Bits, bits_of}
 use Rattle.block.specs.Lengths.{block_length}
-use Rattle.block.specs.Block.{failed}
 use Rattle.block.specs.Calls.{too_short}
+use Rattle.std.specs.Prelude.{Ok}
 use Rattle.block.proofs.Lengths.{length_facts}
 use Rattle.line.specs.Receiving.{reads_sync, check_fails, or_wait, block_rule}
 use Rattle.line.specs.ReceivingInPlace.{with_array}
 use Rattle.line.specs.Code.ReceiveSteps.{rule_of, step_with}
 use Rattle.line.specs.declared.head.HeadStep.{HeadStep}
-use Rattle.line.proofs.BlockFinished.{handed_bad, stores_nothing, handed_rule, handed_short, handed_accepts, rule_sync, rule_failed, rule_passed, check-passes, check-not_passed}
+use Rattle.line.proofs.BlockFinished.{handed_bad, stores_nothing, handed_rule, handed_short, handed_accepts, rule_sync, rule_failed, rule_passed, read_ok, read_verdict}
 use Rattle.line.proofs.head.Head.judge.Goals as goal
 use borrow.Enum.Refused.{opened}
 use Rattle.line.proofs.head.Head.judge.Goals.{After-or_wait-rule}
@@ -28,7 +28,7 @@ passed-rule : (c : After-or_wait-rule)
 passed-rule c =
     let a = c in
     let e = sym c.looks_sync.ensures ∙ c.if-looks_sync.false in
-    let v = check-passes a.args.self.setup.k a.args.row.now a.requires.held (length_facts a.args.self.setup.k a.requires.range.known).0 _ c.read_service-answer.ensures _ c.in-Passed.is in
+    let v = sym (read_verdict a.args.self.setup.k a.args.row.now a.requires.held (length_facts a.args.self.setup.k a.requires.range.known).0 _ c.read_service.ensures _ (c.unwrap.ensures ∙ ap Ok c.in-Passed.is)) in
     c.or_wait-rule.ensures ∙ ap (or_wait a.args.ready) c.service_rule-judged.ensures
     ∙ rule_passed (with_array a.args.self a.args.array.now) _ a.args.ready _ e v
 
@@ -37,11 +37,15 @@ returns-then-looks_sync c = let a = c.args in
     let e = sym c.looks_sync.ensures ∙ c.if-looks_sync.true in
     handed_rule _ _ _ _ _ a.ready reads_sync (rule_sync (with_array a.self a.array.now) _ a.ready e) refl c.after_good.ensures
 
-pub returns-in_default : goal.returns-in_default
-returns-in_default c = let e = sym c.looks_sync.ensures ∙ c.if-looks_sync.false in
-    let v = check-not_passed c.args.self.setup.k c.args.row.now c.requires.held (length_facts c.args.self.setup.k c.requires.range.known).0 _ c.read_service-answer.ensures (opened c.in_default.in_default-own.keys2) ∙ ap failed (sym c.remainder.ensures) in
-    handed_rule _ _ _ _ _ c.args.ready (check_fails c.remainder.result) (rule_failed (with_array c.args.self c.args.array.now) _ c.args.ready c.remainder.result e v) refl
-    (c.after_bad.ensures ∙ handed_bad (with_array c.args.self c.args.array.now) c.remainder.result c.args.used)
+pub unwrap-requires : goal.unwrap-requires
+unwrap-requires c =
+    read_ok c.args.self.setup.k c.args.row.now c.requires.held (length_facts c.args.self.setup.k c.requires.range.known).0 _ c.read_service.ensures
+
+pub returns-in-Failed : goal.returns-in-Failed
+returns-in-Failed c = let e = sym c.looks_sync.ensures ∙ c.if-looks_sync.false in
+    let v = sym (read_verdict c.args.self.setup.k c.args.row.now c.requires.held (length_facts c.args.self.setup.k c.requires.range.known).0 _ c.read_service.ensures _ (c.unwrap.ensures ∙ ap Ok c.in-Failed.is)) in
+    handed_rule _ _ _ _ _ c.args.ready (check_fails c.in-Failed.remainder) (rule_failed (with_array c.args.self c.args.array.now) _ c.args.ready _ e v) refl
+    (c.after_bad.ensures ∙ handed_bad (with_array c.args.self c.args.array.now) c.in-Failed.remainder c.args.used)
 
 pub returns-then-not-has_room : goal.returns-then-not-has_room
 returns-then-not-has_room c = let a = c.args in
@@ -56,5 +60,5 @@ store_item-requires c = (c.requires, not-true _ (sym c.has_room.ensures ∙ c.if
 pub returns-else-not-has_room : goal.returns-else-not-has_room
 returns-else-not-has_room c = handed_accepts _ _ _ _ _ _ _ (ap rule_of (sym c.in-Accepts.is) ∙ passed-rule (goal.at.returns-else-not-has_room c).After-or_wait-rule) c.store_item.ensures
 
-pub returns-in_default-rule : goal.returns-in_default-rule
-returns-in_default-rule c = handed_rule _ _ _ _ _ _ _ (passed-rule (goal.at.returns-in_default-rule c).After-or_wait-rule) (stores_nothing c.or_wait-rule.result (opened c.in_default-rule.in_default-rule-own.keys2)) c.stop.ensures
+pub returns-in_default : goal.returns-in_default
+returns-in_default c = handed_rule _ _ _ _ _ _ _ (passed-rule (goal.at.returns-in_default c).After-or_wait-rule) (stores_nothing c.or_wait-rule.result (opened c.in_default.in_default-own.keys2)) c.stop.ensures

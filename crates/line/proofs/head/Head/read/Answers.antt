@@ -16,12 +16,12 @@ returns-then-bits-eq0 c = let a = c.args in
 
 pub search-requires : goal.search-requires
 search-requires c = let s = with_array c.args.self c.args.array.now in
-    (c.requires.0, held_search s (in_range s c.requires.1) c.in-Search.is, c.requires.2)
+    (held_search s (in_range s c.requires.0) c.in-Search.is, c.requires.1)
 
 pub in_step-requires : goal.in_step-requires
 in_step-requires c = let s = with_array c.args.self c.args.array.now in
-    let r = in_range s c.requires.1 in
-    (record { array_length = c.requires.0; known = r.known; bad_row = r.bad_row; items = r.taken }, held_step s r c.in-InStep.is, c.requires.2)
+    let r = in_range s c.requires.0 in
+    (record { known = r.known; bad_row = r.bad_row; items = r.taken }, held_step s r c.in-InStep.is, c.requires.1)
 
 pub returns-in-Search : goal.returns-in-Search
 returns-in-Search c = let a = c.args in

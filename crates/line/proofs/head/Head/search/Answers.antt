@@ -1,51 +1,43 @@
 -- `Head::search` meets its contract: searching on from the window at each bit gives what searching all the bits gives. Assumes nothing.
-use mathlib.Core.Path.{refl, sym, ap, ◌∙◌}
+use mathlib.Core.Path.{◌≡◌, refl, sym, ap, ap₂, ◌∙◌}
 use mathlib.Core.List.{List}
 use Prim.Native.Nat.{ℕ}
 use native.Mathlib.Omega.{arith}
-use borrow.Author.Rules.{rules}
 use lib.ListN.{take}
-use Rattle.crc.specs.Bits.{Bits, bits_of}
+use Rattle.crc.specs.Bits.{Bits, binary, bits_of}
 use Rattle.line.specs.Receiving as S
-use Rattle.line.specs.Receiving.{held_bits}
 use Rattle.line.specs.ReceivingInPlace.{with_array}
-use Rattle.line.specs.Code.ReceiveSteps.{window_bits, stepped, handed_back}
+use Rattle.line.specs.Code.ReceiveSteps.{stepped, handed_back}
 use Rattle.line.specs.declared.receiving.Event.TheVariants as E
 use Rattle.line.proofs.LineSearch.{window_held, search_found, search_on, search_end}
 use Rattle.line.proofs.head.Head.search.Goals as goal
 
 pub loop-used-init : goal.loop-used-init
-loop-used-init c = let a = c.args in
-    let p = c.requires in
-    let e = c.load-window.ensures in (
-      refl,
-      refl,
-      search rules,
-      record { held = omega arith; number = rw e.0 e.1 },
-      ap (λ (w : Bits). S.search (with_array a.self a.array.now) w (take a.bits (bits_of a.line.now)) 0)
-          (e.2 ∙ window_held a.array.now a.self.held (omega arith) (omega arith)),
-    )
+loop-used-init c = let a = c.args in (
+  refl,
+  ap (λ (w : Bits). S.search (with_array a.self a.array.now) w (take a.bits (bits_of a.line.now)) 0)
+      (c.load-window.ensures.1 ∙ window_held a.array.now a.self.held (omega arith) (omega arith)),
+)
 
 pub returns-then-ends_sequence : goal.returns-then-ends_sequence
 returns-then-ends_sequence c = let l = c.loop-used in
     c.after_good.ensures
     ∙ ap handed_back
-    (search_found (with_array c.args.self c.args.array.now) c.args.line.now c.args.bits c.requires.2 (window_bits l.window) l.used _ c.loop-used-test.true
-    c.bit_at-next.ensures (sym c.ends_sequence.ensures ∙ c.if-ends_sequence.true) ∙ l.invariant.4)
+    (search_found (with_array c.args.self c.args.array.now) c.args.line.now c.args.bits c.requires.1 (binary l.window.held l.window.number) l.used _ c.loop-used-test.true
+    c.bit_at-next.ensures (sym c.ends_sequence.ensures ∙ c.if-ends_sequence.true) ∙ l.invariant.1)
 
 pub loop-used-preserved : goal.loop-used-preserved
 loop-used-preserved c = let l = c.loop-used in (
   l.invariant.0,
-  l.invariant.1,
-  omega arith,
-  c.slide-window.ensures.0,
-  search_on (with_array c.args.self c.args.array.now) c.args.line.now c.args.bits c.requires.2 (window_bits l.window) l.used _ c.loop-used-test.true
-      c.bit_at-next.ensures (sym c.ends_sequence.ensures ∙ c.if-ends_sequence.false) _ c.slide-window.ensures.1 ∙ l.invariant.4,
+  search_on (with_array c.args.self c.args.array.now) c.args.line.now c.args.bits c.requires.1 (binary l.window.held l.window.number) l.used _ c.loop-used-test.true
+      c.bit_at-next.ensures (sym c.ends_sequence.ensures ∙ c.if-ends_sequence.false) _ c.slide-window.ensures ∙ l.invariant.1,
 )
 
 pub returns : goal.returns
 returns c = let l = c.loop-used in
+    let w : Bits = binary l.window.held l.window.number in
+    let done : c.args.bits ≡ l.used = omega arith in
     c.hold_window.ensures
-    ∙ ap (λ (array : List ℕ). stepped (S.searching (with_array c.args.self array) (window_bits l.window)) E.None l.used) l.invariant.0
+    ∙ ap₂ (λ (array : List ℕ) (used : ℕ). stepped (S.searching (with_array c.args.self array) w) E.None used) l.invariant.0 done
     ∙ ap handed_back
-    (sym (search_end (with_array c.args.self c.args.array.now) c.args.line.now c.args.bits c.requires.2 (window_bits l.window) l.used (omega arith)) ∙ l.invariant.4)
+    (sym (search_end (with_array c.args.self c.args.array.now) c.args.line.now c.args.bits c.requires.1 w l.used (sym done)) ∙ l.invariant.1)

@@ -4,13 +4,15 @@ use mathlib.Core.Bool.{true, false}
 use mathlib.Core.List.{List, [], ◌++◌}
 use Prim.Native.Nat.{ℕ, ◌+◌, ◌-◌, ◌*◌, ◌/◌, ◌≤◌, ◌<◌}
 use native.Mathlib.Omega.{arith}
+use borrow.Author.Rules.{rules}
 use lib.ListN.{length, take, drop, get_or, length-drop}
 use lib.Seq.{take_all, length-take-le}
 use Rattle.crc.specs.Bits.{Bits, bits_of, bytes_of}
 use Rattle.block.specs.Lengths.{is_length, block_length}
 use Rattle.block.specs.Block.{payload_of}
 use Rattle.block.specs.Calls.{too_short, MoveData}
-use Rattle.block.specs.declared.Built.{Built}
+use Rattle.std.specs.Prelude.{Result}
+use Rattle.block.specs.declared.Refusal.{Refusal}
 use Rattle.block.proofs.Lengths.{length_facts, length_bytes}
 use Rattle.line.specs.Receiving.{accepts, stops}
 use Rattle.line.specs.ReceivingInPlace.{with_array}
@@ -18,7 +20,7 @@ use Rattle.line.specs.Code.ReceiveSteps.{handed_back, Handed}
 use Rattle.line.specs.declared.receiver.Receiver.{Receiver}
 use Rattle.line.specs.declared.receiver.Step.{Step}
 use Rattle.line.proofs.StorePlace.{start-lt, room, put_back, accepted_store}
-use Rattle.line.proofs.BlockFinished.{handed_stored, length_data, data_moved}
+use Rattle.line.proofs.BlockFinished.{handed_stored, length_data, moved_ok, data_moved}
 use Rattle.line.proofs.head.Head.store_item.Goals as goal
 
 module _ (s : Receiver) (known : is_length s.setup.k ≡ true) (slice store : List ℕ) (used : ℕ)
@@ -52,7 +54,7 @@ module _ (s : Receiver) (known : is_length s.setup.k ≡ true) (slice store : Li
   all_data : take (8 * (k / 8)) (payload_of k row) ≡ payload_of k row
   all_data = take_all (8 * (k / 8)) (payload_of k row) (omega (arith, length_bytes k known, length_data k slice h))
 
-  stored : (answer : Built) (part : List ℕ) → MoveData (k / 8) slice lent answer part → (r : Step) → r ≡ handed_back (stops s accepts [] used)
+  stored : (answer : Result (Unit {0}) Refusal) (part : List ℕ) → MoveData (k / 8) slice lent answer part → (r : Step) → r ≡ handed_back (stops s accepts [] used)
       → Handed s store (stops s accepts row used) r (put_back k s.taken known store n part)
   stored answer part p r e =
       handed_stored s row used store r _ held
@@ -73,6 +75,13 @@ overflow_add-start c = let h = start-lt c.args.self.setup.k c.args.self.taken c.
 pub slice_bounds-move_data-end : goal.slice_bounds-move_data-end
 slice_bounds-move_data-end c = room c.args.self.setup.k c.args.self.taken c.requires.0.range.known c.args.store.now c.requires.1
 
+pub unwrap-requires : goal.unwrap-requires
+unwrap-requires c = let k = c.args.self.setup.k in
+    let known = c.requires.0.range.known in
+    moved_ok k c.args.row.now c.requires.0.held (k / 8) (omega (arith, length_bytes k known)) _
+    (wide (with_array c.args.self c.args.array.now) known c.args.row.now c.args.store.now c.args.used c.requires.0.held (λ i. search rules) c.requires.1)
+    _ _ c.move_data.ensures
+
 pub returns : goal.returns
 returns c = stored (with_array c.args.self c.args.array.now) c.requires.0.range.known c.args.row.now c.args.store.now c.args.used c.requires.0.held
-    (λ i. (c.slice_known-2-1.given i).fits) c.requires.1 _ _ c.move_data.ensures _ c.stop.ensures
+    (λ i. search rules) c.requires.1 _ _ c.move_data.ensures _ c.stop.ensures

@@ -4,7 +4,6 @@ use mathlib.Core.Path.{◌≡◌, refl, ap, sym, ◌∙◌}
 use mathlib.Core.Bool.{Bool, true, false, not}
 use Prim.Native.Nat.{ℕ}
 use lib.Dec.{leb, ltb}
-use Rattle.block.specs.Answer.{done}
 use Rattle.line.specs.Sending.{item, item_block, sender_items}
 use Rattle.line.specs.declared.sender.Sender.{Sender}
 use Rattle.line.proofs.Items.{valid_most}
@@ -20,10 +19,10 @@ not_before n i true e = ap not (sym (le-ltb i n (leb-true n i e)))
 not_before n i false e = ap not (sym (lt-ltb i n (leb-false n i e)))
 
 answer : (s : Sender) (i n : ℕ) (used cancelled : Bool) → n ≡ sender_items s
-    → done (item i (leb n i) used cancelled) ≡ done (item_block s i used cancelled)
+    → item i (leb n i) used cancelled ≡ item_block s i used cancelled
 answer s i n used cancelled e =
-    ap (λ (m : ℕ). done (item i (leb m i) used cancelled)) e
-    ∙ ap (λ (t : Bool). done (item i t used cancelled)) (not_before (sender_items s) i (leb (sender_items s) i) refl)
+    ap (λ (m : ℕ). item i (leb m i) used cancelled) e
+    ∙ ap (λ (t : Bool). item i t used cancelled) (not_before (sender_items s) i (leb (sender_items s) i) refl)
 
 pub returns : goal.returns
 returns c = let a = c.args in

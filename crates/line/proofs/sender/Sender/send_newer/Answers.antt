@@ -12,12 +12,18 @@ use Rattle.line.specs.Order.{order_bits, item_bits}
 use Rattle.line.specs.Sending.{transmit, sent_bits}
 use Rattle.line.proofs.Items.{length-order_bits, length-item_bits}
 use Rattle.line.proofs.SenderRange.{in_range}
-use Rattle.line.proofs.ItemBlocks.{cancels, cancel_overwritten}
+use Rattle.line.proofs.ItemBlocks.{cancels, cancels_ok, cancel_overwritten}
 use Rattle.line.proofs.sender.Sender.send_newer.Goals as goal
 
 pub write_item-requires : goal.write_item-requires
 write_item-requires c = let r = in_range c.args.self c.requires.sender.range in
     (r.known, r.valid, c.requires.order_lent, c.requires.room)
+
+pub unwrap-requires : goal.unwrap-requires
+unwrap-requires c = let s = c.args.self in
+    let r = in_range s c.requires.sender.range in
+    let room : block_length s.setup.k ≤ 8 * length c.write_item.new.block = rw c.write_item.auto.block c.requires.room in
+    cancels_ok s.setup.k c.write_item.new.block _ _ (length_facts s.setup.k r.known).0 room c.cancel.ensures
 
 pub returns-then-reading : goal.returns-then-reading
 unfolding transmit sent_bits
@@ -36,7 +42,7 @@ returns-then-reading c = let b = c.cancel in
     let room : block_length k ≤ 8 * length c.write_item.new.block = rw c.write_item.auto.block c.requires.room in
     rw c.if-reading.true
     (record {
-      answers = c.item.ensures;
+      answers = ap done c.item.ensures;
       state = c.repeated.ensures;
       writes =
           cancels k c.write_item.new.block b.result b.new.block whole room b.ensures
@@ -48,7 +54,7 @@ pub returns : goal.returns
 unfolding transmit sent_bits
 returns c = rw c.if-reading.false
     (record {
-      answers = c.item-2.ensures;
+      answers = ap done c.item-2.ensures;
       state = c.confirmed.ensures;
       writes = c.write_item.ensures;
     })

@@ -1,6 +1,7 @@
 -- `Sender::send_older` sends the older item whole. Assumes nothing.
-use mathlib.Core.Path.{refl}
+use mathlib.Core.Path.{refl, ap}
 use native.Mathlib.Omega.{arith}
+use Rattle.block.specs.Answer.{done}
 use Rattle.line.specs.Sending.{transmit, sent_bits}
 use Rattle.line.proofs.SenderRange.{in_range}
 use Rattle.line.proofs.sender.Sender.send_older.Goals as goal
@@ -16,7 +17,7 @@ write_item-requires c = let r = in_range c.args.self c.requires.sender.range in
 pub returns : goal.returns
 unfolding transmit sent_bits
 returns c reading = record {
-  answers = c.item.ensures;
+  answers = ap done c.item.ensures;
   state = refl;
   writes = c.write_item.ensures;
 }

@@ -2,14 +2,17 @@
 use mathlib.Core.Path.{ap, ◌∙◌}
 use Prim.Native.Nat.{ℕ}
 use native.Mathlib.Omega.{arith}
+use borrow.Author.Tests.{ne_eqb}
 use lib.Dec.{eqb}
 use Rattle.crc.specs.Bits.{number}
 use Rattle.line.proofs.SearchWindow.{no_sequence, sequence}
 use Rattle.line.proofs.window.Window.ends_sequence.Goals as goal
 
-pub returns-then-self-lt15 : goal.returns-then-self-lt15
-returns-then-self-lt15 c = no_sequence _ _ c.requires.held c.requires.number _ c.if-self-lt15.true
-
-pub returns : goal.returns
+pub returns-then-self-eq15 : goal.returns-then-self-eq15
 unfolding number
-returns c = ap (λ (x : ℕ). eqb x 20645) c.shifted.ensures ∙ sequence c.args.self.held c.args.self.number (omega arith) c.requires.number c.args.next
+returns-then-self-eq15 c = let w = c.args.self in
+    ap (λ (x : ℕ). eqb x 20645) c.shifted.ensures ∙ sequence w.held w.number c.if-self-eq15.true w.within c.args.next
+
+pub returns-else-self-eq15 : goal.returns-else-self-eq15
+returns-else-self-eq15 c = let w = c.args.self in
+    ne_eqb w.held 15 c.if-self-eq15.false ∙ no_sequence w.held w.number w.few w.within c.args.next (omega arith)

@@ -5,20 +5,22 @@ use native.Mathlib.Omega.{arith}
 use lib.Bits.{bit_and, mask_lt}
 use Rattle.crc.specs.Bits.{binary}
 use Rattle.line.proofs.SearchWindow.{shifted_lt, latest_more, latest_full}
-use borrow.Author.Rules.{rules}
 use Rattle.line.proofs.window.Window.slide.Goals as goal
 
+pub invariant_of-result : goal.invariant_of-result
+invariant_of-result c = let w = c.args.self in
+    record {
+      few = omega arith;
+      within = subst (λ (n : ℕ). n < 2 ^ (w.held + 1)) (sym c.shifted-number.ensures) (shifted_lt w.held w.number w.few w.within c.args.next);
+    }
+
+pub invariant_of-result-2 : goal.invariant_of-result-2
+invariant_of-result-2 c = record { few = omega arith; within = mask_lt c.shifted-number.result 15 }
+
 pub returns-then-self-lt15 : goal.returns-then-self-lt15
-returns-then-self-lt15 c = let r = c.shifted-number in (
-  record {
-    held = search rules;
-    number = subst (λ (n : ℕ). n < 2 ^ (c.args.self.held + 1)) (sym r.ensures) (shifted_lt _ _ c.requires.held c.requires.number c.args.next);
-  },
-  ap (binary (c.args.self.held + 1)) r.ensures ∙ latest_more _ _ c.requires.held c.requires.number c.args.next c.if-self-lt15.true,
-)
+returns-then-self-lt15 c = let w = c.args.self in
+    ap (binary (w.held + 1)) c.shifted-number.ensures ∙ latest_more w.held w.number w.few w.within c.args.next c.if-self-lt15.true
 
 pub returns : goal.returns
-returns c = let r = c.shifted-number in (
-  record { held = search rules; number = mask_lt r.result 15 },
-  ap (λ (n : ℕ). binary 15 (bit_and n 32767)) r.ensures ∙ latest_full _ _ (omega arith) c.requires.number c.args.next,
-)
+returns c = let w = c.args.self in
+    ap (λ (n : ℕ). binary 15 (bit_and n 32767)) c.shifted-number.ensures ∙ latest_full w.held w.number (omega arith) w.within c.args.next
