@@ -2,8 +2,9 @@
 -- Assumes nothing.
 use Rattle.std.specs.Prelude.{◌≡◌, Bool, List, ℕ, ◌+◌, ◌*◌}
 use Rattle.block.specs.Answer.{Answer, refused, done}
-use Rattle.noise.specs.Load.{Load, Report, load_block, report_of, generator_after, loaded_bytes}
+use Rattle.noise.specs.Load.{Load, load_block, report_of, generator_after, loaded_bytes}
 use Rattle.noise.specs.declared.Generator.{Generator}
+use Rattle.noise.specs.declared.Noise.{Noise}
 use Rattle.line_c.specs.SenderCalls.{flag_word}
 
 abbrev pub generator_of : ℕ → ℕ → Generator
@@ -13,9 +14,9 @@ generator_of first second = record { first = first; second = second }
 abbrev pub report_word : ℕ → Bool → ℕ
 report_word inverted turned = 0x100 + flag_word turned 0x200 + inverted * 65536
 
-abbrev pub noise_word : Answer Report → ℕ
+abbrev pub noise_word : Answer Noise → ℕ
 noise_word (refused n) = n
-noise_word (done r) = report_word r.inverted r.turned
+noise_word (done noise) = report_word noise.inverted noise.turned
 
 -- the load by the two words
 abbrev pub load_in : ℕ → ℕ → ℕ → List ℕ → Answer Load

@@ -12,11 +12,11 @@ pub const TURNED: u32 = 0x200;
 
 pub const INVERTED: u32 = 0x10000;
 
-fn noise_word(inverted: u32, turned: bool) -> u32
-    requires { inverted ≤ 16 }
-    ensures { result ≡ report_word inverted turned }
+fn noise_word(noise: Noise) -> u32
+    requires { noise.inverted ≤ 16 }
+    ensures { result ≡ report_word noise.inverted noise.turned }
 {
-    NOISE + flag(turned, TURNED) + inverted * INVERTED
+    NOISE + flag(noise.turned, TURNED) + noise.inverted * INVERTED
 }
 
 #[unsafe(no_mangle)]
@@ -28,19 +28,16 @@ pub extern "C" fn order_line_noise(
 ) -> u32
     ensures { NoiseCall k first.old second.old block.old result first.new second.new block.new }
 {
-    let generator = Generator {
+    let mut generator = Generator {
         first: *first,
         second: *second,
     };
-    let loaded = generator.load(k, block);
-    let answer = loaded.answer;
-    let after = loaded.generator;
-    match answer {
-        Noise::Refused(number) => number as u32,
-        Noise::Done { inverted, turned } => {
-            *first = after.first;
-            *second = after.second;
-            noise_word(inverted, turned)
+    match generator.load(k, block) {
+        Ok(noise) => {
+            *first = generator.first;
+            *second = generator.second;
+            noise_word(noise)
         }
+        Err(refusal) => u32::from(u8::from(refusal)),
     }
 }

@@ -1,5 +1,5 @@
 -- What a load that is not refused did to the block: its places are those that differ. Assumes nothing.
-use Rattle.std.proofs.Common.{◌≡◌, ℕ, ◌+◌, ◌-◌, ◌/◌, ◌%◌, ◌^◌, ◌≤◌, true, false, eqb, List, ◌++◌, length, take, drop, sym, refl, ap, ◌∙◌, subst, ap₂, ⊎_elim, arith, length-append, length-drop, length-take-le, take_at, drop_at}
+use Rattle.std.proofs.Common.{◌≡◌, ℕ, ◌+◌, ◌-◌, ◌/◌, ◌%◌, ◌^◌, ◌≤◌, true, false, Ok, eqb, List, ◌++◌, length, take, drop, sym, refl, ap, ◌∙◌, subst, ap₂, ⊎_elim, arith, length-append, length-drop, length-take-le, take_at, drop_at}
 use Rattle.crc.specs.Bits.{Bits, zeros, binary, xor_bits, bits_of, bytes_of}
 use Rattle.crc.specs.Check.{passes}
 use Rattle.crc.specs.Damage.{Damage, burst}
@@ -11,10 +11,10 @@ use Rattle.block.specs.Lengths.{block_length}
 use Rattle.block.specs.Calls.{too_short}
 use Rattle.block.proofs.Truth.{either, cond_case}
 use Rattle.noise.specs.Generator.{next, drawn}
-use Rattle.noise.specs.Load.{Load, span_load, load, places, ones, Report, noise_answer, LoadedAs}
+use Rattle.noise.specs.Load.{Load, span_load, load, places, ones, LoadedAs}
 use Rattle.noise.specs.Facts.{block_of, differences, Within16, BlockLoaded, EveryLoad}
 use Rattle.noise.specs.declared.Generator.{Generator}
-use Rattle.noise.specs.declared.Noise.TheVariants as N
+use Rattle.noise.specs.declared.Noise.{Noise}
 use Rattle.noise.proofs.Ones.{ones-append, ones-zeros}
 use Rattle.noise.proofs.Spans.{length_pattern}
 use Rattle.noise.proofs.Loads.{holds, place-room, load_cases}
@@ -120,19 +120,17 @@ module _ (k : ℕ) (s s' : List ℕ) (l : Load) (room : l.place + 16 ≤ block_l
 -- ---- by the answer
 
 -- how many bits an answer reports, and 1 for one that is not refused; 0 for a refusal
-abbrev pub inverted_of : Answer Report → ℕ
+abbrev pub inverted_of : Answer Noise → ℕ
 inverted_of (refused n) = 0
 inverted_of (done r) = r.inverted
 
-abbrev pub is_done : Answer Report → ℕ
+abbrev pub is_done : Answer Noise → ℕ
 is_done (refused n) = 0
 is_done (done r) = 1
 
 pub every_load : EveryLoad
 unfolding EveryLoad
-every_load k g s s' r inverted turned =
-    load_cases k g s (λ (a : Answer Load). LoadedAs k g s a r s' → r.answer ≡ N.Done inverted turned → BlockLoaded k s s' inverted)
-    (λ n z a e. absurd (omega (arith, ap is_done (ap noise_answer (sym e) ∙ a.answers))))
-    (λ held a e.
-    loaded k s s' (load (block_length k) g) (load-room k g) held a.writes inverted
-    (ap inverted_of (ap noise_answer (sym e) ∙ a.answers)))
+every_load k g g' s s' noise =
+    load_cases k g s (λ (a : Answer Load). LoadedAs k g s a (Ok noise) g' s' → BlockLoaded k s s' noise.inverted)
+    (λ n z a. absurd (omega (arith, ap is_done a.answers)))
+    (λ held a. loaded k s s' (load (block_length k) g) (load-room k g) held a.writes noise.inverted (ap inverted_of a.answers))

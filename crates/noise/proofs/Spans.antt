@@ -1,13 +1,13 @@
 -- A pattern laid over 16 bits of a slice: what the three bytes hold that it reaches into, and the row that they make. Assumes
 -- nothing.
-use Rattle.std.proofs.Common.{◌≡◌, ℕ, ◌+◌, ◌-◌, ◌*◌, ◌/◌, ◌%◌, ◌^◌, ◌<◌, ◌≤◌, false, List, [], ◌∷◌, ◌++◌, length, get_or, take, drop, sym, refl, ap, ◌∙◌, ap₂, append_assoc, add-zero, arith, length-append, length-drop, take-append-drop, length-take-le, pow_pos}
-use lib.Bits.{bit_xor}
+use Rattle.std.proofs.Common.{◌≡◌, ℕ, zero, suc, ◌+◌, ◌-◌, ◌*◌, ◌/◌, ◌%◌, ◌^◌, ◌<◌, ◌≤◌, false, List, [], ◌∷◌, ◌++◌, length, get_or, set, take, drop, replicate, sym, refl, ap, ◌∙◌, ap₂, append_assoc, append-nil, add-zero, arith, length-append, length-drop, take-append-drop, length-take-le, pow_pos}
+use Rattle.std.proofs.lemmas.List.{take_more}
+use Rattle.std.specs.Int.{w32, to_be_bytes}
+use lib.Bits.{bit_xor, xor_comm}
 use lib.ListN.{length-replicate, replicate-append-replicate}
 use Rattle.crc.specs.Bits.{Bits, zeros, binary, xor_bits, bits_of}
 use Rattle.crc.proofs.Rows.{length-binary, binary-zero, binary-mod, binary_join, binary_split, binary-xor, xor_bits-append, xor_bits-zeros}
 use Rattle.crc.proofs.Bytes.{length-bits_of, bits_of-append}
-use Rattle.block.proofs.Packing.{drop_three}
-use Rattle.noise.specs.Code.{xor_three}
 
 -- ---- the pattern in three bytes
 
@@ -21,82 +21,87 @@ span_row s j p e h =
     ∙ ap₂ (λ (l t : Bits). l ++ t) (binary_split s 16 p ∙ ap (λ (l : Bits). l ++ binary 16 p) (ap (binary s) z ∙ binary-zero s)) (binary-zero j)
     ∙ append_assoc (zeros s) (binary 16 p) (zeros j)
 
--- the number's three bytes
-three_bytes : (x : ℕ) → binary 8 (x / 65536) ++ (binary 8 (x / 256 % 256) ++ binary 8 (x % 256)) ≡ binary 24 x
+-- the number's three lowest bytes
+three_bytes : (x : ℕ) → bits_of (drop 1 (to_be_bytes w32 x)) ≡ binary 24 x
+unfolding bits_of
 three_bytes x =
-    ap₂ (λ (l t : Bits). binary 8 (x / 65536) ++ (l ++ t)) (binary-mod 8 (x / 256)) (binary-mod 8 x)
+    ap (λ (l : Bits). binary 8 (x / 65536 % 256) ++ (binary 8 (x / 256 % 256) ++ l)) (append-nil (binary 8 (x % 256)))
+    ∙ ap₂ (λ (l t : Bits). l ++ t) (binary-mod 8 (x / 65536)) (ap₂ (λ (l t : Bits). l ++ t) (binary-mod 8 (x / 256)) (binary-mod 8 x))
     ∙ ap (λ (l : Bits). binary 8 (x / 65536) ++ l) (sym (binary_split 8 8 x)) ∙ sym (binary_split 8 16 x)
 
-pub span_bytes : (s j p x : ℕ) → s + j ≡ 8 → p < 2 ^ 16 → x ≡ p * 2 ^ j
-    → binary 8 (x / 65536) ++ (binary 8 (x / 256 % 256) ++ binary 8 (x % 256)) ≡ zeros s ++ (binary 16 p ++ zeros j)
-span_bytes s j p x e h d = three_bytes x ∙ ap (binary 24) d ∙ span_row s j p e h
+-- ---- a slice's bytes, each xor its mask
 
--- ---- three bytes of a slice, each xor another
+pub xored : List ℕ → List ℕ → List ℕ
+xored [] s = s
+xored (m ∷ masks) [] = []
+xored (m ∷ masks) (b ∷ s) = bit_xor b m ∷ xored masks s
+
+-- masks from a place on
+abbrev pub masked : ℕ → List ℕ → List ℕ → List ℕ
+masked at masks s = xored (replicate at 0 ++ masks) s
+
+-- zeros change nothing
+pub masked-none : (at : ℕ) (s : List ℕ) → s ≡ masked at [] s
+unfolding xored
+masked-none zero s = refl
+masked-none (suc at) [] = refl
+masked-none (suc at) (b ∷ s) = ap₂ (λ (x : ℕ) (l : List ℕ). x ∷ l) (xor_comm 0 b) (masked-none at s)
+
+-- one mask more
+xored-last : (masks : List ℕ) (m : ℕ) (s : List ℕ)
+    → xored (masks ++ m ∷ []) s ≡ set (xored masks s) (length masks) (bit_xor (get_or (xored masks s) (length masks) 0) m)
+unfolding xored
+xored-last [] m [] = refl
+xored-last [] m (b ∷ s) = refl
+xored-last (x ∷ masks) m [] = refl
+xored-last (x ∷ masks) m (b ∷ s) = ap (λ (l : List ℕ). bit_xor b x ∷ l) (xored-last masks m s)
+
+pub masked-more : (at i : ℕ) (masks s : List ℕ) → i < length masks
+    → set (masked at (take i masks) s) (at + i) (bit_xor (get_or (masked at (take i masks) s) (at + i) 0) (get_or masks i 0))
+    ≡ masked at (take (i + 1) masks) s
+masked-more at i masks s h =
+    let l : List ℕ = replicate at 0 ++ take i masks in
+    let m : ℕ = get_or masks i 0 in
+    let e : length l ≡ at + i = length-append (replicate at 0) (take i masks) ∙ ap₂ (λ (x y : ℕ). x + y) (length-replicate at 0) (length-take-le i masks (omega arith)) in
+    ap (λ (n : ℕ). set (xored l s) n (bit_xor (get_or (xored l s) n 0) m)) (sym e) ∙ sym (xored-last l m s)
+    ∙ ap (λ (t : List ℕ). xored t s)
+    (append_assoc (replicate at 0) (take i masks) (m ∷ []) ∙ ap (λ (t : List ℕ). replicate at 0 ++ t) (sym (take_more masks i 0 h)))
+
+-- the row of the slice with its masks
+xored-row : (masks s : List ℕ) → length masks ≤ length s
+    → bits_of (xored masks s) ≡ xor_bits (bits_of s) (bits_of masks ++ zeros (8 * (length s - length masks)))
+unfolding bits_of xored
+xored-row [] s h =
+    let e : 8 * length s ≡ 8 * (length s - 0) = omega arith in
+    sym (xor_bits-zeros (bits_of s)) ∙ ap (λ (n : ℕ). xor_bits (bits_of s) (zeros n)) (length-bits_of s ∙ e)
+xored-row (m ∷ masks) [] h = absurd (omega arith)
+xored-row (m ∷ masks) (b ∷ s) h =
+    let e : length s - length masks ≡ length (b ∷ s) - length (m ∷ masks) = omega arith in
+    ap₂ (λ (l t : Bits). l ++ t) (binary-xor 8 b m) (xored-row masks s (omega arith))
+    ∙ sym (xor_bits-append (binary 8 b) (binary 8 m) (bits_of s) (bits_of masks ++ zeros (8 * (length s - length masks))) (length-binary 8 b ∙ sym (length-binary 8 m)))
+    ∙ ap (xor_bits (binary 8 b ++ bits_of s))
+    (sym (append_assoc (binary 8 m) (bits_of masks) (zeros (8 * (length s - length masks)))) ∙ ap (λ (n : ℕ). (binary 8 m ++ bits_of masks) ++ zeros (8 * n)) e)
+
+zero-bytes : (n : ℕ) → bits_of (replicate n 0) ≡ zeros (8 * n)
+unfolding bits_of
+zero-bytes zero = refl
+zero-bytes (suc n) =
+    let e : 8 + 8 * n ≡ 8 * suc n = omega arith in
+    ap₂ (λ (l t : Bits). l ++ t) (binary-zero 8) (zero-bytes n) ∙ replicate-append-replicate 8 (8 * n) false ∙ ap zeros e
+
+masked-row : (at : ℕ) (masks s : List ℕ) → at + length masks ≤ length s
+    → bits_of (masked at masks s) ≡ xor_bits (bits_of s) (zeros (8 * at) ++ (bits_of masks ++ zeros (8 * (length s - (at + length masks)))))
+masked-row at masks s h =
+    let n : length (replicate at 0 ++ masks) ≡ at + length masks = length-append (replicate at 0) masks ∙ ap (λ (x : ℕ). x + length masks) (length-replicate at 0) in
+    xored-row (replicate at 0 ++ masks) s (omega (arith, n))
+    ∙ ap (xor_bits (bits_of s))
+    (ap₂ (λ (l : Bits) (x : ℕ). l ++ zeros (8 * (length s - x))) (bits_of-append (replicate at 0) masks ∙ ap (λ (l : Bits). l ++ bits_of masks) (zero-bytes at)) n
+    ∙ append_assoc (zeros (8 * at)) (bits_of masks) (zeros (8 * (length s - (at + length masks)))))
+
+-- ---- the zero bits around a pattern
 
 zeros-add : (a b : ℕ) → zeros (a + b) ≡ zeros a ++ zeros b
 zeros-add a b = sym (replicate-append-replicate a b false)
-
-module _ (at a b c : ℕ) (s : List ℕ) (h : at + 3 ≤ length s) where
-  abbrev front : Bits
-  front = bits_of (take at s)
-
-  abbrev behind : Bits
-  behind = bits_of (drop (at + 3) s)
-
-  abbrev bytes : Bits
-  bytes = binary 8 (get_or s at 0) ++ (binary 8 (get_or s (at + 1) 0) ++ binary 8 (get_or s (at + 2) 0))
-
-  abbrev masks : Bits
-  masks = binary 8 a ++ (binary 8 b ++ binary 8 c)
-
-  three_bits : (x y z : ℕ) (r : List ℕ) → bits_of ((x ∷ y ∷ z ∷ []) ++ r) ≡ (binary 8 x ++ (binary 8 y ++ binary 8 z)) ++ bits_of r
-  unfolding bits_of
-  three_bits x y z r =
-      ap (λ (l : Bits). binary 8 x ++ l) (sym (append_assoc (binary 8 y) (binary 8 z) (bits_of r)))
-      ∙ sym (append_assoc (binary 8 x) (binary 8 y ++ binary 8 z) (bits_of r))
-
-  slice_parts : bits_of s ≡ front ++ (bytes ++ behind)
-  slice_parts =
-      ap bits_of (sym (take-append-drop at s) ∙ ap (λ (l : List ℕ). take at s ++ l) (drop_three at s h))
-      ∙ bits_of-append (take at s) (get_or s at 0 ∷ get_or s (at + 1) 0 ∷ get_or s (at + 2) 0 ∷ drop (at + 3) s)
-      ∙ ap (λ (l : Bits). front ++ l) (three_bits (get_or s at 0) (get_or s (at + 1) 0) (get_or s (at + 2) 0) (drop (at + 3) s))
-
-  length_front : length front ≡ 8 * at
-  length_front = length-bits_of (take at s) ∙ ap (λ (x : ℕ). 8 * x) (length-take-le at s (omega arith))
-
-  length_behind : length behind ≡ 8 * (length s - (at + 3))
-  length_behind = length-bits_of (drop (at + 3) s) ∙ ap (λ (x : ℕ). 8 * x) (length-drop (at + 3) s)
-
-  length_three : (x y z : ℕ) → length (binary 8 x ++ (binary 8 y ++ binary 8 z)) ≡ 24
-  unfolding binary
-  length_three x y z = refl
-
-  xor_three_lem : (x y z : ℕ)
-      → binary 8 (bit_xor x a) ++ (binary 8 (bit_xor y b) ++ binary 8 (bit_xor z c))
-      ≡ xor_bits (binary 8 x ++ (binary 8 y ++ binary 8 z)) masks
-  xor_three_lem x y z =
-      ap₂ (λ (l t : Bits). l ++ t) (binary-xor 8 x a)
-      (ap₂ (λ (l t : Bits). l ++ t) (binary-xor 8 y b) (binary-xor 8 z c)
-      ∙ sym (xor_bits-append (binary 8 y) (binary 8 b) (binary 8 z) (binary 8 c) (length-binary 8 y ∙ sym (length-binary 8 b))))
-      ∙ sym (xor_bits-append (binary 8 x) (binary 8 a) (binary 8 y ++ binary 8 z) (binary 8 b ++ binary 8 c) (length-binary 8 x ∙ sym (length-binary 8 a)))
-
-  -- the row of the slice with the three bytes
-  pub xored_row : bits_of (xor_three at a b c s) ≡ xor_bits (bits_of s) (zeros (8 * at) ++ (masks ++ zeros (8 * (length s - (at + 3)))))
-  unfolding xor_three
-  xored_row =
-      let x : ℕ = get_or s at 0 in
-      let y : ℕ = get_or s (at + 1) 0 in
-      let z : ℕ = get_or s (at + 2) 0 in
-      bits_of-append (take at s) ((bit_xor x a ∷ bit_xor y b ∷ bit_xor z c ∷ []) ++ drop (at + 3) s)
-      ∙ ap (λ (l : Bits). front ++ l) (three_bits (bit_xor x a) (bit_xor y b) (bit_xor z c) (drop (at + 3) s))
-      ∙ ap₂ (λ (l t : Bits). l ++ t) (sym (xor_bits-zeros front) ∙ ap (λ (n : ℕ). xor_bits front (zeros n)) length_front)
-      (ap₂ (λ (l t : Bits). l ++ t) (xor_three_lem x y z) (sym (xor_bits-zeros behind) ∙ ap (λ (n : ℕ). xor_bits behind (zeros n)) length_behind)
-      ∙ sym (xor_bits-append bytes masks behind (zeros (8 * (length s - (at + 3)))) (length_three x y z ∙ sym (length_three a b c))))
-      ∙ sym (xor_bits-append front (zeros (8 * at)) (bytes ++ behind) (masks ++ zeros (8 * (length s - (at + 3))))
-      (length_front ∙ sym (length-replicate (8 * at) false)))
-      ∙ ap (λ (l : Bits). xor_bits l (zeros (8 * at) ++ (masks ++ zeros (8 * (length s - (at + 3)))))) (sym slice_parts)
-
--- ---- the zero bits around a pattern
 
 -- around three bytes and within them
 around : (at s j rest : ℕ) (row : Bits)
@@ -111,16 +116,16 @@ around at s j rest row =
 -- ---- a pattern laid over a slice, as the code does it
 
 pub laid_row : (place p x : ℕ) (s : List ℕ) → place / 8 + 3 ≤ length s → p < 2 ^ 16 → x ≡ p * 2 ^ (8 - place % 8)
-    → bits_of (xor_three (place / 8) (x / 65536) (x / 256 % 256) (x % 256) s)
+    → bits_of (masked (place / 8) (drop 1 (to_be_bytes w32 x)) s)
     ≡ xor_bits (bits_of s) (zeros place ++ (binary 16 p ++ zeros (8 * length s - (place + 16))))
 laid_row place p x s h b d =
     let at : ℕ = place / 8 in
     let e : place % 8 + (8 - place % 8) ≡ 8 = omega arith in
     let f : 8 * at + place % 8 ≡ place = omega arith in
     let g : (8 - place % 8) + 8 * (length s - (at + 3)) ≡ 8 * length s - (place + 16) = omega arith in
-    xored_row at (x / 65536) (x / 256 % 256) (x % 256) s h
+    masked-row at (drop 1 (to_be_bytes w32 x)) s h
     ∙ ap (λ (l : Bits). xor_bits (bits_of s) (zeros (8 * at) ++ (l ++ zeros (8 * (length s - (at + 3))))))
-    (span_bytes (place % 8) (8 - place % 8) p x e b d)
+    (three_bytes x ∙ ap (binary 24) d ∙ span_row (place % 8) (8 - place % 8) p e b)
     ∙ ap (xor_bits (bits_of s))
     (around at (place % 8) (8 - place % 8) (8 * (length s - (at + 3))) (binary 16 p)
     ∙ ap₂ (λ (m n : ℕ). zeros m ++ (binary 16 p ++ zeros n)) f g)

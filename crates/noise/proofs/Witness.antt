@@ -1,5 +1,5 @@
 -- What the theorems suppose is met: a load on a lent block, words to start from, and a block that passes. Assumes nothing.
-use Rattle.std.proofs.Common.{◌≡◌, ℕ, ◌^◌, ◌<◌, true, false, List, ◌∷◌, ◌++◌, replicate, sym, refl, ◌∙◌, arith, lit<, lit≤}
+use Rattle.std.proofs.Common.{◌≡◌, ℕ, ◌^◌, ◌<◌, true, false, Ok, List, ◌∷◌, ◌++◌, replicate, sym, refl, ◌∙◌, arith, lit<, lit≤}
 use Rattle.crc.specs.Bits.{binary, number, xor_bits, bits_of, bytes_of}
 use Rattle.crc.specs.Check.{remainder, passes, check}
 use Rattle.block.specs.Answer.{refused}
@@ -10,8 +10,7 @@ use Rattle.noise.specs.Generator.{xor_left, xor_right, next_first, next, drawn}
 use Rattle.noise.specs.Load.{span_load, load, pattern_at, places, load_block, LoadBlock}
 use Rattle.noise.specs.Facts.{BlockLoaded, EveryLoad, Call, after_calls, OnlyAtTheStart, OnePattern}
 use Rattle.noise.specs.Examples.{words, whole, sent}
-use Rattle.noise.specs.declared.Noise.TheVariants as N
-use Rattle.noise.specs.declared.Loaded.{Loaded}
+use Rattle.noise.specs.declared.Noise.{Noise}
 use Rattle.noise.proofs.FirstWord.{only_at_the_start}
 use Rattle.noise.proofs.EveryLoad.{every_load}
 use Rattle.noise.proofs.OnePattern.{one_pattern}
@@ -23,16 +22,16 @@ blank = replicate 33 0
 abbrev damaged : List ℕ
 damaged = replicate 8 0 ++ (0x2b ∷ 0x16 ∷ replicate 23 0)
 
-abbrev answered : Loaded
-answered = record { generator = words 67634689 724874; answer = N.Done 7 false }
+abbrev reported : Noise
+reported = record { inverted = 7; turned = false }
 
-pub load_witness : LoadBlock 240 (words 1 0) blank answered damaged
+pub load_witness : LoadBlock 240 (words 1 0) blank (Ok reported) (words 67634689 724874) damaged
 unfolding is_length xor_left xor_right next_first next drawn span_load load places load_block binary number xor_bits bits_of bytes_of
 load_witness = record { answers = refl; hands_back = refl; writes = refl }
 
 pub loaded_witness : BlockLoaded 240 blank damaged 7
 unfolding EveryLoad
-loaded_witness = every_load 240 (words 1 0) blank damaged answered 7 false load_witness refl
+loaded_witness = every_load 240 (words 1 0) (words 67634689 724874) blank damaged reported load_witness
 
 -- the words 1 and 0 may be started from
 pub start_witness : (calls : List Call) (k : ℕ) (slice : List ℕ) → load_block k (after_calls (words 1 0) calls) slice ≡ refused Refusals.generator → ⊥

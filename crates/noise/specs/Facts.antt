@@ -1,5 +1,5 @@
 -- What is so of every load, and of the generator's first word. Assumes nothing.
-use Rattle.std.specs.Prelude.{◌≡◌, ℕ, ◌+◌, ◌^◌, ◌<◌, ◌≤◌, Bool, true, false, ◌↔◌, List, [], ◌∷◌, ◌++◌, length, take, drop, ◌≢◌}
+use Rattle.std.specs.Prelude.{◌≡◌, ℕ, ◌+◌, ◌^◌, ◌<◌, ◌≤◌, true, false, ◌↔◌, Ok, List, [], ◌∷◌, ◌++◌, length, take, drop, ◌≢◌}
 use Rattle.crc.specs.Bits.{Bits, zeros, xor_bits, bits_of}
 use Rattle.crc.specs.Check.{passes}
 use Rattle.crc.specs.Damage.{Damage}
@@ -10,8 +10,7 @@ use Rattle.noise.specs.Refusals as Refusals
 use Rattle.noise.specs.Generator.{next_first}
 use Rattle.noise.specs.Load.{pattern_at, ones, load_block, generator_after, LoadBlock}
 use Rattle.noise.specs.declared.Generator.{Generator}
-use Rattle.noise.specs.declared.Noise.TheVariants as N
-use Rattle.noise.specs.declared.Loaded.{Loaded}
+use Rattle.noise.specs.declared.Noise.{Noise}
 
 -- ---- a block before and after a load that is not refused
 
@@ -44,8 +43,8 @@ pub record BlockLoaded (k : ℕ) (slice slice' : List ℕ) (inverted : ℕ) : Ty
 
 unfoldable pub EveryLoad : Type 0
 EveryLoad =
-    (k : ℕ) (g : Generator) (slice slice' : List ℕ) (r : Loaded) (inverted : ℕ) (turned : Bool)
-    → LoadBlock k g slice r slice' → r.answer ≡ N.Done inverted turned → BlockLoaded k slice slice' inverted
+    (k : ℕ) (g g' : Generator) (slice slice' : List ℕ) (noise : Noise)
+    → LoadBlock k g slice (Ok noise) g' slice' → BlockLoaded k slice slice' noise.inverted
 
 -- ---- the first word
 

@@ -1,7 +1,6 @@
 -- The generator: two words of 32 bits, and the numbers drawn. docs/PROTOCOL.md, "The noise load". Assumes nothing.
 use Rattle.std.specs.Prelude.{◌≡◌, ℕ, ◌+◌, ◌*◌, ◌/◌, ◌%◌, ◌^◌, bit_xor}
 use Rattle.noise.specs.declared.Generator.{Generator}
-use Rattle.noise.specs.declared.Drawn.{Drawn}
 
 -- kept to 32 bits: what is shifted or carried above them is dropped
 abbrev pub kept : ℕ → ℕ
@@ -31,6 +30,7 @@ next g = record { first = next_first g.first; second = next_second g.second }
 unfoldable pub drawn : Generator → ℕ
 drawn g = kept ((next g).first + (next g).second)
 
-pub record Draw (g : Generator) (d : Drawn) : Type 0 where
-  pub updates : d.generator ≡ next g
-  pub draws : d.number ≡ drawn g
+-- the number that a draw answers, and the generator as it leaves it
+pub record Draw (g : Generator) (number : ℕ) (g' : Generator) : Type 0 where
+  pub updates : g' ≡ next g
+  pub draws : number ≡ drawn g

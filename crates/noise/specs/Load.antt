@@ -1,6 +1,6 @@
 -- The load: what it does to a lent block in one block period, what it answers and hands back, and its promise.
 -- docs/PROTOCOL.md, "The noise load". Assumes nothing.
-use Rattle.std.specs.Prelude.{◌≡◌, ℕ, ◌+◌, ◌-◌, ◌/◌, ◌%◌, ◌^◌, Bool, false, cond, not, List, [], ◌∷◌, ◌++◌, length, take, drop, ◌==◌}
+use Rattle.std.specs.Prelude.{◌≡◌, ℕ, ◌+◌, ◌-◌, ◌/◌, ◌%◌, ◌^◌, Bool, false, Result, Ok, Err, cond, not, List, [], ◌∷◌, ◌++◌, length, take, drop, ◌==◌}
 use Rattle.crc.specs.Bits.{Bits, zeros, bit, binary, xor_bits, bits_of, bytes_of}
 use Rattle.block.specs.Answer as A
 use Rattle.block.specs.Answer.{Answer, refused, done, refuse_if}
@@ -10,8 +10,8 @@ use Rattle.noise.specs.Refusals as Refusals
 use Rattle.noise.specs.Generator.{next, drawn}
 use Rattle.noise.specs.declared.Generator.{Generator}
 use Rattle.noise.specs.declared.Noise.{Noise}
-use Rattle.noise.specs.declared.Noise.TheVariants as N
-use Rattle.noise.specs.declared.Loaded.{Loaded}
+use Rattle.noise.specs.declared.Refusal.{Refusal}
+use Rattle.noise.specs.declared.Refusal.TheVariants as R
 
 -- ---- one period's noise
 
@@ -59,16 +59,18 @@ load_block k g slice =
     (refuse_if (g.first == 0) Refusals.generator
     (refuse_if (too_short slice (block_length k)) A.short (done (load (block_length k) g))))
 
--- what is answered: how many bits are inverted, and whether the reading is turned over
-pub record Report : Type 0 where
-  pub inverted : ℕ
-  pub turned : Bool
+-- ---- what is answered: how many bits are inverted, and whether the reading is turned over; or a refusal's number
 
-abbrev pub noise_answer : Noise → Answer Report
-noise_answer (N.Done inverted turned) = done (record { inverted = inverted; turned = turned })
-noise_answer (N.Refused n) = refused n
+abbrev pub refusal_number : Refusal → ℕ
+refusal_number R.Block = A.block
+refusal_number R.Short = A.short
+refusal_number R.Generator = Refusals.generator
 
-abbrev pub report_of : Answer Load → Answer Report
+abbrev pub noise_answer : Result Noise Refusal → Answer Noise
+noise_answer (Ok noise) = done noise
+noise_answer (Err refusal) = refused (refusal_number refusal)
+
+abbrev pub report_of : Answer Load → Answer Noise
 report_of (refused n) = refused n
 report_of (done l) = done (record { inverted = ones (binary 16 l.pattern); turned = l.turned })
 
@@ -84,11 +86,12 @@ loaded_bytes k slice (done l) =
     bytes_of (length slice)
     (xor_bits (take (block_length k) (bits_of slice)) (places (block_length k) l) ++ drop (block_length k) (bits_of slice))
 
--- what a call answers, hands back and writes, if the answer is this
-pub record LoadedAs (k : ℕ) (g : Generator) (slice : List ℕ) (a : Answer Load) (r : Loaded) (slice' : List ℕ) : Type 0 where
-  pub answers : noise_answer r.answer ≡ report_of a
-  pub hands_back : r.generator ≡ generator_after g a
+-- what a call answers, the generator that it leaves, and what it writes, if the answer is this
+pub record LoadedAs (k : ℕ) (g : Generator) (slice : List ℕ) (a : Answer Load) (answer : Result Noise Refusal) (g' : Generator) (slice' : List ℕ)
+    : Type 0 where
+  pub answers : noise_answer answer ≡ report_of a
+  pub hands_back : g' ≡ generator_after g a
   pub writes : slice' ≡ loaded_bytes k slice a
 
-abbrev pub LoadBlock : ℕ → Generator → List ℕ → Loaded → List ℕ → Type 0
-LoadBlock k g slice r slice' = LoadedAs k g slice (load_block k g slice) r slice'
+abbrev pub LoadBlock : ℕ → Generator → List ℕ → Result Noise Refusal → Generator → List ℕ → Type 0
+LoadBlock k g slice answer g' slice' = LoadedAs k g slice (load_block k g slice) answer g' slice'

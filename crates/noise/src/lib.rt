@@ -1,18 +1,31 @@
 // The noise load: the same rough line on every visit. For a bench; no end of the line calls it.
 #![tactic(auto)]
 
-ghost use Rattle.std.specs.Prelude.{◌≡◌, ◌+◌, ◌/◌, ◌≤◌, true, false, length};
+ghost use Rattle.std.specs.Prelude.{◌≡◌, ◌+◌, ◌/◌, ◌≤◌, true, false, length, Ok};
 ghost use Rattle.block.specs.Answer.{done};
 ghost use Rattle.block.specs.Lengths.{is_length, block_length};
 ghost use Rattle.block.specs.Calls.{too_short};
 ghost use Rattle.noise.specs.Generator.{next_first, Draw};
-ghost use Rattle.noise.specs.Load.{load, span_load, LoadedAs, LoadBlock};
-ghost use Rattle.noise.specs.Code.{xor_three, laid};
+ghost use Rattle.noise.specs.Load.{refusal_number, load, span_load, LoadedAs, LoadBlock};
+ghost use Rattle.noise.specs.Code.{laid};
 
 use block::{known_length, too_short};
 
-// docs/PROTOCOL.md, "The noise load"; the other refusals are the crate block's.
-pub const GENERATOR: u8 = 13;
+// Why the load turns a call away, each with its number; docs/PROTOCOL.md, "What the ends turn away".
+#[derive(Clone, Copy, Debug, PartialEq, Eq)]
+pub enum Refusal {
+    Block = 1,
+    Short = 6,
+    Generator = 13,
+}
+
+impl From<Refusal> for u8 {
+    ghost from_gives = { λ refusal number. number ≡ refusal_number refusal };
+
+    fn from(refusal: Refusal) -> u8 {
+        refusal as u8
+    }
+}
 
 // What the second word grows by.
 const GROWTH: u32 = 362437;
@@ -21,33 +34,18 @@ const GROWTH: u32 = 362437;
 const SPAN: usize = 16;
 
 // Two words of 32 bits; the first is not 0.
-#[derive(Clone, Copy)]
+#[derive(Clone, Copy, Debug, PartialEq, Eq)]
 pub struct Generator {
     pub first: u32,
     pub second: u32,
 }
 
-#[derive(Clone, Copy)]
-pub struct Drawn {
-    pub generator: Generator,
-    pub number: u32,
-}
-
-#[derive(Clone, Copy)]
-pub enum Noise {
-    Done {
-        // The number of bits inverted in the block.
-        inverted: u32,
-        // The reading is turned over at the next period's sending call.
-        turned: bool,
-    },
-    Refused(u8),
-}
-
-#[derive(Clone, Copy)]
-pub struct Loaded {
-    pub generator: Generator,
-    pub answer: Noise,
+#[derive(Clone, Copy, Debug, PartialEq, Eq)]
+pub struct Noise {
+    // The number of bits inverted in the block.
+    pub inverted: u32,
+    // The reading is turned over at the next period's sending call.
+    pub turned: bool,
 }
 
 // ---- the generator
@@ -63,112 +61,71 @@ fn next_first(x: u32) -> u32
 
 impl Generator {
     // One draw: both words updated, and their sum.
-    pub fn draw(self) -> Drawn
-        ensures { Draw self result }
+    pub fn draw(&mut self) -> u32
+        ensures { Draw self.old result self.new }
     {
-        let first = next_first(self.first);
-        let second = std::num::wrapping_add_u32(self.second, GROWTH);
-        Drawn {
-            generator: Generator {
-                first: first,
-                second: second,
-            },
-            number: std::num::wrapping_add_u32(first, second),
-        }
+        self.first = next_first(self.first);
+        self.second = self.second.wrapping_add(GROWTH);
+        self.first.wrapping_add(self.second)
     }
 }
 
 // ---- the load
-
-// Three bytes of a slice, each xor another.
-fn xor_three(at: usize, a: u8, b: u8, c: u8, block: &mut [u8])
-    requires { at + 3 ≤ length block.old }
-    ensures { block.new ≡ xor_three at a b c block.old }
-{
-    block[at] = block[at] ^ a;
-    block[at + 1] = block[at + 1] ^ b;
-    block[at + 2] = block[at + 2] ^ c;
-}
 
 // The pattern's ones laid over 16 bits of a slice, the top bit first, from a place on: they reach into three bytes.
 fn lay(pattern: u16, place: usize, block: &mut [u8])
     requires { place / 8 + 3 ≤ length block.old }
     ensures { block.new ≡ laid place pattern block.old }
 {
-    let span = (pattern as u32) << (8 - place % 8);
-    xor_three(
-        place / 8,
-        (span / 65536) as u8,
-        (span / 256 % 256) as u8,
-        (span % 256) as u8,
-        block,
-    );
+    let span = (u32::from(pattern) << (8 - place % 8)).to_be_bytes();
+    for (i, mask) in span[1..].iter().enumerate() {
+        block[place / 8 + i] ^= mask;
+    }
 }
 
 impl Generator {
     // One damaged span, by a second draw.
-    fn damage(self, k: usize, block: &mut [u8]) -> Loaded
+    fn damage(&mut self, k: usize, block: &mut [u8]) -> Noise
         requires { (is_length k ≡ true) × (too_short block.old (block_length k) ≡ false) }
-        ensures { LoadedAs k self block.old (done (span_load (block_length k) self)) result block.new }
+        ensures { LoadedAs k self.old block.old (done (span_load (block_length k) self.old)) (Ok result) self.new block.new }
     {
-        let drawn = self.draw();
-        let after = drawn.generator;
-        let number = drawn.number;
+        let number = self.draw();
         let pattern = (number % 65536) as u16;
-        let n = k + block::OVERHEAD;
-        lay(pattern, (number / 65536) as usize % (n - (SPAN - 1)), block);
-        let inverted = u16::count_ones(pattern);
-        Loaded {
-            generator: after,
-            answer: Noise::Done {
-                inverted: inverted,
-                turned: false,
-            },
+        let places = k + block::OVERHEAD - (SPAN - 1);
+        lay(pattern, (number / 65536) as usize % places, block);
+        Noise {
+            inverted: pattern.count_ones(),
+            turned: false,
         }
     }
 
     // What the low two bits of a draw choose.
-    fn choose(self, k: usize, block: &mut [u8]) -> Loaded
+    fn choose(&mut self, k: usize, block: &mut [u8]) -> Noise
         requires { (is_length k ≡ true) × (too_short block.old (block_length k) ≡ false) }
-        ensures { LoadedAs k self block.old (done (load (block_length k) self)) result block.new }
+        ensures { LoadedAs k self.old block.old (done (load (block_length k) self.old)) (Ok result) self.new block.new }
     {
-        let drawn = self.draw();
-        let generator = drawn.generator;
-        let choice = drawn.number % 4;
-        if choice == 2 {
-            return generator.damage(k, block);
-        }
-        Loaded {
-            generator: generator,
-            answer: Noise::Done {
+        match self.draw() % 4 {
+            2 => self.damage(k, block),
+            choice => Noise {
                 inverted: 0,
                 turned: choice == 3,
             },
         }
     }
 
-    fn refused(self, number: u8) -> Loaded
-        ensures { result ≡ record { generator = self; answer = Noise.Refused number } }
-    {
-        Loaded {
-            generator: self,
-            answer: Noise::Refused(number),
-        }
-    }
-
     // The noise of one block period, on the block as it was sent. Refused in the order 1, 13, 6.
-    pub fn load(self, k: usize, block: &mut [u8]) -> Loaded
-        ensures { LoadBlock k self block.old result block.new }
+    pub fn load(&mut self, k: usize, block: &mut [u8]) -> Result<Noise, Refusal>
+        ensures { LoadBlock k self.old block.old result self.new block.new }
     {
         if !known_length(k) {
-            return self.refused(block::BLOCK);
+            return Err(Refusal::Block);
         }
         if self.first == 0 {
-            return self.refused(GENERATOR);
+            return Err(Refusal::Generator);
         }
         if too_short(block, k + block::OVERHEAD) {
-            return self.refused(block::SHORT);
+            return Err(Refusal::Short);
         }
-        self.choose(k, block)
+        Ok(self.choose(k, block))
     }
 }

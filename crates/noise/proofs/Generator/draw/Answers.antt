@@ -1,12 +1,12 @@
 -- `Generator::draw` keeps its promise: both words updated, and their sum. Assumes nothing.
-use Rattle.std.proofs.Common.{◌≡◌, ℕ, ◌+◌, ◌∙◌, ap₂}
+use Rattle.std.proofs.Common.{◌≡◌, ℕ, ◌+◌, refl, ◌∙◌, ap₂}
 use Rattle.noise.specs.Generator.{kept, next_first, next_second, next, drawn, Draw}
 use Rattle.noise.specs.declared.Generator.{Generator}
 use Rattle.noise.proofs.Generator.draw.Goals as goal
 
 draws : (g : Generator) (first second number : ℕ) → first ≡ next_first g.first → second ≡ next_second g.second
     → number ≡ kept (first + second)
-    → Draw g (record { generator = record { first = first; second = second }; number = number })
+    → Draw g number (record { first = first; second = second })
 unfolding next drawn
 draws g first second number f s n =
     record {
@@ -15,4 +15,4 @@ draws g first second number f s n =
     }
 
 pub returns : goal.returns
-returns c = draws c.args.self _ _ _ c.next_first-first.ensures c.wrapping_add_u32-second.ensures.value c.wrapping_add_u32.ensures.value
+returns c = draws c.args.self.now _ _ _ c.next_first-self.ensures refl refl
