@@ -1,96 +1,55 @@
--- Doses in arrays, a place at a time; and arrays and slices filled from the front. Assumes nothing.
+-- Doses in an array, and arrays and slices filled from the front. Assumes nothing.
 use mathlib.Core.Path.{◌≡◌, refl, ap, ap₂, sym, ◌∙◌}
-use mathlib.Core.List.{List, [], ◌∷◌, ◌++◌, append_assoc, append-nil}
-use native.Mathlib.Numerals.{add-one}
+use mathlib.Core.List.{List, [], ◌∷◌, ◌++◌, append_assoc}
 use native.Mathlib.Omega.{arith}
-use Prim.Native.Nat.{ℕ, suc, ◌+◌, ◌-◌, ◌≤◌, ◌<◌}
-use lib.ListN.{length, get_or, take, drop, set, replicate, length-set, length-append, length-drop, take-append-drop}
-use lib.Seq.{take-suc-set, drop-set-lt, drop-drop, take-append-add, drop-append-add, take_at, drop_at, length-take-le}
+use Prim.Native.Nat.{ℕ, zero, suc, ◌+◌, ◌-◌, ◌≤◌, ◌<◌}
+use lib.ListN.{length, take, drop, set, replicate, length-append, length-replicate}
+use lib.Seq.{take-append_seam, drop-append-add, drop-drop, set-append_seam}
 use Rattle.tint.specs.Format.{canisters}
-use Rattle.tint.specs.Calls.{doses_at, filled_up}
+use Rattle.tint.specs.Calls.{no_dose, first_places, filled_up, doses_of, doses_from}
+use Rattle.tint.specs.declared.Dose.{Dose}
 
--- ---- doses in arrays
+-- ---- the first places
 
--- the dose at a place, and those behind it
-pub doses_first : (n i : ℕ) (cs ss : List ℕ) → i < n
-    → doses_at (n - i) cs ss i ≡ record { canister = get_or cs i 0; steps = get_or ss i 0 } ∷ doses_at (n - (i + 1)) cs ss (i + 1)
-doses_first n i cs ss h =
-    let e : n - i ≡ suc (n - (i + 1)) = omega arith in
-    ap (λ (m : ℕ). doses_at m cs ss i) e
-    ∙ ap (λ (j : ℕ). record { canister = get_or cs i 0; steps = get_or ss i 0 } ∷ doses_at (n - (i + 1)) cs ss j) (sym (add-one i))
+pub length_first_places : (n : ℕ) (ds : List Dose) → length (first_places n ds) ≡ n
+length_first_places zero ds = refl
+length_first_places (suc n) [] = ap suc (length_first_places n [])
+length_first_places (suc n) (d ∷ ds) = ap suc (length_first_places n ds)
 
--- none behind the last
-pub doses_none : (n i : ℕ) (cs ss : List ℕ) → n ≤ i → doses_at (n - i) cs ss i ≡ []
-doses_none n i cs ss h = let e : n - i ≡ 0 = omega arith in ap (λ (m : ℕ). doses_at m cs ss i) e
+pub first_places-take : (n : ℕ) (ds : List Dose) → n ≤ length ds → take n ds ≡ first_places n ds
+first_places-take zero ds h = refl
+first_places-take (suc n) [] h = absurd (omega arith)
+first_places-take (suc n) (d ∷ ds) h = ap (λ (r : List Dose). d ∷ r) (first_places-take n ds (omega arith))
 
--- ---- an array filled: it has the first i numbers of all, and zeros behind them; the rest is to come
+pub first_places-append : (ds behind : List Dose) → first_places (length ds) (ds ++ behind) ≡ ds
+first_places-append [] behind = refl
+first_places-append (d ∷ ds) behind = ap (λ (r : List Dose). d ∷ r) (first_places-append ds behind)
 
-abbrev pub Filled : List ℕ → List ℕ → List ℕ → ℕ → Type 0
-Filled all rest array i =
-    (length array ≡ canisters) × (take i array ++ rest ≡ all) × (drop i array ≡ replicate (canisters - i) 0)
+pub doses_of-doses_from : (ds : List Dose) → doses_of (doses_from ds) ≡ ds
+doses_of-doses_from ds = first_places-append ds _
 
-pub filled_none : (all : List ℕ) → Filled all all (replicate canisters 0) 0
-filled_none all = (refl, refl, refl)
+-- ---- an array filled from the front
 
-pub filled_more : (all rest rest' array : List ℕ) (i v : ℕ) → i < canisters → rest ≡ v ∷ rest' → Filled all rest array i
-    → Filled all rest' (set array i v) (i + 1)
-filled_more all rest rest' array i v m e has = (
-  length-set array i v ∙ has.0,
-  ap (λ (l : List ℕ). l ++ rest') (ap (λ (n : ℕ). take n (set array i v)) (add-one i) ∙ take-suc-set array i v (omega arith))
-      ∙ append_assoc (take i array) (v ∷ []) rest' ∙ ap (λ (l : List ℕ). take i array ++ l) (sym e) ∙ has.1,
-  drop-set-lt (i + 1) array i v (omega arith) ∙ sym (drop-drop 1 i array) ∙ ap (drop 1) has.2 ∙ fewer,
-)
-  where
-    fewer : drop {A = ℕ} 1 (replicate (canisters - i) 0) ≡ replicate (canisters - (i + 1)) 0
-    fewer = let n : canisters - i ≡ suc (canisters - (i + 1)) = omega arith in ap (λ (k : ℕ). drop {A = ℕ} 1 (replicate k 0)) n
+pub length_filled_up : (ds : List Dose) → length ds ≤ canisters → length (filled_up ds) ≡ canisters
+length_filled_up ds h = length-append ds _ ∙ omega (arith, length-replicate (canisters - length ds) no_dose)
 
-pub filled_all : (all rest array : List ℕ) (i : ℕ) → rest ≡ [] → length all ≡ i → Filled all rest array i → array ≡ filled_up all
-filled_all all rest array i e n has =
-    sym (take-append-drop i array)
-    ∙ ap₂ (λ (p q : List ℕ). p ++ q) (sym (append-nil (take i array)) ∙ ap (λ (l : List ℕ). take i array ++ l) (sym e) ∙ has.1)
-    (has.2 ∙ ap (λ (k : ℕ). replicate (canisters - k) 0) (sym n))
+-- one dose more
+pub filled_more : (ds : List Dose) (i : ℕ) (d : Dose) → i ≡ length ds → i < canisters → set (filled_up ds) i d ≡ filled_up (ds ++ d ∷ [])
+filled_more ds i d e m =
+    let n : canisters - length ds ≡ suc (canisters - (i + 1)) = omega arith in
+    let k : canisters - (i + 1) ≡ canisters - length (ds ++ d ∷ []) = omega (arith, length-append ds (d ∷ [])) in
+    ap₂ (λ (j x : ℕ). set (ds ++ replicate x no_dose) j d) e n ∙ set-append_seam ds no_dose (replicate (canisters - (i + 1)) no_dose) d
+    ∙ sym (append_assoc ds (d ∷ []) (replicate (canisters - (i + 1)) no_dose))
+    ∙ ap (λ (x : ℕ). (ds ++ d ∷ []) ++ replicate x no_dose) k
 
--- ---- a slice overwritten: its first numbers are those of all, the rest of which is to come, and behind them it is as lent
+-- ---- a slice overwritten from the front
 
-abbrev pub Overwritten : List ℕ → List ℕ → List ℕ → List ℕ → ℕ → Type 0
-Overwritten all rest slice₀ slice at =
-    (length slice ≡ length slice₀) × (drop at slice ≡ drop at slice₀) × (take at slice ++ rest ≡ all)
-
-module _ (all rest rest' slice₀ slice slice' part : List ℕ) (at next : ℕ) (n : next ≡ at + length part) (room : next ≤ length slice)
-    (split : rest ≡ part ++ rest') (e : slice' ≡ take at slice ++ (part ++ drop next slice)) where
-  front : length (take at slice) ≡ at
-  front = length-take-le at slice (omega arith)
-
-  -- the numbers of one turn, from place at on
-  pub overwritten_more : Overwritten all rest slice₀ slice at → Overwritten all rest' slice₀ slice' next
-  overwritten_more has = (
-    ap length e ∙ length-append (take at slice) (part ++ drop next slice)
-        ∙ omega (arith, front, length-append part (drop next slice), length-drop next slice) ∙ has.0,
-    behind ∙ further,
-    ap (λ (l : List ℕ). l ++ rest') before ∙ append_assoc (take at slice) part rest' ∙ ap (λ (l : List ℕ). take at slice ++ l) (sym split)
-        ∙ has.2,
-  )
-    where
-      place : next ≡ length (take at slice) + length part
-      place = n ∙ ap (λ (k : ℕ). k + length part) (sym front)
-
-      before : take next slice' ≡ take at slice ++ part
-      before =
-          ap₂ take place e ∙ take-append-add (take at slice) (part ++ drop next slice) (length part)
-          ∙ ap (λ (l : List ℕ). take at slice ++ l) (take_at part (drop next slice) (length part) refl)
-
-      behind : drop next slice' ≡ drop next slice
-      behind =
-          ap₂ drop place e ∙ drop-append-add (take at slice) (part ++ drop next slice) (length part)
-          ∙ drop_at part (drop next slice) (length part) refl
-
-      further : drop next slice ≡ drop next slice₀
-      further =
-          ap (λ (k : ℕ). drop k slice) n ∙ sym (drop-drop (length part) at slice) ∙ ap (drop (length part)) has.1
-          ∙ drop-drop (length part) at slice₀ ∙ ap (λ (k : ℕ). drop k slice₀) (sym n)
-
-pub overwritten_all : (all rest slice₀ slice : List ℕ) (at : ℕ) → rest ≡ [] → Overwritten all rest slice₀ slice at
-    → slice ≡ all ++ drop at slice₀
-overwritten_all all rest slice₀ slice at e has =
-    sym (take-append-drop at slice)
-    ∙ ap₂ (λ (p q : List ℕ). p ++ q) (sym (append-nil (take at slice)) ∙ ap (λ (l : List ℕ). take at slice ++ l) (sym e) ∙ has.2) has.1
+-- the numbers of one turn, from place at on
+pub overwritten_more : (start slice slice' front part : List ℕ) (at next : ℕ) → length front ≡ at → next ≡ at + length part
+    → slice ≡ front ++ drop at start → slice' ≡ take at slice ++ (part ++ drop next slice) → slice' ≡ (front ++ part) ++ drop next start
+overwritten_more start slice slice' front part at next l n e f =
+    let before : take at slice ≡ front = ap₂ take (sym l) e ∙ take-append_seam front (drop at start) in
+    let behind : drop next slice ≡ drop next start =
+    ap₂ drop (n ∙ ap (λ (k : ℕ). k + length part) (sym l)) e ∙ drop-append-add front (drop at start) (length part)
+    ∙ drop-drop (length part) at start ∙ ap (λ (k : ℕ). drop k start) (sym n) in
+    f ∙ ap₂ (λ (x y : List ℕ). x ++ (part ++ y)) before behind ∙ sym (append_assoc front part (drop next start))

@@ -1,22 +1,24 @@
--- Laws of the tint order's bytes, of the doses in arrays, and of what judging them answers. Assumes nothing.
+-- Laws of the tint order's bytes, and of what judging doses answers. Assumes nothing.
 use mathlib.Core.Path.{◌≡◌, refl, sym, ap, ap₂, ◌∙◌}
 use mathlib.Core.Bool.{Bool, true, false, not, ◌&&◌, false≢true}
-use mathlib.Core.List.{List, [], ◌∷◌, ◌++◌, map}
+use mathlib.Core.List.{List, [], ◌∷◌, ◌++◌}
 use mathlib.Core.Logic.{⊎_elim}
-use Prim.Native.Nat.{ℕ, zero, suc, ◌+◌, ◌-◌, ◌*◌, ◌/◌, ◌%◌, ◌≤◌, ◌<◌}
+use Prim.Native.Nat.{ℕ, zero, suc, ◌+◌, ◌*◌, ◌/◌, ◌%◌, ◌≤◌, ◌<◌}
 use native.Mathlib.Omega.{arith}
 use lib.Dec.{eqb, leb, ltb}
-use lib.ListN.{length, drop, get_or, replicate}
+use lib.ListN.{length, take, drop, get_or}
 use borrow.Author.Tests.{ltb-true, ltb-false, leb-true, eqb-true, eqb-false, not-true, not-false, lt-ltb, le-ltb, eq-eqb, ne_eqb}
+use Rattle.std.proofs.lemmas.List.{take_more, flat_map_more}
 use Rattle.crc.proofs.Bytes.{drop_bytes}
 use Rattle.block.specs.Answer.{Answer, refused, done, refuse_if}
 use Rattle.block.proofs.Truth.{and_true, either}
 use Rattle.block.proofs.Refusals.{passed_test}
 use Rattle.line.specs.WholeOrder.{Bytes}
 use Rattle.tint.specs.Refusals as Refusals
-use Rattle.tint.specs.Format.{Dose, format_version, big_endian, from_big_endian, entries, order_bytes, doses_in, is_length_of, is_format, canisters, most_steps, most_total, is_in_range, in_range_and_order, total, judge_doses}
-use Rattle.tint.specs.Calls.{doses_at, doses_of, canisters_of, steps_of, doses_from, judge_counted}
-use Rattle.tint.specs.Code.{head_bytes, low_entries}
+use Rattle.tint.specs.Format.{format_version, big_endian, from_big_endian, entries, order_bytes, doses_in, is_length_of, is_format, canisters, most_steps, most_total, is_in_range, in_range_and_order, total, judge_doses}
+use Rattle.tint.specs.Calls.{no_dose, judge_counted}
+use Rattle.tint.specs.Code.{head_bytes, low_entry, low_entries}
+use Rattle.tint.specs.declared.Dose.{Dose}
 
 -- ---- entries and their doses
 
@@ -32,6 +34,16 @@ big_endian_from high low h =
 pub length-entries : (ds : List Dose) → length (entries ds) ≡ length ds * 3
 length-entries [] = refl
 length-entries (d ∷ ds) = omega (arith, length-entries ds)
+
+pub length-low_entries : (ds : List Dose) → length (low_entries ds) ≡ length ds * 3
+length-low_entries [] = refl
+length-low_entries (d ∷ ds) = omega (arith, length-low_entries ds)
+
+-- with the next dose's
+pub low_entries-more : (ds : List Dose) (i : ℕ) → i < length ds
+    → low_entries (take i ds) ++ low_entry (get_or ds i no_dose) ≡ low_entries (take (i + 1) ds)
+low_entries-more ds i h =
+    flat_map_more low_entry [] (take i ds) (get_or ds i no_dose) ∙ ap low_entries (sym (take_more ds i no_dose h))
 
 pub doses_of-entries : (ds : List Dose) → doses_in (entries ds) ≡ ds
 doses_of-entries [] = refl
@@ -149,40 +161,7 @@ rising_entries last (d ∷ ds) h =
 pub rising_order_bytes : (ds : List Dose) → in_range_and_order 0 ds ≡ true → head_bytes (length ds * 3) ++ low_entries ds ≡ order_bytes ds
 unfolding order_bytes
 rising_order_bytes ds h =
-    let n = at_most_twelve 0 ds (omega arith) h in
-    let e : length ds * 3 / 256 % 256 ≡ length (entries ds) / 256 = omega (arith, length-entries ds) in
-    let f : length ds * 3 % 256 ≡ length (entries ds) % 256 = omega (arith, length-entries ds) in
-    ap₂ (λ (x y : ℕ). format_version ∷ x ∷ y ∷ low_entries ds) e f
-    ∙ ap (λ (s : List ℕ). format_version ∷ (big_endian (length (entries ds)) ++ s)) (rising_entries 0 ds h)
-
--- ---- doses in arrays
-
--- a number of each dose, canister or steps
-pub length-map : (f : Dose → ℕ) (ds : List Dose) → length (map f ds) ≡ length ds
-length-map f [] = refl
-length-map f (d ∷ ds) = ap suc (length-map f ds)
-
--- behind the first place
-pub doses_at-suc : (n x y : ℕ) (cs ss : List ℕ) (i : ℕ) → doses_at n (x ∷ cs) (y ∷ ss) (suc i) ≡ doses_at n cs ss i
-doses_at-suc zero x y cs ss i = refl
-doses_at-suc (suc n) x y cs ss i =
-    ap (λ (r : List Dose). record { canister = get_or cs i 0; steps = get_or ss i 0 } ∷ r) (doses_at-suc n x y cs ss (suc i))
-
-pub length-doses_at : (n : ℕ) (cs ss : List ℕ) (i : ℕ) → length (doses_at n cs ss i) ≡ n
-length-doses_at zero cs ss i = refl
-length-doses_at (suc n) cs ss i = ap suc (length-doses_at n cs ss (suc i))
-
--- whatever stands behind the doses
-pub doses_at-append : (ds : List Dose) (behind behind' : List ℕ)
-    → doses_at (length ds) (canisters_of ds ++ behind) (steps_of ds ++ behind') 0 ≡ ds
-doses_at-append [] behind behind' = refl
-doses_at-append (d ∷ ds) behind behind' =
-    ap (λ (r : List Dose). d ∷ r)
-    (doses_at-suc (length ds) d.canister d.steps (canisters_of ds ++ behind) (steps_of ds ++ behind') 0 ∙ doses_at-append ds behind behind')
-
-pub doses_of-doses_from : (ds : List Dose) → doses_of (doses_from ds) ≡ ds
-doses_of-doses_from ds =
-    doses_at-append ds (replicate (canisters - length (canisters_of ds)) 0) (replicate (canisters - length (steps_of ds)) 0)
+    ap₂ (λ (n : ℕ) (s : List ℕ). format_version ∷ (big_endian n ++ s)) (sym (length-entries ds)) (rising_entries 0 ds h)
 
 -- ---- what judging answers
 

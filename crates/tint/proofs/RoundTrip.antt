@@ -2,6 +2,7 @@
 use mathlib.Core.Path.{◌≡◌, refl, sym, ap, ap₂, ◌∙◌, subst}
 use mathlib.Core.Bool.{true, not}
 use mathlib.Core.List.{List, ◌++◌}
+use Rattle.std.proofs.Common.{Result, Ok, Err, IsOkAnd}
 use Prim.Native.Nat.{ℕ, ◌≤◌}
 use native.Mathlib.Omega.{arith}
 use lib.Dec.{ltb}
@@ -13,16 +14,14 @@ use Rattle.block.specs.Answer.{Answer, refused, done}
 use Rattle.block.proofs.Refusals.{passed_test}
 use Rattle.line.specs.WholeOrder.{Bytes}
 use Rattle.tint.specs.Refusals as Refusals
-use Rattle.tint.specs.Format.{Dose, order_bytes, doses_in, is_format, canisters, most_total, in_range_and_order, total, judge_doses}
-use Rattle.tint.specs.Calls.{doses_of, write, written_count, written_answer, written_slice, Write, read, order_read_answer, Read}
+use Rattle.tint.specs.Format.{order_bytes, doses_in, is_format, canisters, most_total, in_range_and_order, total, judge_doses}
+use Rattle.tint.specs.Calls.{refusal_number, doses_of, write, written_count, written_answer, written_slice, Write, read, order_read_answer, Read}
 use Rattle.tint.specs.RoundTrip.{ReadAs, RoundTrip}
+use Rattle.tint.specs.declared.Refusal.{Refusal}
+use Rattle.tint.specs.declared.Dose.{Dose}
 use Rattle.tint.specs.declared.Doses.{Doses}
-use Rattle.tint.specs.declared.Judged.{Judged}
-use Rattle.tint.specs.declared.Judged.TheVariants as J
-use Rattle.tint.specs.declared.Written.{Written}
-use Rattle.tint.specs.declared.Written.TheVariants as W
-use Rattle.tint.specs.declared.OrderRead.{OrderRead}
-use Rattle.tint.proofs.Entries.{doses_of-entries, length-doses_in, length-doses_at, drop-order_bytes, is_format_lem, format-lengths, order_bytes-read, at_most_twelve, not_refused, same_done, judge_good, judged_good, counted-some, counted_good}
+use Rattle.tint.proofs.Arrays.{length_first_places}
+use Rattle.tint.proofs.Entries.{doses_of-entries, length-doses_in, drop-order_bytes, is_format_lem, format-lengths, order_bytes-read, at_most_twelve, not_refused, same_done, judge_good, judged_good, counted-some, counted_good}
 
 -- doses that an order can have
 pub record Writable (ds : List Dose) : Type 0 where
@@ -37,14 +36,14 @@ bytes_written : (a : Answer (List ℕ)) (n : ℕ) → written_count a ≡ done n
 bytes_written (refused m) n h = not_refused m n h
 bytes_written (done bytes) n h = (bytes, refl, same_done h)
 
-written_done : (answer : Written) (n : ℕ) → written_answer answer ≡ done n → answer ≡ W.Done n
-written_done (W.Done m) n h = ap W.Done (same_done h)
-written_done (W.Refused m) n h = not_refused m n h
+written_done : (answer : Result ℕ Refusal) (n : ℕ) → written_answer answer ≡ done n → answer ≡ Ok n
+written_done (Ok m) n h = ap Ok (same_done h)
+written_done (Err r) n h = not_refused (refusal_number r) n h
 
 -- an order read that is not refused
-read_good_lem : (d : Doses) (answer : Judged) (ds : List Dose) → order_read_answer d answer ≡ done ds → (answer ≡ J.Good) × (doses_of d ≡ ds)
-read_good_lem d J.Good ds h = (refl, same_done h)
-read_good_lem d (J.Refused n) ds h = not_refused n ds h
+read_good_lem : (r : Result Doses Refusal) (ds : List Dose) → order_read_answer r ≡ done ds → IsOkAnd r (λ d. doses_of d ≡ ds)
+read_good_lem (Ok d) ds h = same_done h
+read_good_lem (Err r) ds h = not_refused (refusal_number r) ds h
 
 -- ---- what is written
 
@@ -52,7 +51,7 @@ module _ (d : Doses) (slice : List ℕ) where
   writes_order : Writable (doses_of d) → length (order_bytes (doses_of d)) ≤ length slice → write d slice ≡ done (order_bytes (doses_of d))
   unfolding write
   writes_order w room =
-      let n = length-doses_at d.count d.canisters d.steps 0 in
+      let n = length_first_places d.count d.list in
       let p = w.some in
       let m = at_most_twelve 0 (doses_of d) (omega arith) w.in_order in
       counted-some (doses_of d) _ d.count (omega arith) (omega arith) ∙ judge_good (doses_of d) _ w.in_order w.small
@@ -61,7 +60,7 @@ module _ (d : Doses) (slice : List ℕ) where
   written_order : (bytes : List ℕ) → write d slice ≡ done bytes → Writable (doses_of d) × (order_bytes (doses_of d) ≡ bytes)
   unfolding write
   written_order bytes h =
-      let n = length-doses_at d.count d.canisters d.steps 0 in
+      let n = length_first_places d.count d.list in
       let c = counted_good (doses_of d) _ d.count bytes h in
       let j = judged_good (doses_of d) _ bytes c.2 in
       let t = passed_test (ltb (length slice) (length (order_bytes (doses_of d)))) A.short (done (order_bytes (doses_of d))) bytes j.2 in
@@ -101,7 +100,7 @@ encoded order ds b h =
 
 -- ---- there and back
 
-reads_written : (d : Doses) (slice slice' : List ℕ) (n : ℕ) (r : OrderRead) → Write d slice (W.Done n) slice' → Read (take n slice') r
+reads_written : (d : Doses) (slice slice' : List ℕ) (n : ℕ) (r : Result Doses Refusal) → Write d slice (Ok n) slice' → Read (take n slice') r
     → ReadAs d r
 reads_written d slice slice' n r w g =
     let c = bytes_written (write d slice) n (sym w.answers) in
@@ -110,17 +109,17 @@ reads_written d slice slice' n r w g =
     let s : slice' ≡ bytes ++ drop (length bytes) slice = w.writes ∙ ap (written_slice slice) c.1 in
     let t : take n slice' ≡ order_bytes (doses_of d) =
     ap₂ take (sym c.2) s ∙ take-append_seam bytes (drop (length bytes) slice) ∙ sym o.1 in
-    read_good_lem r.doses r.answer (doses_of d) (g.answers ∙ ap read t ∙ reads_order (doses_of d) o.0)
+    read_good_lem r (doses_of d) (g.answers ∙ ap read t ∙ reads_order (doses_of d) o.0)
 
-writes_read : (order slice slice' : List ℕ) (r : OrderRead) (answer : Written) → Bytes order → Read order r → r.answer ≡ J.Good
-    → length order ≤ length slice → Write r.doses slice answer slice'
-    → (answer ≡ W.Done (length order)) × (slice' ≡ order ++ drop (length order) slice)
-writes_read order slice slice' r answer b g good room w =
-    let ds : List Dose = doses_of r.doses in
-    let a : read order ≡ done ds = sym g.answers ∙ ap (order_read_answer r.doses) good in
+writes_read : (order slice slice' : List ℕ) (d : Doses) (answer : Result ℕ Refusal) → Bytes order → Read order (Ok d)
+    → length order ≤ length slice → Write d slice answer slice'
+    → (answer ≡ Ok (length order)) × (slice' ≡ order ++ drop (length order) slice)
+writes_read order slice slice' d answer b g room w =
+    let ds : List Dose = doses_of d in
+    let a : read order ≡ done ds = sym g.answers in
     let e : order_bytes ds ≡ order = encoded order ds b a in
-    let f : write r.doses slice ≡ done order =
-    writes_order r.doses slice (order_read order ds a).0 (subst (λ (s : List ℕ). length s ≤ length slice) (sym e) room) ∙ ap done e in
+    let f : write d slice ≡ done order =
+    writes_order d slice (order_read order ds a).0 (subst (λ (s : List ℕ). length s ≤ length slice) (sym e) room) ∙ ap done e in
     (written_done answer (length order) (w.answers ∙ ap written_count f), w.writes ∙ ap (written_slice slice) f)
 
 one_encoding : (a b : List ℕ) (ds : List Dose) → Bytes a → Bytes b → read a ≡ done ds → read b ≡ done ds → a ≡ b

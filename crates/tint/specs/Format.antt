@@ -1,12 +1,8 @@
 -- The tint order: docs/PROTOCOL.md, "Tint orders". Its bytes, the doses in them, and what is refused. Assumes nothing.
-use Rattle.std.specs.Prelude.{Bool, true, false, not, ◌&&◌, List, [], ◌∷◌, ◌++◌, ℕ, ◌+◌, ◌*◌, ◌/◌, ◌%◌, eqb, leb, ltb, length}
+use Rattle.std.specs.Prelude.{Bool, true, false, not, ◌&&◌, List, [], ◌∷◌, ◌++◌, ℕ, ◌+◌, ◌*◌, ◌/◌, ◌%◌, eqb, leb, ltb, length, map, sum}
 use Rattle.block.specs.Answer.{Answer, refuse_if}
 use Rattle.tint.specs.Refusals as Refusals
-
--- so many pump steps of one canister
-pub record Dose : Type 0 where
-  pub canister : ℕ
-  pub steps : ℕ
+use Rattle.tint.specs.declared.Dose.{Dose}
 
 -- ---- the bytes
 
@@ -68,8 +64,7 @@ in_range_and_order last [] = true
 in_range_and_order last (d ∷ ds) = is_in_range d && ltb last d.canister && in_range_and_order d.canister ds
 
 abbrev pub total : List Dose → ℕ
-total [] = 0
-total (d ∷ ds) = d.steps + total ds
+total ds = sum (map (λ (d : Dose). d.steps) ds)
 
 -- every entry, then the total: 11, 12, and then what follows
 unfoldable pub judge_doses : {A : Type 0} → List Dose → Answer A → Answer A

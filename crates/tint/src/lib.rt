@@ -1,18 +1,28 @@
 // The tint order: doses written as bytes, and read back.
 #![tactic(auto)]
 
-ghost use Rattle.std.specs.Prelude.{◌≡◌, ◌&&◌, List, [], ◌++◌, ℕ, ◌+◌, ◌*◌, ◌≤◌, ◌<◌, ltb, length, take, drop};
+ghost use Rattle.std.specs.Prelude.{◌≡◌, ◌++◌, ◌*◌, ◌/◌, ◌+◌, ◌≤◌, true, false, length, drop, MatchOption};
 ghost use Rattle.block.specs.Answer.{done};
-ghost use Rattle.tint.specs.Format.{from_big_endian, doses_in, is_format, is_in_range, in_range_and_order, total, judge_doses};
-ghost use Rattle.tint.specs.Calls.{doses_at, doses_of, doses_from, judged_answer, Judge, Write, Read};
-ghost use Rattle.tint.specs.Code.{head_bytes, low_entry, low_entries};
+ghost use Rattle.tint.specs.Format.{doses_in, is_format, is_in_range, in_range_and_order, total, judge_doses};
+ghost use Rattle.tint.specs.Calls.{refusal_number, doses_of, doses_from, judged_answer, Judge, Write, Read};
+ghost use Rattle.tint.specs.Code.{dose_of_entry, head_bytes, low_entry, low_entries};
 
-// docs/PROTOCOL.md, "Tint orders"; a slice that is too short is the crate block's refusal.
-pub const FORMAT: u8 = 10;
+// Why a call turns its input away, each with its number; docs/PROTOCOL.md, "What the ends turn away".
+#[derive(Clone, Copy, Debug, PartialEq, Eq)]
+pub enum Refusal {
+    Short = 6,
+    Format = 10,
+    Entry = 11,
+    Steps = 12,
+}
 
-pub const ENTRY: u8 = 11;
+impl From<Refusal> for u8 {
+    ghost from_gives = { λ refusal number. number ≡ refusal_number refusal };
 
-pub const STEPS: u8 = 12;
+    fn from(refusal: Refusal) -> u8 {
+        refusal as u8
+    }
+}
 
 pub const FORMAT_VERSION: u8 = 1;
 
@@ -29,268 +39,191 @@ const HEAD_BYTES: usize = 3;
 
 const ENTRY_BYTES: usize = 3;
 
-// The first count places hold doses; the others do not matter.
-#[derive(Clone, Copy)]
+// So many pump steps of one canister.
+#[derive(Clone, Copy, Debug, PartialEq, Eq)]
+pub struct Dose {
+    pub canister: u16,
+    pub steps: u16,
+}
+
+// The first count places hold doses; the others do not matter. A fixed array with its count, since no heap is used.
+#[derive(Clone, Copy, Debug)]
 pub struct Doses {
     pub count: usize,
-    pub canisters: [u16; 12],
-    pub steps: [u16; 12],
+    pub list: [Dose; CANISTERS],
 }
 
-#[derive(Clone, Copy)]
-pub enum Judged {
-    Good,
-    Refused(u8),
+impl Dose {
+    // What stands behind the doses that are held.
+    pub const NONE: Dose = Dose {
+        canister: 0,
+        steps: 0,
+    };
+
+    fn is_in_range(self) -> bool
+        ensures { result ≡ is_in_range self }
+    {
+        (1..=CANISTERS).contains(&usize::from(self.canister))
+            && (1..=MOST_STEPS).contains(&self.steps)
+    }
+
+    // In three bytes; of the canister its low byte.
+    fn entry(self) -> [u8; ENTRY_BYTES]
+        ensures { result ≡ low_entry self }
+    {
+        let [_, canister] = self.canister.to_be_bytes();
+        let [high, low] = self.steps.to_be_bytes();
+        [canister, high, low]
+    }
+
+    fn of_entry(entry: &[u8; ENTRY_BYTES]) -> Dose
+        ensures { result ≡ dose_of_entry entry.now }
+    {
+        let [canister, high, low] = *entry;
+        Dose {
+            canister: u16::from(canister),
+            steps: u16::from_be_bytes([high, low]),
+        }
+    }
 }
 
-#[derive(Clone, Copy)]
-pub enum Written {
-    // The number of bytes.
-    Done(usize),
-    Refused(u8),
-}
-
-// An enum cannot hold the doses' arrays.
-#[derive(Clone, Copy)]
-pub struct OrderRead {
-    pub answer: Judged,
-    pub doses: Doses,
+impl Doses {
+    pub fn held(&self) -> &[Dose]
+        requires { self.now.count ≤ 12 }
+        ensures { result.now ≡ doses_of self.now }
+    {
+        &self.list[..self.count]
+    }
 }
 
 // ---- judging
 
-// Whether a dose is in range, and its canister above the last.
-fn follows(last: u16, canister: u16, steps: u16) -> bool
-    ensures { result ≡ is_in_range (record { canister = canister; steps = steps }) && ltb last canister }
-{
-    if canister < 1 {
-        return false;
-    }
-    if CANISTERS < canister as usize {
-        return false;
-    }
-    if steps < 1 {
-        return false;
-    }
-    if MOST_STEPS < steps {
-        return false;
-    }
-    last < canister
-}
-
 // Every dose in range, the canisters rising strictly.
-fn in_range_and_order(count: usize, canisters: [u16; 12], steps: [u16; 12]) -> bool
-    requires { count ≤ 12 }
-    ensures { result ≡ in_range_and_order 0 (doses_at count canisters steps 0) }
+fn in_range_and_order(doses: &[Dose]) -> bool
+    ensures { result ≡ in_range_and_order 0 doses.now }
 {
     let mut last = 0;
-    let mut i = 0;
-    while i < count {
-        if !follows(last, canisters[i], steps[i]) {
+    for dose in doses {
+        if !dose.is_in_range() || dose.canister <= last {
             return false;
         }
-        last = canisters[i];
-        i += 1;
+        last = dose.canister;
     }
     true
 }
 
-fn wide(x: u16) -> u32
-    ensures { (result ≡ x) × (result < 65536) }
+fn total_steps(doses: &[Dose]) -> u32
+    requires { length doses.now ≤ 12 }
+    ensures { result ≡ total doses.now }
 {
-    x as u32
-}
-
-fn total_steps(count: usize, steps: [u16; 12]) -> u32
-    requires { count ≤ 12 }
-    ensures { (canisters : List ℕ) → result ≡ total (doses_at count canisters steps 0) }
-{
-    let mut sum = 0;
-    let mut i = 0;
-    while i < count {
-        sum += wide(steps[i]);
-        i += 1;
-    }
-    sum
+    doses.iter().map(|dose| u32::from(dose.steps)).sum()
 }
 
 // Every entry, then the total.
-fn judge_doses(doses: Doses) -> Judged
-    requires { doses.count ≤ 12 }
-    ensures { judged_answer result ≡ judge_doses (doses_of doses) (done tt) }
+#[tactic(auto, unfolding(crate::specs::Format::judge_doses))]
+fn judge_doses(doses: &[Dose]) -> Result<(), Refusal>
+    requires { length doses.now ≤ 12 }
+    ensures { judged_answer result ≡ judge_doses doses.now (done tt) }
 {
-    let count = doses.count;
-    let canisters = doses.canisters;
-    let steps = doses.steps;
-    if !in_range_and_order(count, canisters, steps) {
-        return Judged::Refused(ENTRY);
+    if !in_range_and_order(doses) {
+        Err(Refusal::Entry)
+    } else if MOST_TOTAL < total_steps(doses) {
+        Err(Refusal::Steps)
+    } else {
+        Ok(())
     }
-    if MOST_TOTAL < total_steps(count, steps) {
-        return Judged::Refused(STEPS);
-    }
-    Judged::Good
 }
 
 // Whether an order of these doses can be written. Refused in the order 10, 11, 12.
-pub fn judge(doses: Doses) -> Judged
+#[tactic(auto, using(crate::proofs::Arrays::length_first_places), unfolding(crate::specs::Calls::judge_counted))]
+pub fn judge(doses: Doses) -> Result<(), Refusal>
     ensures { Judge doses result }
 {
-    if doses.count == 0 {
-        return Judged::Refused(FORMAT);
+    match doses.count {
+        0 => Err(Refusal::Format),
+        1..=CANISTERS => judge_doses(doses.held()),
+        _ => Err(Refusal::Entry),
     }
-    if CANISTERS < doses.count {
-        return Judged::Refused(ENTRY);
-    }
-    judge_doses(doses)
 }
 
 // ---- writing
 
-// The version, and the number of bytes that follow.
-fn write_head(follow: usize, order: &mut [u8])
-    requires { 3 ≤ length order.old }
-    ensures { order.new ≡ head_bytes follow ++ drop 3 order.old }
-{
-    order[0] = FORMAT_VERSION;
-    order[1] = (follow / 256 % 256) as u8;
-    order[2] = (follow % 256) as u8;
-}
-
-// A dose in three bytes, from place at on.
-fn write_entry(at: usize, canister: u16, steps: u16, entries: &mut [u8])
-    requires { at + 3 ≤ length entries.old }
-    ensures { entries.new ≡ take at entries.old ++ (low_entry canister steps ++ drop (at + 3) entries.old) }
-{
-    entries[at] = (canister % 256) as u8;
-    entries[at + 1] = (steps / 256) as u8;
-    entries[at + 2] = (steps % 256) as u8;
-}
-
 // An entry for each dose, over the first bytes of entries.
-fn write_entries(count: usize, canisters: [u16; 12], steps: [u16; 12], entries: &mut [u8])
-    requires { (count ≤ 12) × (count * 3 ≤ length entries.old) }
-    ensures { entries.new ≡ low_entries (doses_at count canisters steps 0) ++ drop (count * 3) entries.old }
+fn write_entries(doses: &[Dose], entries: &mut [u8])
+    requires { length doses.now * 3 ≤ length entries.old }
+    ensures { entries.new ≡ low_entries doses.now ++ drop (length doses.now * 3) entries.old }
 {
-    let mut i = 0;
-    while i < count {
-        write_entry(i * ENTRY_BYTES, canisters[i], steps[i], entries);
-        i += 1;
+    // By place: nothing is proved of what is written through `chunks_exact_mut`.
+    for (place, dose) in doses.iter().enumerate() {
+        let at = place * ENTRY_BYTES;
+        entries[at..at + ENTRY_BYTES].copy_from_slice(&dose.entry());
     }
 }
 
-fn write_order(count: usize, canisters: [u16; 12], steps: [u16; 12], order: &mut [u8])
-    requires { (count ≤ 12) × (3 + count * 3 ≤ length order.old) }
-    ensures { order.new ≡ (head_bytes (count * 3) ++ low_entries (doses_at count canisters steps 0)) ++ drop (3 + count * 3) order.old }
+// Version, the number of bytes that follow, and the entries.
+fn write_order(doses: &[Dose], order: &mut [u8])
+    requires { (length doses.now ≤ 12) × (3 + length doses.now * 3 ≤ length order.old) }
+    ensures { order.new ≡ (head_bytes (length doses.now * 3) ++ low_entries doses.now) ++ drop (3 + length doses.now * 3) order.old }
 {
-    write_head(count * ENTRY_BYTES, order);
-    write_entries(count, canisters, steps, &mut order[HEAD_BYTES..]);
+    let [high, low] = ((doses.len() * ENTRY_BYTES) as u16).to_be_bytes();
+    order[..HEAD_BYTES].copy_from_slice(&[FORMAT_VERSION, high, low]);
+    write_entries(doses, &mut order[HEAD_BYTES..]);
 }
 
 // The order of these doses written over the first bytes of a slice. Refused in the order 10, 11, 12, 6.
-pub fn write(doses: Doses, order: &mut [u8]) -> Written
+pub fn write(doses: Doses, order: &mut [u8]) -> Result<usize, Refusal>
     ensures { Write doses order.old result order.new }
 {
-    let answer = judge(doses);
-    if let Judged::Refused(number) = answer {
-        return Written::Refused(number);
-    }
-    let count = doses.count;
-    let bytes = HEAD_BYTES + count * ENTRY_BYTES;
+    judge(doses)?;
+    let bytes = HEAD_BYTES + doses.count * ENTRY_BYTES;
     if order.len() < bytes {
-        return Written::Refused(block::SHORT);
+        return Err(Refusal::Short);
     }
-    let canisters = doses.canisters;
-    let steps = doses.steps;
-    write_order(count, canisters, steps, order);
-    Written::Done(bytes)
+    write_order(doses.held(), order);
+    Ok(bytes)
 }
 
 // ---- reading
 
-fn big_endian(high: u8, low: u8) -> u16
-    ensures { (result ≡ from_big_endian high low) × (result < 65536) }
+// The entries, if version and length are right; the length is that of what follows.
+fn entries_of(order: &[u8]) -> Option<&[u8]>
+    ensures { MatchOption result (is_format order.now ≡ false) (λ entries. (is_format order.now ≡ true) × (entries.now ≡ drop 3 order.now)) }
 {
-    high as u16 * 256 + low as u16
-}
-
-// Version and length; the length is that of what follows.
-fn is_format(order: &[u8]) -> bool
-    ensures { result ≡ is_format order.now }
-{
-    if order.len() < HEAD_BYTES {
-        return false;
+    let [FORMAT_VERSION, high, low, entries @ ..] = order else {
+        return None;
+    };
+    let follow = usize::from(u16::from_be_bytes([*high, *low]));
+    if follow == 0 || follow % ENTRY_BYTES != 0 || follow != entries.len() {
+        return None;
     }
-    if order[0] != FORMAT_VERSION {
-        return false;
-    }
-    let follow = big_endian(order[1], order[2]) as usize;
-    if follow == 0 {
-        return false;
-    }
-    if follow % ENTRY_BYTES != 0 {
-        return false;
-    }
-    follow == order.len() - HEAD_BYTES
-}
-
-fn no_doses() -> Doses
-    ensures { result ≡ doses_from [] }
-{
-    Doses {
-        count: 0,
-        canisters: [0; 12],
-        steps: [0; 12],
-    }
+    Some(entries)
 }
 
 // The doses of all entries.
-fn load_entries(count: usize, entries: &[u8]) -> Doses
-    requires { (count ≤ 12) × (count * 3 ≡ length entries.now) }
+fn load_entries(entries: &[u8]) -> Doses
+    requires { length entries.now / 3 ≤ 12 }
     ensures { result ≡ doses_from (doses_in entries.now) }
 {
-    let mut canisters = [0u16; 12];
-    let mut steps = [0u16; 12];
-    let mut i = 0;
-    while i < count {
-        let at = i * ENTRY_BYTES;
-        canisters[i] = entries[at] as u16;
-        steps[i] = big_endian(entries[at + 1], entries[at + 2]);
-        i += 1;
+    let (entries, _) = entries.as_chunks::<ENTRY_BYTES>();
+    let mut list = [Dose::NONE; CANISTERS];
+    for (place, entry) in entries.iter().enumerate() {
+        list[place] = Dose::of_entry(entry);
     }
     Doses {
-        count: count,
-        canisters: canisters,
-        steps: steps,
-    }
-}
-
-fn refused(number: u8) -> OrderRead
-    ensures { result ≡ record { answer = Judged.Refused number; doses = doses_from [] } }
-{
-    OrderRead {
-        answer: Judged::Refused(number),
-        doses: no_doses(),
+        count: entries.len(),
+        list,
     }
 }
 
 // The doses of an order; the slice is the whole of it. Refused in the order 10, 11, 12.
-pub fn read(order: &[u8]) -> OrderRead
+pub fn read(order: &[u8]) -> Result<Doses, Refusal>
     ensures { Read order.now result }
 {
-    if !is_format(order) {
-        return refused(FORMAT);
+    let entries = entries_of(order).ok_or(Refusal::Format)?;
+    if CANISTERS < entries.len() / ENTRY_BYTES {
+        return Err(Refusal::Entry);
     }
-    let count = (order.len() - HEAD_BYTES) / ENTRY_BYTES;
-    if CANISTERS < count {
-        return refused(ENTRY);
-    }
-    let doses = load_entries(count, &order[HEAD_BYTES..]);
-    let answer = judge_doses(doses);
-    match answer {
-        Judged::Refused(number) => refused(number),
-        Judged::Good => OrderRead {
-            answer: Judged::Good,
-            doses: doses,
-        },
-    }
+    let doses = load_entries(entries);
+    judge_doses(doses.held())?;
+    Ok(doses)
 }

@@ -1,21 +1,25 @@
 -- `read` keeps its promise: the format, then the doses as they are judged. Assumes nothing.
-use mathlib.Core.List.{List, []}
+use mathlib.Core.List.{List}
 use mathlib.Core.Bool.{true, false}
-use mathlib.Core.Path.{◌≡◌, refl, sym, ap, ◌∙◌, subst}
+use mathlib.Core.Path.{◌≡◌, sym, ap, ◌∙◌}
 use native.Mathlib.Omega.{arith}
-use Prim.Native.Nat.{ℕ, ◌-◌, ◌/◌, ◌<◌}
-use lib.ListN.{length, take, drop, length-drop}
-use lib.Seq.{take_all}
+use Prim.Native.Nat.{ℕ, ◌/◌, ◌<◌}
+use lib.ListN.{length, drop}
+use Rattle.std.specs.Option.{ok_or}
+use Rattle.std.proofs.Common.{Option, None, Result, Ok, Err}
+use Rattle.std.proofs.lemmas.Option.{MatchOption-at_some, MatchOption-at_none}
+use Rattle.std.proofs.lemmas.Result.{err_from_is_err_and}
 use Rattle.block.specs.Answer.{Answer, refused, done}
-use Rattle.tint.specs.Refusals as Refusals
-use Rattle.tint.specs.Format.{Dose, doses_in, is_format, judge_doses}
-use Rattle.tint.specs.Calls.{doses_of, doses_from, judged_answer, read, doses_read, Read}
+use Rattle.tint.specs.Format.{doses_in, is_format, judge_doses}
+use Rattle.tint.specs.Calls.{refusal_number, doses_of, doses_from, read, doses_read, Read}
+use Rattle.tint.specs.declared.Refusal.{Refusal}
+use Rattle.tint.specs.declared.Refusal.TheVariants as N
+use Rattle.tint.specs.declared.Dose.{Dose}
 use Rattle.tint.specs.declared.Doses.{Doses}
-use Rattle.tint.specs.declared.Judged.TheVariants as J
-use Rattle.tint.specs.declared.OrderRead.{OrderRead}
-use Rattle.tint.proofs.Entries.{length-doses_in, format-lengths, thirteen_fail, doses_of-doses_from, judge-entry, judge_good, judged_good, judged_refused}
+use Rattle.tint.proofs.Entries.{length-doses_in, thirteen_fail, judge-entry, judge_good, judged_good, judged_refused}
+use Rattle.tint.proofs.Arrays.{doses_of-doses_from}
 use Rattle.tint.proofs.read.Goals as goal
-use Rattle.tint.proofs.read.Goals.{After-load_entries-doses, Else-not-is_format}
+use Rattle.tint.proofs.read.Goals.{In_ok-entries, After-held}
 
 abbrev judge : List Dose → Answer (Unit {0})
 judge ds = judge_doses ds (done tt)
@@ -24,91 +28,67 @@ module _ (order : List ℕ) where
   abbrev ds : List Dose
   ds = doses_in (drop 3 order)
 
-  -- refused, with no doses
-  turned : (n : ℕ) (r : OrderRead) → r ≡ record { answer = J.Refused n; doses = doses_from [] } → read order ≡ refused n → Read order r
-  turned n r e h =
-      subst (Read order) (sym e) (record { answers = sym h; doses = sym (ap doses_read h) })
+  turned : (r : Refusal) → read order ≡ refused (refusal_number r) → Read order (Err r)
+  turned r h = record { answers = sym h; doses = sym (ap doses_read h) }
 
-  other_format : (r : OrderRead) → r ≡ record { answer = J.Refused 10; doses = doses_from [] } → is_format order ≡ false → Read order r
+  other_format : is_format order ≡ false → Read order (Err N.Format)
   unfolding read
-  other_format r e f = turned Refusals.format r e (rw f refl)
+  other_format f = turned N.Format (rw f)
 
   module _ (f : is_format order ≡ true) where
     in_format : read order ≡ judge_doses ds (done ds)
     unfolding read
-    in_format = rw f refl
+    in_format = rw f
 
-    too_many : (r : OrderRead) → r ≡ record { answer = J.Refused 11; doses = doses_from [] } → 12 < (length order - 3) / 3 → Read order r
-    too_many r e h =
+    too_many : 12 < length (drop 3 order) / 3 → Read order (Err N.Entry)
+    too_many h =
         let n = length-doses_in (drop 3 order) in
-        let l = length-drop 3 order in
-        turned Refusals.entry r e (in_format ∙ judge-entry ds (done ds) (thirteen_fail ds (omega arith)))
+        turned N.Entry (in_format ∙ judge-entry ds (done ds) (thirteen_fail ds (omega arith)))
 
-    module _ (d : Doses) (same : d ≡ doses_from ds) where
-      same_doses : doses_of d ≡ ds
-      same_doses = ap doses_of same ∙ doses_of-doses_from ds
+    bad : (r : Refusal) → refused (refusal_number r) ≡ judge ds → Read order (Err r)
+    bad r h = turned r (in_format ∙ judged_refused ds (done ds) (refusal_number r) h)
 
-      judged : (a : Answer (Unit {0})) → a ≡ judge (doses_of d) → judge ds ≡ a
-      judged a h = sym (h ∙ ap judge same_doses)
+    good : (d : Doses) → d ≡ doses_from ds → done tt ≡ judge ds → Read order (Ok d)
+    good d e h =
+        let j = judged_good ds (done tt) tt (sym h) in
+        let r : read order ≡ done ds = in_format ∙ judge_good ds (done ds) j.0 j.1 in
+        record { answers = ap done (ap doses_of e ∙ doses_of-doses_from ds) ∙ sym r; doses = e ∙ sym (ap doses_read r) }
 
-      bad : (n : ℕ) (r : OrderRead) → r ≡ record { answer = J.Refused n; doses = doses_from [] }
-          → refused n ≡ judge (doses_of d) → Read order r
-      bad n r e h = turned n r e (in_format ∙ judged_refused ds (done ds) n (sym (judged (refused n) h)))
-
-      good : done tt ≡ judge (doses_of d) → Read order (record { answer = J.Good; doses = d })
-      good h =
-          let j = judged_good ds (done tt) tt (judged (done tt) h) in
-          let r : read order ≡ done ds = in_format ∙ judge_good ds (done ds) j.0 j.1 in
-          record { answers = ap done same_doses ∙ sym r; doses = same ∙ sym (ap doses_read r) }
-
--- all that is behind the head
-behind : (s : List ℕ) → take (length s - 3) (drop 3 s) ≡ drop 3 s
-behind s = let l = length-drop 3 s in take_all (length s - 3) (drop 3 s) (omega arith)
+-- no entries are refused as the format
+format_refused : {A : Type 0} (o : Option A) (r : Refusal) → ◌≡◌ {A = Result A Refusal} (Err r) (ok_or o N.Format) → o ≡ None → r ≡ N.Format
+format_refused {A} o r h e =
+    let k : ◌≡◌ {A = Result A Refusal} (Err r) (Err N.Format) = h ∙ ap (λ (x : Option A). ok_or x N.Format) e in cc k
 
 -- the format was found
-formed : (c : Else-not-is_format) → is_format c.args.order.now ≡ true
-formed c = sym c.is_format.ensures ∙ c.if-not-is_format.false
+formed : (c : In_ok-entries) → (is_format c.args.order.now ≡ true) × (c.in_ok-entries.entries.now ≡ drop 3 c.args.order.now)
+formed c = MatchOption-at_some _ _ _ c.in_ok-entries.ensures.ok_part c.entries_of.ensures
 
 -- the doses that were loaded
-loaded : (c : After-load_entries-doses) → let s : List ℕ = c.args.order.now in
-    c.load_entries-doses.result ≡ doses_from (doses_in (drop 3 s))
+loaded : (c : After-held) → let ds : List Dose = doses_in (drop 3 c.args.order.now) in
+    (c.load_entries-doses.result ≡ doses_from ds) × (c.held.result.now ≡ ds)
 loaded c =
-    let s : List ℕ = c.args.order.now in
-    c.load_entries-doses.ensures ∙ ap (λ (x : List ℕ). doses_from (doses_in x)) (behind s)
+    let ds : List Dose = doses_in (drop 3 c.args.order.now) in
+    let e : c.load_entries-doses.result ≡ doses_from ds =
+    c.load_entries-doses.ensures ∙ ap (λ (s : List ℕ). doses_from (doses_in s)) (formed (goal.at.judge_doses-requires c).In_ok-entries).1 in
+    (e, c.held.ensures ∙ ap doses_of e ∙ doses_of-doses_from ds)
 
-pub returns-then-not-is_format : goal.returns-then-not-is_format
-returns-then-not-is_format c = other_format c.args.order.now _ c.refused.ensures
-    (sym c.is_format.ensures ∙ c.if-not-is_format.true)
+pub returns-in_err-entries : goal.returns-in_err-entries
+returns-in_err-entries c = let p = err_from_is_err_and c.from_residual.result c.from_residual.ensures.1 in
+    rw (p.1, p.2, format_refused _ _ c.in_err-entries.ensures.value c.in_err-entries.ensures.ok_part) (other_format c.args.order.now (MatchOption-at_none _ _ c.in_err-entries.ensures.ok_part c.entries_of.ensures))
 
-pub overflow_sub-count : goal.overflow_sub-count
-overflow_sub-count c = let l = format-lengths c.args.order.now (formed (goal.at.overflow_sub-count c).Else-not-is_format) in omega arith
+pub returns-then-entries-gt-CANISTERS : goal.returns-then-entries-gt-CANISTERS
+returns-then-entries-gt-CANISTERS c = let f = formed (goal.at.returns-then-entries-gt-CANISTERS c).In_ok-entries in
+    too_many c.args.order.now f.0 (omega (arith, ap length f.1))
 
-pub returns-then-count-gt-CANISTERS : goal.returns-then-count-gt-CANISTERS
-returns-then-count-gt-CANISTERS c = too_many c.args.order.now (formed (goal.at.returns-then-count-gt-CANISTERS c).Else-not-is_format) _ c.refused-then-count-gt-CANISTERS.ensures c.if-count-gt-CANISTERS.true
+pub judge_doses-requires : goal.judge_doses-requires
+judge_doses-requires c = let f = formed (goal.at.judge_doses-requires c).In_ok-entries in
+    omega (arith, ap length f.1, ap length (loaded c).1, length-doses_in (drop 3 c.args.order.now))
 
-pub slice_bounds-load_entries-count : goal.slice_bounds-load_entries-count
-slice_bounds-load_entries-count c = let l = format-lengths c.args.order.now (formed (goal.at.slice_bounds-load_entries-count c).Else-not-is_format) in omega arith
+pub returns-in_err-judge_doses : goal.returns-in_err-judge_doses
+returns-in_err-judge_doses c = let p = err_from_is_err_and c.from_residual-in_err-judge_doses.result c.from_residual-in_err-judge_doses.ensures.1 in
+    rw (p.1, p.2) (bad c.args.order.now (formed (goal.at.returns-in_err-judge_doses c).In_ok-entries).0 _
+    (c.in_err-judge_doses.ensures ∙ ap judge (loaded (goal.at.returns-in_err-judge_doses c).After-held).1))
 
-pub slice_bounds-load_entries-start : goal.slice_bounds-load_entries-start
-slice_bounds-load_entries-start c = let l = format-lengths c.args.order.now (formed (goal.at.slice_bounds-load_entries-start c).Else-not-is_format) in omega arith
-
-pub load_entries-doses-requires : goal.load_entries-doses-requires
-load_entries-doses-requires c = let s = c.args.order.now in
-    let l = format-lengths s (formed (goal.at.load_entries-doses-requires c).Else-not-is_format) in
-    let d = length-drop 3 s in
-    (c.if-count-gt-CANISTERS.false, omega (arith, ap length (behind s)))
-
-pub judge_doses-answer-requires : goal.judge_doses-answer-requires
-judge_doses-answer-requires c = let s = c.args.order.now in
-    let n = length-doses_in (drop 3 s) in
-    let d = length-drop 3 s in
-    let k = ap (λ (x : Doses). x.count) (loaded (goal.at.judge_doses-answer-requires c).After-load_entries-doses) in
-    omega arith
-
-pub returns-in-Refused : goal.returns-in-Refused
-returns-in-Refused c = bad c.args.order.now (formed (goal.at.returns-in-Refused c).Else-not-is_format) _ (loaded (goal.at.returns-in-Refused c).After-load_entries-doses) _ _ c.refused-in-Refused.ensures
-    (ap judged_answer (sym c.in-Refused.is) ∙ c.judge_doses-answer.ensures)
-
-pub returns-in-Good : goal.returns-in-Good
-returns-in-Good c = good c.args.order.now (formed (goal.at.returns-in-Good c).Else-not-is_format) _ (loaded (goal.at.returns-in-Good c).After-load_entries-doses)
-    (ap judged_answer (sym c.in-Good.is) ∙ c.judge_doses-answer.ensures)
+pub returns : goal.returns
+returns c = let l = loaded (goal.at.returns c).After-held in
+    good c.args.order.now (formed (goal.at.returns c).In_ok-entries).0 _ l.0 (c.in_ok-judge_doses.ensures ∙ ap judge l.1)

@@ -1,47 +1,42 @@
--- The loop of `write_entries`: the entries written so far, and those to come. Assumes nothing.
-use borrow.Author.Rules.{rules}
+-- `write_entries`: an entry more in each turn. Assumes nothing.
 use mathlib.Core.List.{List, ◌++◌}
-use mathlib.Core.Path.{◌≡◌, refl, ap, sym, ◌∙◌}
-use native.Mathlib.Nat.{sub-zero}
+use mathlib.Core.Path.{◌≡◌, ap, ap₂, ◌∙◌}
 use native.Mathlib.Omega.{arith}
-use Prim.Native.Nat.{ℕ, ◌+◌, ◌*◌, ◌≤◌, ◌<◌}
+use borrow.Rule.Slice.PartMut.{put_mid}
+use Prim.Native.Nat.{ℕ, ◌+◌, ◌-◌, ◌*◌, ◌≤◌, ◌<◌}
 use lib.ListN.{length, get_or, take, drop}
-use Rattle.tint.specs.Calls.{doses_at}
+use lib.Seq.{length-take-le, drop-drop, take_all}
+use Rattle.tint.specs.Calls.{no_dose}
 use Rattle.tint.specs.Code.{low_entry, low_entries}
-use Rattle.tint.proofs.Arrays.{doses_first, doses_none, Overwritten, overwritten_more, overwritten_all}
+use Rattle.tint.specs.declared.Dose.{Dose}
+use Rattle.tint.proofs.Arrays.{overwritten_more}
+use Rattle.tint.proofs.Entries.{length-low_entries, low_entries-more}
 use Rattle.tint.proofs.write_entries.Goals as goal
-use Rattle.tint.proofs.write_entries.Invariants.{to_come}
 
-turn : (count i : ℕ) (cs ss all l₀ l l' : List ℕ) → i < count → i * 3 + 3 ≤ length l
-    → l' ≡ take (i * 3) l ++ (low_entry (get_or cs i 0) (get_or ss i 0) ++ drop (i * 3 + 3) l)
-    → Overwritten all (to_come count cs ss i) l₀ l (i * 3) → Overwritten all (to_come count cs ss (i + 1)) l₀ l' ((i + 1) * 3)
-turn count i cs ss all l₀ l l' m h e =
-    let n : i * 3 + 3 ≡ (i + 1) * 3 = omega arith in
-    overwritten_more all (to_come count cs ss i) (to_come count cs ss (i + 1)) l₀ l l' (low_entry (get_or cs i 0) (get_or ss i 0)) (i * 3)
-    ((i + 1) * 3) (sym n) (omega arith) (ap low_entries (doses_first count i cs ss m))
-    (e ∙ ap (λ (k : ℕ). take (i * 3) l ++ (low_entry (get_or cs i 0) (get_or ss i 0) ++ drop k l)) n)
+turn : (ds : List Dose) (i : ℕ) (start slice part : List ℕ) → i < length ds → part ≡ low_entry (get_or ds i no_dose)
+    → slice ≡ low_entries (take i ds) ++ drop (i * 3) start
+    → put_mid (i * 3) (i * 3 + 3 - i * 3) slice part ≡ low_entries (take (i + 1) ds) ++ drop ((i + 1) * 3) start
+turn ds i start slice part m p e =
+    let three : i * 3 + 3 - i * 3 ≡ 3 = omega arith in
+    let next : i * 3 + 3 ≡ (i + 1) * 3 = omega arith in
+    let n : length (low_entries (take i ds)) ≡ i * 3 =
+    length-low_entries (take i ds) ∙ ap (λ (k : ℕ). k * 3) (length-take-le i ds (omega arith)) in
+    let d : drop (i * 3 + 3 - i * 3) (drop (i * 3) slice) ≡ drop ((i + 1) * 3) slice =
+    ap (λ (k : ℕ). drop k (drop (i * 3) slice)) three ∙ drop-drop 3 (i * 3) slice ∙ ap (λ (k : ℕ). drop k slice) next in
+    overwritten_more start slice _ (low_entries (take i ds)) (low_entry (get_or ds i no_dose)) (i * 3) ((i + 1) * 3) n
+    (omega arith) e (ap₂ (λ (x y : List ℕ). take (i * 3) slice ++ (x ++ y)) p d)
+    ∙ ap (λ (x : List ℕ). x ++ drop ((i + 1) * 3) start) (low_entries-more ds i m)
 
-last : (count i : ℕ) (cs ss l₀ l : List ℕ) → i ≤ count → count ≤ i
-    → Overwritten (low_entries (doses_at count cs ss 0)) (to_come count cs ss i) l₀ l (i * 3)
-    → l ≡ low_entries (doses_at count cs ss 0) ++ drop (count * 3) l₀
-last count i cs ss l₀ l a b has =
-    let n : i * 3 ≡ count * 3 = omega arith in
-    overwritten_all (low_entries (doses_at count cs ss 0)) (to_come count cs ss i) l₀ l (i * 3) (ap low_entries (doses_none count i cs ss b)) has
-    ∙ ap (λ (k : ℕ). low_entries (doses_at count cs ss 0) ++ drop k l₀) n
+last : (ds : List Dose) (i : ℕ) (start slice : List ℕ) → i ≤ length ds → length ds ≤ i
+    → slice ≡ low_entries (take i ds) ++ drop (i * 3) start → slice ≡ low_entries ds ++ drop (length ds * 3) start
+last ds i start slice a b e =
+    let n : i * 3 ≡ length ds * 3 = omega arith in
+    e ∙ ap₂ (λ (x : List Dose) (k : ℕ). low_entries x ++ drop k start) (take_all i ds b) n
 
-pub loop-i-init : goal.loop-i-init
-loop-i-init c = let a = c.args in
-    (search rules, search rules, (refl, refl, ap (λ (n : ℕ). low_entries (doses_at n a.canisters a.steps 0)) (sub-zero a.count)))
-
-pub loop-i-preserved : goal.loop-i-preserved
-loop-i-preserved c = let l = c.loop-i in
-    let a = c.args in
-    (omega arith, l.invariant.1, turn a.count l.i a.canisters a.steps _ a.entries.now l.entries _ (omega arith) (omega arith) c.write_entry.ensures l.invariant.2)
-
-pub shape_of-entries : goal.shape_of-entries
-shape_of-entries c = c.loop-i.invariant.2.0
+pub loop-place-preserved : goal.loop-place-preserved
+loop-place-preserved c = let l = c.loop-place in
+    turn c.args.doses.now l.place _ l.entries _ c.loop-place-test.true (c.copy_from_slice.ensures.after ∙ c.entry.ensures) l.invariant
 
 pub returns : goal.returns
-returns c = let l = c.loop-i in
-    let a = c.args in
-    last a.count l.i a.canisters a.steps a.entries.now l.entries l.invariant.0 c.loop-i-test.false l.invariant.2
+returns c = let l = c.loop-place in
+    last c.args.doses.now l.place _ l.entries l.auto.place-end c.loop-place-test.false l.invariant
