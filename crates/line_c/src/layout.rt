@@ -1,5 +1,6 @@
 // What the two states' layouts share: numbers of four bytes, the lowest first, the first 16 bytes, and the marks at the end.
 ghost use Rattle.std.specs.Prelude.{◌≡◌, ◌++◌, ◌+◌, ◌≤◌, length, drop, get_or};
+ghost use Rattle.std.specs.Bool.{OnTrue};
 ghost use Rattle.std.proofs.lemmas.List.Edits.{sets};
 ghost use Rattle.line_c.specs.State.{word_at, word_bytes, head_size, head_bytes, marks_size, marks_in, marks_bytes, holds};
 
@@ -30,7 +31,8 @@ fn store_word(s: &mut [u8], at: usize, n: usize)
 #[tactic(auto, unfolding(crate::specs::State::holds))]
 pub(crate) fn holds_state(size: usize, most: [u8; 3], s: &[u8]) -> bool
     requires { head_size ≤ size }
-    ensures { result ≡ holds size (get_or most 0 0) (get_or most 1 0) (get_or most 2 0) s.now }
+    ensures held { result ≡ holds size (get_or most 0 0) (get_or most 1 0) (get_or most 2 0) s.now }
+    ensures enough { OnTrue result (size ≤ length s.now) }
 {
     size <= s.len()
         && s[13] <= most[0]

@@ -1,12 +1,13 @@
 // A receiver in lent bytes.
-ghost use Rattle.std.specs.Prelude.{◌≡◌, [], ◌++◌, ◌≤◌, length, take, drop};
+ghost use Rattle.std.specs.Prelude.{OnOk, ◌≡◌, [], ◌++◌, ◌≤◌, length, take, drop};
 ghost use Rattle.line.specs.Receiving.{array_bytes};
 ghost use Rattle.line.specs.ReceivingInPlace.{with_array};
-ghost use Rattle.line_c.specs.State.{head_size, array_end, receiver_size, holds_receiver, receiver_in, receiver_head, receiver_bytes, phase_of};
+ghost use Rattle.line_c.specs.State.{head_size, head_answer, array_end, receiver_size, receiver_of, receiver_head, receiver_bytes, phase_of};
 
 use crate::layout::{
     HEAD_SIZE, MARKS_SIZE, holds_state, load_marks, load_word, store_head, store_marks,
 };
+use line::Refusal;
 use line::head::Head;
 use line::receiver::Receiver;
 use line::receiving::{ARRAY_SIZE, Phase, Setup};
@@ -16,6 +17,7 @@ pub(crate) const ARRAY_END: usize = HEAD_SIZE + ARRAY_SIZE;
 
 pub(crate) const RECEIVER_SIZE: usize = ARRAY_END + MARKS_SIZE;
 
+// A From of a number would be for the crate that has Phase to write, and only these bytes know the numbers.
 fn phase_of(n: u8) -> Phase
     ensures { result ≡ phase_of n }
 {
@@ -27,19 +29,16 @@ fn phase_of(n: u8) -> Phase
     }
 }
 
-// Whether the bytes hold a receiver.
-pub(crate) fn holds_receiver(s: &[u8]) -> bool
-    ensures { result ≡ holds_receiver s.now }
+// The state but for its array. Bytes that hold no receiver are refused as spoiled.
+#[tactic(auto, unfolding(crate::specs::State::receiver_of, crate::specs::State::receiver_in))]
+pub(crate) fn load_head(s: &[u8]) -> Result<Head, Refusal>
+    ensures held { head_answer s.now result ≡ receiver_of s.now }
+    ensures enough { OnOk result (receiver_size ≤ length s.now) }
 {
-    holds_state(RECEIVER_SIZE, [1, 1, 3], s)
-}
-
-#[tactic(auto, unfolding(crate::specs::State::receiver_in))]
-pub(crate) fn load_head(s: &[u8]) -> Head
-    requires { receiver_size ≤ length s.now }
-    ensures { with_array result (take array_bytes (drop head_size s.now)) ≡ receiver_in s.now }
-{
-    Head {
+    if !holds_state(RECEIVER_SIZE, [1, 1, 3], s) {
+        return Err(Refusal::Spoiled);
+    }
+    Ok(Head {
         setup: Setup {
             k: load_word(s, 0),
             marks: load_marks(s, ARRAY_END),
@@ -50,7 +49,7 @@ pub(crate) fn load_head(s: &[u8]) -> Head
         taken: load_word(s, 8),
         ended: s[14] == 1,
         phase: phase_of(s[15]),
-    }
+    })
 }
 
 // The array and the marks stay as they are.

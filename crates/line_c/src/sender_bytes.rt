@@ -1,14 +1,17 @@
 // A sender in lent bytes.
-ghost use Rattle.std.specs.Prelude.{◌≡◌, ◌++◌, ◌≤◌, length, drop};
-ghost use Rattle.line_c.specs.State.{sender_size, holds_sender, sender_in, sender_bytes, next_of};
+ghost use Rattle.std.specs.Prelude.{◌≡◌, ◌++◌, ◌≤◌, length, drop, OnOk};
+ghost use Rattle.line.specs.Sending.{opened_answer};
+ghost use Rattle.line_c.specs.State.{sender_size, sender_of, sender_bytes, next_of};
 
 use crate::layout::{
     HEAD_SIZE, MARKS_SIZE, holds_state, load_marks, load_word, store_head, store_marks,
 };
+use line::Refusal;
 use line::sender::{Next, Sender, Setup};
 
 pub(crate) const SENDER_SIZE: usize = HEAD_SIZE + MARKS_SIZE;
 
+// A From of a number would be for the crate that has Next to write, and only these bytes know the numbers.
 fn next_of(n: u8) -> Next
     ensures { result ≡ next_of n }
 {
@@ -19,19 +22,16 @@ fn next_of(n: u8) -> Next
     }
 }
 
-// Whether the bytes hold a sender.
-pub(crate) fn holds_sender(s: &[u8]) -> bool
-    ensures { result ≡ holds_sender s.now }
+// Bytes that hold no sender are refused as spoiled.
+#[tactic(auto, unfolding(crate::specs::State::sender_of, crate::specs::State::sender_in))]
+pub(crate) fn load_sender(s: &[u8]) -> Result<Sender, Refusal>
+    ensures held { opened_answer result ≡ sender_of s.now }
+    ensures enough { OnOk result (sender_size ≤ length s.now) }
 {
-    holds_state(SENDER_SIZE, [1, 2, 1], s)
-}
-
-#[tactic(auto, unfolding(crate::specs::State::sender_in))]
-pub(crate) fn load_sender(s: &[u8]) -> Sender
-    requires { sender_size ≤ length s.now }
-    ensures { result ≡ sender_in s.now }
-{
-    Sender {
+    if !holds_state(SENDER_SIZE, [1, 2, 1], s) {
+        return Err(Refusal::Spoiled);
+    }
+    Ok(Sender {
         setup: Setup {
             k: load_word(s, 0),
             length: load_word(s, 4),
@@ -42,7 +42,7 @@ pub(crate) fn load_sender(s: &[u8]) -> Sender
         opening: s[13] == 1,
         next: next_of(s[14]),
         finished: s[15] == 1,
-    }
+    })
 }
 
 pub(crate) fn store_sender(sender: Sender, s: &mut [u8])
