@@ -12,7 +12,7 @@ pub mod packed;
 
 use crate::packed::shift_half;
 
-// docs/PROTOCOL.md, "What the ends turn away".
+// Why a call turns its input away, each with its number; docs/PROTOCOL.md, "What the ends turn away".
 #[derive(Clone, Copy, Debug, PartialEq, Eq)]
 pub enum Refusal {
     Block = 1,
@@ -45,7 +45,7 @@ pub enum Read {
 }
 
 impl Read {
-    // The remainder of a block that fails, 0 of one that passes.
+    // The remainder of a block that fails, 0 of one that passes: no Option, since who asks has seen that it failed.
     pub fn remainder(self) -> u16
         ensures { result ≡ carried_remainder (done (verdict_of self)) }
     {
@@ -83,12 +83,15 @@ pub fn too_short(s: &[u8], bits: usize) -> bool
     s.len() < bits.div_ceil(8)
 }
 
-// The byte at a place, or 0 behind the last.
+// The byte at a place, or 0 behind the last: no Option, since both callers move zeros in there.
 pub fn byte_at(s: &[u8], i: usize) -> u8
     ensures { result ≡ get_or s.now i 0 }
 {
     s.get(i).copied().unwrap_or(0)
 }
+
+// Each call by k is the look-up and a call below it. One function that takes the call below would have these two lines for
+// its own.
 
 // One block built: service bits, k data bits and their check. Refused in the order 1, 7, 6.
 pub fn build_block(k: usize, service: u8, payload: &[u8], block: &mut [u8]) -> Result<(), Refusal>

@@ -1,5 +1,6 @@
 // The packed block of m data bytes, whatever m: built, checked, read and cancelled. No block length is looked up or tested
-// here.
+// here. m stands beside the slices, and no type of ours holds both: a caller's slices may be longer than a block, and each call
+// promises the bytes behind it too (`built_bytes`, `read_bytes`, `sync_bytes`, `cancel_bytes`).
 ghost use Rattle.std.specs.Prelude.{◌≡◌, cond, ◌++◌, ◌+◌, ◌*◌, ◌≤◌, ◌<◌, eqb, length, take, drop};
 ghost use Rattle.crc.specs.Bits.{binary, bits_of, bytes_of};
 ghost use Rattle.crc.specs.Check.{remainder};

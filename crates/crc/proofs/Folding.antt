@@ -12,7 +12,7 @@ use lib.Dec.{T, lit<}
 use lib.ListN.{length}
 use lib.Pow.{split}
 use Rattle.crc.specs.Bits.{Bits, bit, odd, binary, number}
-use Rattle.crc.specs.Words.{bits_of_words}
+use Rattle.crc.specs.Words.{bits_of_words, left_by}
 use Rattle.crc.specs.Polynomial.{polynomial, times, Divides}
 use Rattle.crc.specs.Check.{remainder, register}
 use Rattle.crc.proofs.Xor.{xor_swap, xor_shl}
@@ -95,11 +95,11 @@ divides_powers es d v =
 
 -- Where the generator divides w and vs as one row, w in front of other words may be left out and vs added to them.
 pub register_fold : (w : ℕ) (ws vs : List ℕ) → length ws ≡ length vs → Divides (polynomial (bits_of_words (w ∷ vs)))
-    → register 0 (bits_of_words (w ∷ ws)) ≡ register 0 (bits_of_words (xor_words ws vs))
+    → left_by (w ∷ ws) ≡ left_by (xor_words ws vs)
 register_fold w ws vs h d =
     sym (xor_zero_r (register 0 l)) ∙ ap (bit_xor (register 0 l)) (sym z) ∙ sym (register-xor 0 0 l m (lit< tt) (lit< tt) lengths)
     ∙ ap (register 0) (sym (bits_of_words-xor (w ∷ ws) (w ∷ vs) (ap suc h)))
-    ∙ ap (λ (x : ℕ). register 0 (bits_of_words (x ∷ xor_words ws vs))) (xor_self w) ∙ register-zero_word (xor_words ws vs)
+    ∙ ap (λ (x : ℕ). left_by (x ∷ xor_words ws vs)) (xor_self w) ∙ register-zero_word (xor_words ws vs)
   where
     l : Bits
     l = bits_of_words (w ∷ ws)
@@ -154,7 +154,7 @@ polynomial_at_is (t ∷ ts) w =
 fold_terms : (es : List ℕ) (q : Term) (ts : List Term) → Divides (times_powers es 1)
     → T (same_on (polynomial_at (new ∷ ts)) (λ w. times_powers es (eval q 0 w)) 64)
     → (w : ℕ) (ws : List ℕ) → w < 2 ^ 64 → length ws ≡ length ts
-    → register 0 (bits_of_words (w ∷ ws)) ≡ register 0 (bits_of_words (xor_words ws (words_at ts w)))
+    → left_by (w ∷ ws) ≡ left_by (xor_words ws (words_at ts w))
 fold_terms es q ts d t w ws h n =
     register_fold w ws (words_at ts w) (n ∙ sym (length_words_at ts w))
     (subst Divides (sym (polynomial_at_is (new ∷ ts) w ∙ same)) (divides_powers es d (eval q 0 w)))
@@ -194,16 +194,16 @@ divides_power4 = divides_sum power4 65 (lit< tt) refl
 
 -- a word four places ahead
 pub fold_four : (a b c d e : ℕ) → a < 2 ^ 64
-    → register 0 (bits_of_words (a ∷ b ∷ c ∷ d ∷ e ∷ []))
-    ≡ register 0 (bits_of_words (bit_xor b a ∷ bit_xor c (a / 2 ^ 48) ∷ bit_xor d (a * 2 ^ 16 % 2 ^ 64) ∷ bit_xor e a ∷ []))
+    → left_by (a ∷ b ∷ c ∷ d ∷ e ∷ [])
+    ≡ left_by (bit_xor b a ∷ bit_xor c (a / 2 ^ 48) ∷ bit_xor d (a * 2 ^ 16 % 2 ^ 64) ∷ bit_xor e a ∷ [])
 fold_four a b c d e h =
     fold_terms power16 new (new ∷ new >> 48 ∷ shl 64 new 16 ∷ new ∷ []) divides_power16 tt a (b ∷ c ∷ d ∷ e ∷ []) h refl
 
 -- a word two places ahead
 pub fold_two : (a b c : ℕ) → a < 2 ^ 64
     → let v : ℕ = bit_xor a (a / 2 ^ 32) in
-    register 0 (bits_of_words (a ∷ b ∷ c ∷ []))
-    ≡ register 0 (bits_of_words (bit_xor b (bit_xor (v * 2 ^ 32 % 2 ^ 64) (v / 2 ^ 24)) ∷ bit_xor c (bit_xor v (v * 2 ^ 40 % 2 ^ 64)) ∷ []))
+    left_by (a ∷ b ∷ c ∷ [])
+    ≡ left_by (bit_xor b (bit_xor (v * 2 ^ 32 % 2 ^ 64) (v / 2 ^ 24)) ∷ bit_xor c (bit_xor v (v * 2 ^ 40 % 2 ^ 64)) ∷ [])
 fold_two a b c h =
     let v : Term = new ⊕ new >> 32 in
     fold_terms power8 v ((shl 64 v 32 ⊕ v >> 24) ∷ (v ⊕ shl 64 v 40) ∷ []) divides_power8 tt a (b ∷ c ∷ []) h refl
@@ -214,6 +214,6 @@ quotient4 = new ⊕ new >> 32 into reg ⊕ reg >> 16 ⊕ reg >> 44
 
 pub fold_one : (a b : ℕ) → a < 2 ^ 64
     → let y : ℕ = eval quotient4 0 a in
-    register 0 (bits_of_words (a ∷ b ∷ [])) ≡ register 0 (bits_of_words (bit_xor b (bit_xor (bit_xor y (y * 2 ^ 20 % 2 ^ 64)) (y * 2 ^ 48 % 2 ^ 64)) ∷ []))
+    left_by (a ∷ b ∷ []) ≡ left_by (bit_xor b (bit_xor (bit_xor y (y * 2 ^ 20 % 2 ^ 64)) (y * 2 ^ 48 % 2 ^ 64)) ∷ [])
 fold_one a b h =
     fold_terms power4 quotient4 ((quotient4 into reg ⊕ shl 64 reg 20 ⊕ shl 64 reg 48) ∷ []) divides_power4 tt a (b ∷ []) h refl

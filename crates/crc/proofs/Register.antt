@@ -2,18 +2,17 @@
 use mathlib.Core.Path.{◌≡◌, refl, sym, ap, ap₂, ◌∙◌, subst}
 use mathlib.Core.Bool.{Bool, true, false}
 use mathlib.Core.List.{List, [], ◌∷◌, ◌++◌}
-use Prim.Native.Nat.{ℕ, ◌+◌, ◌*◌, ◌^◌, ◌<◌}
+use Prim.Native.Nat.{ℕ, ◌*◌, ◌^◌, ◌<◌}
 use native.Mathlib.Nat.{add-zero}
-use native.Mathlib.Numerals.{add-one}
 use native.Mathlib.Omega.{arith}
 use lib.Bits.{bit_xor, xor_lt, xor_zero_r}
 use lib.Dec.{lit<}
-use lib.ListN.{length, take, drop, get_or, take-append-drop}
-use lib.Seq.{take-suc, take-add}
+use lib.ListN.{length, take, drop, take-append-drop}
+use Rattle.std.specs.List.{fold}
 use Rattle.crc.specs.Bits.{Bits, zeros, bit, binary, bits_of, xor, xor_bits}
 use Rattle.crc.specs.Check.{reduce, divide_bit, divide, remainder, check, register_bit, register}
 use Rattle.crc.proofs.Xor.{xor_swap}
-use Rattle.crc.proofs.Bytes.{bits_of-append, bits_of_last}
+use Rattle.crc.proofs.Bytes.{bits_of-append}
 use Rattle.crc.proofs.Linear.{reduce-xor, divide_bit-lt, divide_bit-xor, divide-lt, divide-xor, remainder-append}
 
 -- x^16, reduced
@@ -103,22 +102,19 @@ register-check l = register-divide 0 l (lit< tt) ∙ sym (remainder-append l (ze
 
 -- ---- bytes into the register
 
--- n bytes more
-pub register_bytes : (c : ℕ) (s : List ℕ) (i n : ℕ)
-    → register (register c (bits_of (take i s))) (bits_of (take n (drop i s))) ≡ register c (bits_of (take (i + n) s))
-register_bytes c s i n =
-    sym (register-append c (bits_of (take i s)) (bits_of (take n (drop i s)))) ∙ ap (register c) (sym (bits_of-append (take i s) (take n (drop i s))))
-    ∙ ap (λ (l : List ℕ). register c (bits_of l)) (sym (take-add i n s))
-
 -- the bytes that are left
 pub register-rest : (c : ℕ) (s : List ℕ) (i : ℕ) → register (register c (bits_of (take i s))) (bits_of (drop i s)) ≡ register c (bits_of s)
 register-rest c s i =
     sym (register-append c (bits_of (take i s)) (bits_of (drop i s))) ∙ ap (register c) (sym (bits_of-append (take i s) (drop i s)))
     ∙ ap (λ (l : List ℕ). register c (bits_of l)) (take-append-drop i s)
 
--- one byte more
-pub register_byte : (c : ℕ) (s : List ℕ) (i : ℕ) → i < length s
-    → register (register c (bits_of (take i s))) (binary 8 (get_or s i 0)) ≡ register c (bits_of (take (i + 1) s))
-register_byte c s i h =
-    sym (register-append c (bits_of (take i s)) (binary 8 (get_or s i 0))) ∙ ap (register c) (sym (bits_of_last (take i s) (get_or s i 0)))
-    ∙ ap (λ (l : List ℕ). register c (bits_of l)) (sym (take-suc s i 0 h) ∙ ap (λ (n : ℕ). take n s) (sym (add-one i)))
+-- a first byte
+pub register-cons : (c x : ℕ) (s : List ℕ) → register (register c (binary 8 x)) (bits_of s) ≡ register c (bits_of (x ∷ s))
+unfolding bits_of
+register-cons c x s = sym (register-append c (binary 8 x) (bits_of s))
+
+-- byte after byte
+pub register_by_bytes : (c : ℕ) (s : List ℕ) → fold (λ r b. register r (binary 8 b)) c s ≡ register c (bits_of s)
+unfolding register bits_of
+register_by_bytes c [] = refl
+register_by_bytes c (x ∷ s) = register_by_bytes (register c (binary 8 x)) s ∙ register-cons c x s

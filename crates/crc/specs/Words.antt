@@ -1,13 +1,13 @@
--- Words of 64 bits as rows of bits, and the window of four that the check folds a row into. Assumes nothing.
+-- Words of 64 bits as rows of bits, and what they leave in the register. Assumes nothing.
 use Rattle.std.specs.Prelude.{List, [], ◌∷◌, ◌++◌, ℕ}
 use Rattle.crc.specs.Bits.{Bits, binary}
-use Rattle.crc.specs.declared.Window.{Window}
+use Rattle.crc.specs.Check.{register}
 
 -- words to bits, the earliest in the top bit
 unfoldable pub bits_of_words : List ℕ → Bits
 bits_of_words [] = []
 bits_of_words (w ∷ ws) = binary 64 w ++ bits_of_words ws
 
--- a window's words, the earliest first
-abbrev pub words_of : Window → List ℕ
-words_of w = w.a ∷ w.b ∷ w.c ∷ w.d ∷ []
+-- what words leave in a register of zero
+abbrev pub left_by : List ℕ → ℕ
+left_by ws = register 0 (bits_of_words ws)

@@ -9,6 +9,7 @@ use borrow.Author.Tests.{eq-eqb, ne_eqb}
 use lib.Dec.{eqb}
 use lib.ListN.{length, take, drop, get_or, length-append}
 use lib.Seq.{take_at, drop_at, length-take-le}
+use Rattle.std.specs.Int.{w32, from_be_bytes}
 use Rattle.crc.specs.Bits.{Bits, binary, number, number_from, bits_of}
 use Rattle.crc.proofs.Rows.{length-binary, number-binary, number_from-append, number_from-binary}
 use Rattle.crc.proofs.Bytes.{length-bits_of, take-bits_of, drop-bits_of}
@@ -27,7 +28,7 @@ byte_more c x s h =
     ∙ ap (λ (n : ℕ). number_from n (bits_of s)) (number_from-binary c 8 x ∙ ap (λ (n : ℕ). c * 256 + n) (mod-eq_of_lt h))
 
 pub four_bytes : (s : List ℕ) → 5 ≤ length s → ((i : ℕ) → get_or s i 0 < 256)
-    → number (take 32 (drop 8 (bits_of s))) ≡ (get_or s 1 0 * 256 + get_or s 2 0) * 65536 + (get_or s 3 0 * 256 + get_or s 4 0)
+    → number (take 32 (drop 8 (bits_of s))) ≡ from_be_bytes w32 (get_or s 1 0 ∷ get_or s 2 0 ∷ get_or s 3 0 ∷ get_or s 4 0 ∷ [])
 unfolding number bits_of
 four_bytes [] h b = absurd (omega arith)
 four_bytes (v ∷ []) h b = absurd (omega arith)
@@ -41,7 +42,7 @@ four_bytes (v ∷ x ∷ y ∷ z ∷ w ∷ s) h b =
     ∙ byte_more ((0 * 256 + x) * 256 + y) z (w ∷ []) (b 3) ∙ byte_more (((0 * 256 + x) * 256 + y) * 256 + z) w [] (b 4)
     ∙ regroup x y z w
   where
-    regroup : (x y z w : ℕ) → (((0 * 256 + x) * 256 + y) * 256 + z) * 256 + w ≡ (x * 256 + y) * 65536 + (z * 256 + w)
+    regroup : (x y z w : ℕ) → (((0 * 256 + x) * 256 + y) * 256 + z) * 256 + w ≡ from_be_bytes w32 (x ∷ y ∷ z ∷ w ∷ [])
     regroup x y z w = omega arith
 
 -- the version

@@ -1,12 +1,11 @@
 -- How data are packed behind the order's last whole byte: rows cut short, with zeros behind them. Assumes nothing.
 use mathlib.Core.Path.{◌≡◌, refl, ap, ap₂, sym, ◌∙◌}
 use mathlib.Core.Bool.{false}
-use mathlib.Core.List.{List, [], ◌∷◌, ◌++◌, append_assoc}
+use mathlib.Core.List.{List, [], ◌∷◌, ◌++◌}
 use Prim.Native.Nat.{ℕ, zero, suc, ◌+◌, ◌-◌, ◌*◌, ◌/◌, ◌%◌, ◌≤◌, ◌<◌}
-use native.Mathlib.Numerals.{add-one}
 use native.Mathlib.Omega.{arith}
 use lib.ListN.{length, get_or, set, take, drop, replicate, length-drop, length-replicate, drop_of_length-le, replicate-append-replicate}
-use lib.Seq.{length-take-le, take-add, take-suc, take-append-le, take-append-add, drop_at, drop-cons, get_or-drop, set_at, take_at}
+use lib.Seq.{length-take-le, take-add, take-append-le, take-append-add, drop_at, drop-cons, get_or-drop, set_at, take_at}
 use Rattle.crc.specs.Bits.{Bits, binary, bits_of, bytes_of, number, zeros}
 use Rattle.crc.proofs.Rows.{length-binary, binary-zero}
 use Rattle.crc.proofs.Bytes.{length-bits_of, drop-bits_of, drop_bytes, packed_front, bytes_of-append}
@@ -45,16 +44,6 @@ drop-take a b l h g =
     let e : b ≡ a + (b - a) = omega arith in
     ap (λ (n : ℕ). drop a (take n l)) e ∙ ap (drop a) (take-add a (b - a) l)
     ∙ drop_at (take a l) (take (b - a) (drop a l)) a (length-take-le a l (omega arith))
-
--- one byte more copied over zeros
-pub copied : (j : ℕ) (s : List ℕ) (n : ℕ) → j < length s → j < n
-    → set (take j s ++ replicate (n - j) 0) j (get_or s j 0) ≡ take (j + 1) s ++ replicate (n - (j + 1)) 0
-copied j s n h g =
-    let e : n - j ≡ suc (n - (j + 1)) = omega arith in
-    ap (λ (z : ℕ). set (take j s ++ replicate z 0) j (get_or s j 0)) e
-    ∙ set_at (take j s) 0 (replicate (n - (j + 1)) 0) (get_or s j 0) j (length-take-le j s (omega arith))
-    ∙ sym (append_assoc (take j s) (get_or s j 0 ∷ []) (replicate (n - (j + 1)) 0))
-    ∙ ap (λ (l : List ℕ). l ++ replicate (n - (j + 1)) 0) (sym (ap (λ (z : ℕ). take z s) (add-one j) ∙ take-suc s j 0 h))
 
 -- the byte behind the copied ones
 pub written : (m : ℕ) (s : List ℕ) (n v : ℕ) → m ≤ length s → m < n

@@ -9,7 +9,7 @@ use native.Mathlib.Omega.{arith}
 use borrow.Author.Tests.{leb-true, ltb-false, eqb-false, le-leb, not-false}
 use lib.Dec.{eqb, leb, ltb}
 use lib.ListN.{length}
-use Rattle.std.specs.Prelude.{Option, Ok, Err}
+use Rattle.std.specs.Prelude.{Option, Result, Ok, Err}
 use Rattle.block.specs.Answer as A
 use Rattle.line.specs.Refusals as Refusals
 use Rattle.line.specs.Refusals.{refusal_number}
@@ -21,7 +21,7 @@ use Rattle.line.specs.Marks.{marks_of, marks_in_range}
 use Rattle.line.specs.Order.{longest_order, valid_length, item_count}
 use Rattle.line.specs.Sending.{fresh_sender, unless_refused, open_sender, OpenSender, Block, transmit, sender_items, at_last, last_run, sender_in_range, gave_up, send, send_state, send_bytes, sent_answer, Send}
 use Rattle.line.specs.SendCalls.{SendCalls, none, call}
-use Rattle.line.specs.Code.SendSteps.{GoingOn, Sends}
+use Rattle.line.specs.Code.SendSteps.{Lent, judged, Sends}
 use Rattle.line.specs.declared.marks.Marks.{Marks}
 use Rattle.line.specs.declared.sender.Sender.{Sender}
 use Rattle.line.specs.declared.sender.Next.{Next}
@@ -255,31 +255,53 @@ module _ (s : Sender) (order : List ℕ) (reading : Bool) (slice : List ℕ) whe
         writes = q.writes ∙ ap (send_bytes s order slice) (sym e);
       }
 
-  pub spoiled-call : sender_in_range s ≡ false → send s order reading slice ≡ refused A.spoiled
+-- a call's tests, and what it answers by them
+module _ (spoiled rest short : Bool) where
+  abbrev tests : Result (Unit {0}) Refusal
+  tests = cond spoiled (Err R.Spoiled) (cond rest (Err R.Rest) (cond short (Err R.Short) (Ok tt)))
+
+  abbrev answer : Block → Answer Block
+  answer b = refuse_if spoiled A.spoiled (refuse_if rest Refusals.rest (refuse_if short A.short (done b)))
+
+same : (r s : Refusal) → ◌≡◌ {A = Result (Unit {0}) Refusal} (Err r) (Err s) → (n : ℕ) → refusal_number r ≡ n
+    → ◌≡◌ {A = Answer Block} (refused n) (refused (refusal_number s))
+same r s e n f = let d : r ≡ s = cc in ap refused (sym f ∙ ap refusal_number d)
+
+refuses : (spoiled rest short : Bool) (b : Block) (r : Refusal) → tests spoiled rest short ≡ Err r
+    → answer spoiled rest short b ≡ refused (refusal_number r)
+refuses true rest short b r e = same R.Spoiled r e A.spoiled refl
+refuses false true short b r e = same R.Rest r e Refusals.rest refl
+refuses false false true b r e = same R.Short r e A.short refl
+refuses false false false b r e = absurd (let z : ◌≡◌ {A = ℕ} 0 1 = cc in omega arith)
+
+passes : (spoiled rest short : Bool) (u : Unit {0}) → tests spoiled rest short ≡ Ok u
+    → (spoiled ≡ false) × (rest ≡ false) × (short ≡ false)
+passes true rest short u e = absurd (let z : ◌≡◌ {A = ℕ} 0 1 = cc in omega arith)
+passes false true short u e = absurd (let z : ◌≡◌ {A = ℕ} 0 1 = cc in omega arith)
+passes false false true u e = absurd (let z : ◌≡◌ {A = ℕ} 0 1 = cc in omega arith)
+passes false false false u e = (refl, refl, refl)
+
+module _ (s : Sender) (order : List ℕ) (reading : Bool) (slice : List ℕ) where
+  pub judged_refused : (r : Refusal) → judged s order slice ≡ Err r → send s order reading slice ≡ refused (refusal_number r)
   unfolding send
-  spoiled-call h = simp h
+  judged_refused r e = refuses _ _ _ _ r e
 
-  module _ (h : sender_in_range s ≡ true) where
-    pub rest-call : s.finished || gave_up s ≡ true → send s order reading slice ≡ refused Refusals.rest
+  module _ (e : judged s order slice ≡ Ok tt) where
+    tested : (not (sender_in_range s) ≡ false) × (s.finished || gave_up s ≡ false)
+        × (too_short order s.setup.length || too_short slice (block_length s.setup.k) ≡ false)
+    tested = passes _ _ _ tt e
+
+    pub judged_lent : Lent s order slice
+    judged_lent =
+        let h = not-false (sender_in_range s) tested.0 in
+        let n = eqb-false s.run last_run (or-false s.finished (gave_up s) tested.1).1 in
+        let l = or-false (too_short order s.setup.length) (too_short slice (block_length s.setup.k)) tested.2 in
+        record {
+          sender = record { range = h; run = omega (arith, (in_range s h).cancels) };
+          order_lent = ltb-false (8 * length order) s.setup.length l.0;
+          room = ltb-false (8 * length slice) (block_length s.setup.k) l.1;
+        }
+
+    pub judged_sends : send s order reading slice ≡ done (transmit s s.next reading).block
     unfolding send
-    rest-call r = simp (h, r)
-
-    module _ (r : s.finished || gave_up s ≡ false) where
-      pub goes_on : GoingOn s
-      goes_on =
-          let n = eqb-false s.run last_run (or-false s.finished (gave_up s) r).1 in
-          record { range = h; run = omega (arith, (in_range s h).cancels) }
-
-      pub order_call : too_short order s.setup.length ≡ true → send s order reading slice ≡ refused A.short
-      unfolding send
-      order_call t = simp (h, r, t)
-
-      pub slice_call : too_short order s.setup.length ≡ false → too_short slice (block_length s.setup.k) ≡ true
-          → send s order reading slice ≡ refused A.short
-      unfolding send
-      slice_call t u = simp (h, r, t, u)
-
-      pub going_call : too_short order s.setup.length ≡ false → too_short slice (block_length s.setup.k) ≡ false
-          → send s order reading slice ≡ done (transmit s s.next reading).block
-      unfolding send
-      going_call t u = simp (h, r, t, u)
+    judged_sends = simp (tested.0, tested.1, tested.2)

@@ -57,6 +57,7 @@ impl Marks {
 }
 
 // The mark of a code size.
+#[tactic(auto, unfolding(crate::specs::Marks::mark))]
 pub(crate) fn mark(size: u8) -> u8
     ensures { result ≡ mark size }
 {

@@ -1,18 +1,20 @@
 // The order as items: their number, letters, data and blocks.
 ghost use Rattle.std.specs.Prelude.{◌≡◌, true, ◌++◌, ◌+◌, ◌-◌, ◌*◌, ◌≤◌, ◌<◌, length, take, drop};
 ghost use Rattle.crc.specs.Bits.{binary, bits_of, bytes_of, number, zeros};
-ghost use Rattle.block.specs.Lengths.{is_length, block_length, block_bytes};
+ghost use Rattle.block.specs.Lengths.{block_bytes};
 ghost use Rattle.block.specs.Block.{block_bits};
 ghost use Rattle.block.specs.Calls.{overwritten};
-ghost use Rattle.line.specs.Order.{longest_order, valid_length, item_count, letter, end_service, data_service, order_bits, end_payload, item_bits};
+ghost use Rattle.line.specs.Order.{longest_order, item_count, letter, end_service, data_service, order_bits, end_payload, item_bits};
+ghost use Rattle.line.specs.Code.SendSteps.{Writable};
 
 use crate::marks::{Marks, mark};
+use crate::sender::Setup;
 use block::packed;
 
 // The longest order in bits.
 pub const LONGEST_ORDER: usize = 262144;
 
-// The most data items that an order makes: those of the longest at the shortest k.
+// The most data items that an order makes: those of the longest at the shortest k. A constant's value can't call `div_ceil`.
 pub(crate) const MOST_ITEMS: usize = (LONGEST_ORDER + 239) / 240;
 
 pub(crate) const LETTER_A: u8 = 0b0011;
@@ -27,27 +29,15 @@ pub(crate) const END: u8 = 0b1000;
 pub(crate) const VERSION: u8 = 1;
 
 // The number of data items that these bits make, 0 if k is 0.
+#[tactic(auto, unfolding(crate::specs::Order::item_count))]
 pub fn item_count(k: usize, bits: usize) -> usize
     ensures { result ≡ item_count k bits }
 {
-    if k == 0 {
-        return 0;
-    }
-    if bits == 0 {
-        return 0;
-    }
-    (bits - 1) / k + 1
-}
-
-// The same of an order as both ends judge it: the sum fits, and nothing is left to test.
-pub(crate) fn order_items(k: usize, bits: usize) -> usize
-    requires { (is_length k ≡ true) × (bits ≤ longest_order) }
-    ensures { result ≡ item_count k bits }
-{
-    (bits + k - 1) / k
+    if k == 0 { 0 } else { bits.div_ceil(k) }
 }
 
 // The letter of item i.
+#[tactic(auto, unfolding(crate::specs::Order::letter))]
 pub(crate) fn letter(i: usize) -> u8
     ensures { result ≡ letter i }
 {
@@ -59,16 +49,17 @@ pub(crate) fn letter(i: usize) -> u8
 }
 
 // The service bits of data item i.
+#[tactic(auto, unfolding(crate::specs::Order::data_service))]
 fn data_service(marks: Marks, i: usize) -> u8
     ensures { result ≡ data_service marks i }
 {
     if !marks.in_use {
-        return letter(i);
+        letter(i)
+    } else if i == 0 {
+        mark(marks.size)
+    } else {
+        letter(i - 1)
     }
-    if i == 0 {
-        return mark(marks.size);
-    }
-    letter(i - 1)
 }
 
 // The first count bits of a byte, zeros behind them.
@@ -86,11 +77,7 @@ fn last_data(order: &[u8], bits: usize, start: usize) -> [u8; 480]
 {
     let mut payload = [0u8; 480];
     let whole = bits / 8 - start;
-    let mut j = 0;
-    while j < whole {
-        payload[j] = order[start + j];
-        j += 1;
-    }
+    payload[..whole].copy_from_slice(&order[start..start + whole]);
     let rest = bits % 8;
     if 0 < rest {
         payload[whole] = keep_first(order[start + whole], rest);
@@ -105,61 +92,65 @@ fn end_data(bits: usize) -> [u8; 480]
 {
     let mut payload = [0u8; 480];
     payload[0] = VERSION;
-    payload[1] = (bits >> 24 & 255) as u8;
-    payload[2] = (bits >> 16 & 255) as u8;
-    payload[3] = (bits >> 8 & 255) as u8;
-    payload[4] = (bits & 255) as u8;
+    payload[1..5].copy_from_slice(&(bits as u32).to_be_bytes());
     payload
 }
 
-// An end block over the first bytes of block.
-fn write_end(k: usize, bits: usize, block: &mut [u8])
-    requires { (is_length k ≡ true) × (bits ≤ longest_order) × (block_length k ≤ 8 * length block.old) }
-    ensures { block.new ≡ overwritten (block_bytes k) (block_bits (binary 4 end_service) (end_payload k bits)) block.old }
-{
-    let payload = end_data(bits);
-    packed::build(k / 8, END, &payload, block).unwrap();
-}
-
-// Item i, whose data are all of the order, under these service bits over the first bytes of block.
-fn write_whole(k: usize, i: usize, service: u8, order: &[u8], block: &mut [u8])
-    requires { (is_length k ≡ true) × (i * k + k ≤ 8 * length order.now) × (block_length k ≤ 8 * length block.old) × (service < 16) }
-    ensures { block.new ≡ overwritten (block_bytes k) (block_bits (binary 4 service) (take k (drop (i * k) (bits_of order.now)))) block.old }
-{
-    let start = i * (k / 8);
-    let end = start + k / 8;
-    packed::build(k / 8, service, &order[start..end], block).unwrap();
-}
-
-// Item i, the order's last bits and the filling behind them, under these service bits over the first bytes of block.
-fn write_last(k: usize, bits: usize, i: usize, service: u8, order: &[u8], block: &mut [u8])
-    requires { (is_length k ≡ true) × (i * k ≤ bits) × (bits ≤ i * k + k) × (bits ≤ 8 * length order.now) × (block_length k ≤ 8 * length block.old) × (service < 16) }
-    ensures { block.new ≡ overwritten (block_bytes k) (block_bits (binary 4 service) (drop (i * k) (order_bits bits order.now) ++ zeros (i * k + k - bits))) block.old }
-{
-    let payload = last_data(order, bits, i * (k / 8));
-    packed::build(k / 8, service, &payload, block).unwrap();
-}
-
-// Item i over the first bytes of block.
-pub(crate) fn write_item(
-    marks: Marks,
-    k: usize,
-    bits: usize,
-    i: usize,
-    order: &[u8],
-    block: &mut [u8],
-)
-    requires { (is_length k ≡ true) × (valid_length bits ≡ true) × (bits ≤ 8 * length order.now) × (block_length k ≤ 8 * length block.old) }
-    ensures { block.new ≡ overwritten (block_bytes k) (item_bits marks k bits (order_bits bits order.now) i) block.old }
-{
-    if order_items(k, bits) <= i {
-        write_end(k, bits, block);
-        return;
+impl Setup {
+    // The number of the order's data items.
+    pub(crate) fn items(self) -> usize
+        ensures { result ≡ item_count self.k self.length }
+    {
+        item_count(self.k, self.length)
     }
-    let service = data_service(marks, i);
-    if bits / k <= i {
-        write_last(k, bits, i, service, order, block);
-        return;
+
+    // These service bits and data, with their check bits, over the first bytes of block.
+    fn build(self, service: u8, payload: &[u8], block: &mut [u8])
+        requires { (Writable self block.old) × (service < 16) × (self.k ≤ 8 * length payload.now) }
+        ensures { block.new ≡ overwritten (block_bytes self.k) (block_bits (binary 4 service) (take self.k (bits_of payload.now))) block.old }
+    {
+        packed::build(self.k / 8, service, payload, block).unwrap();
     }
-    write_whole(k, i, service, order, block);
+
+    // An end block over the first bytes of block.
+    fn write_end(self, block: &mut [u8])
+        requires { Writable self block.old }
+        ensures { block.new ≡ overwritten (block_bytes self.k) (block_bits (binary 4 end_service) (end_payload self.k self.length)) block.old }
+    {
+        let payload = end_data(self.length);
+        self.build(END, &payload, block);
+    }
+
+    // Item i, whose data are all of the order, over the first bytes of block.
+    fn write_whole(self, i: usize, order: &[u8], block: &mut [u8])
+        requires { (Writable self block.old) × (i * self.k + self.k ≤ 8 * length order.now) }
+        ensures { block.new ≡ overwritten (block_bytes self.k) (block_bits (binary 4 (data_service self.marks i)) (take self.k (drop (i * self.k) (bits_of order.now)))) block.old }
+    {
+        let start = i * (self.k / 8);
+        let end = start + self.k / 8;
+        self.build(data_service(self.marks, i), &order[start..end], block);
+    }
+
+    // Item i, the order's last bits and the filling behind them, over the first bytes of block.
+    fn write_last(self, i: usize, order: &[u8], block: &mut [u8])
+        requires { (Writable self block.old) × (i * self.k ≤ self.length) × (self.length ≤ i * self.k + self.k) × (self.length ≤ 8 * length order.now) }
+        ensures { block.new ≡ overwritten (block_bytes self.k) (block_bits (binary 4 (data_service self.marks i)) (drop (i * self.k) (order_bits self.length order.now) ++ zeros (i * self.k + self.k - self.length))) block.old }
+    {
+        let payload = last_data(order, self.length, i * (self.k / 8));
+        self.build(data_service(self.marks, i), &payload, block);
+    }
+
+    // Item i over the first bytes of block.
+    pub(crate) fn write_item(self, i: usize, order: &[u8], block: &mut [u8])
+        requires { (Writable self block.old) × (self.length ≤ 8 * length order.now) }
+        ensures { block.new ≡ overwritten (block_bytes self.k) (item_bits self.marks self.k self.length (order_bits self.length order.now) i) block.old }
+    {
+        if self.items() <= i {
+            self.write_end(block);
+        } else if self.length / self.k <= i {
+            self.write_last(i, order, block);
+        } else {
+            self.write_whole(i, order, block);
+        }
+    }
 }

@@ -42,6 +42,7 @@ pub struct Opened {
 
 impl Receiver {
     // In search, with return bit 1.
+    #[tactic(auto, unfolding(crate::specs::Receiving::fresh_receiver, crate::specs::Receiving::zero_array))]
     fn fresh(k: usize, marks: Marks) -> Receiver
         ensures { result ≡ fresh_receiver k marks }
     {

@@ -1,4 +1,5 @@
-// What both forms of the receiving end are made of: the phase, what opening fixes, the events and the answer.
+// What both forms of the receiving end are made of: the phase, what opening fixes, the bits lent, the events and the answer.
+ghost use Rattle.std.specs.Prelude.{◌*◌, ◌≤◌, length};
 
 use crate::marks::Marks;
 
@@ -18,6 +19,14 @@ pub enum Phase {
 pub struct Setup {
     pub k: usize,
     pub marks: Marks,
+}
+
+// The first bits of a line's bytes.
+#[derive(Clone, Copy)]
+pub(crate) struct Line<'a> {
+    pub bytes: &'a [u8],
+    pub bits: usize,
+    ghost held: { bits ≤ 8 * length bytes.now },
 }
 
 // An event of its own where a call used all bits: order_line_receive answers it with a number, and theorems name it.

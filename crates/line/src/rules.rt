@@ -7,9 +7,10 @@ ghost use Rattle.line.specs.Order.{longest_order, most_items, is_letter};
 ghost use Rattle.line.specs.Receiving.{or_wait, looks_sync, is_of, place, place_rule, makes_items, end_rule, mark_rule, service_rule};
 ghost use Rattle.line.specs.Code.ReceiveSteps.{rule_of};
 
+use crate::head::Checked;
 use crate::marks::is_mark;
 use crate::order::{
-    END, LETTER_A, LETTER_B, LETTER_C, LONGEST_ORDER, MOST_ITEMS, VERSION, letter, order_items,
+    END, LETTER_A, LETTER_B, LETTER_C, LONGEST_ORDER, MOST_ITEMS, VERSION, item_count, letter,
 };
 use block::{SEQUENCE, SYNC};
 
@@ -32,159 +33,130 @@ impl Rule {
     pub(crate) fn or_wait(self, ready: bool) -> Rule
         ensures { rule_of result ≡ or_wait ready (rule_of self) }
     {
-        if ready {
-            return self;
-        }
         match self {
-            Rule::Accepts | Rule::Ends(_) => Rule::Waits,
+            Rule::Accepts | Rule::Ends(_) if !ready => Rule::Waits,
             _ => self,
         }
     }
 }
 
-// Rule 1: first four bits 0101, last sixteen the sequence.
-pub(crate) fn looks_sync(k: usize, row: &[u8]) -> bool
-    requires { (is_length k ≡ true) × (block_length k ≤ 8 * length row.now) }
-    ensures { result ≡ looks_sync k (take (block_length k) (bits_of row.now)) }
-{
-    if row[0] >> 4 != SYNC {
-        return false;
-    }
-    let m = k / 8;
-    block::received_check(row[m], row[m + 1], row[m + 2]) == SEQUENCE
-}
-
+#[tactic(auto, unfolding(crate::specs::Order::is_letter))]
 fn is_letter(service: u8) -> bool
     ensures { result ≡ is_letter service }
 {
-    match service {
-        LETTER_A | LETTER_B | LETTER_C => true,
-        _ => false,
-    }
-}
-
-// The service bits of item i; with marks any of the four is item 0's.
-fn is_of(in_use: bool, i: usize, service: u8) -> bool
-    ensures { result ≡ is_of in_use i service }
-{
-    if !in_use {
-        return service == letter(i);
-    }
-    if i == 0 {
-        return is_mark(service);
-    }
-    service == letter(i - 1)
-}
-
-// The service bits of the item before.
-fn is_last(in_use: bool, taken: usize, service: u8) -> bool
-    ensures { result ≡ (leb 1 taken && is_of in_use (taken - 1) service) }
-{
-    if taken == 0 {
-        return false;
-    }
-    is_of(in_use, taken - 1, service)
-}
-
-// A letter or a mark, the end not taken.
-fn place_rule(in_use: bool, taken: usize, service: u8) -> Rule
-    requires { taken ≤ most_items }
-    ensures { rule_of result ≡ place_rule taken (place in_use taken service) }
-{
-    if is_of(in_use, taken, service) {
-        if taken < MOST_ITEMS {
-            return Rule::Accepts;
-        }
-        return Rule::AnythingElse;
-    }
-    if is_last(in_use, taken, service) {
-        return Rule::Previous;
-    }
-    if is_of(in_use, taken + 1, service) {
-        return Rule::OutOfSequence;
-    }
-    Rule::AnythingElse
+    matches!(service, LETTER_A | LETTER_B | LETTER_C)
 }
 
 // The length that an end block's data give.
-fn end_length(payload: &[u8]) -> usize
-    requires { 5 ≤ length payload.now }
+fn end_length(payload: &[u8; 5]) -> usize
     ensures { result ≡ number (take 32 (drop 8 (bits_of payload.now))) }
 {
-    let high = (payload[1] as usize) * 256 + (payload[2] as usize);
-    let low = (payload[3] as usize) * 256 + (payload[4] as usize);
-    high * 65536 + low
+    u32::from_be_bytes([payload[1], payload[2], payload[3], payload[4]]) as usize
 }
 
-fn makes_items(k: usize, bits: usize, taken: usize) -> bool
-    requires { (is_length k ≡ true) × (bits ≤ longest_order) }
-    ensures { result ≡ makes_items k bits taken }
-{
-    order_items(k, bits) == taken
-}
+impl Checked {
+    // The service bits of item i; with marks any of the four is item 0's.
+    #[tactic(auto, unfolding(crate::specs::Receiving::is_of))]
+    fn is_of(self, i: usize, service: u8) -> bool
+        ensures { result ≡ is_of self.head.setup.marks.in_use i service }
+    {
+        if !self.head.setup.marks.in_use {
+            return service == letter(i);
+        }
+        if i == 0 {
+            return is_mark(service);
+        }
+        service == letter(i - 1)
+    }
 
-fn end_rule(k: usize, taken: usize, ended: bool, payload: &[u8]) -> Rule
-    requires { (is_length k ≡ true) × (5 ≤ length payload.now) }
-    ensures { rule_of result ≡ end_rule k taken ended (bits_of payload.now) }
-{
-    if ended {
-        return Rule::EndsAgain;
+    // The service bits of the item before.
+    fn is_last(self, service: u8) -> bool
+        ensures { result ≡ (leb 1 self.head.taken && is_of self.head.setup.marks.in_use (self.head.taken - 1) service) }
+    {
+        self.head.taken != 0 && self.is_of(self.head.taken - 1, service)
     }
-    if payload[0] != VERSION {
-        return Rule::WrongLength;
-    }
-    let bits = end_length(payload);
-    if bits == 0 {
-        return Rule::WrongLength;
-    }
-    if LONGEST_ORDER < bits {
-        return Rule::WrongLength;
-    }
-    if makes_items(k, bits, taken) {
-        return Rule::Ends(bits);
-    }
-    Rule::WrongLength
-}
 
-// No letter and no end block.
-fn mark_rule(in_use: bool, taken: usize, ended: bool, service: u8) -> Rule
-    requires { taken ≤ most_items }
-    ensures { rule_of result ≡ mark_rule in_use taken ended service }
-{
-    if !in_use {
-        return Rule::AnythingElse;
-    }
-    if !is_mark(service) {
-        return Rule::AnythingElse;
-    }
-    if ended {
-        return Rule::AnythingElse;
-    }
-    place_rule(in_use, taken, service)
-}
-
-// By the service bits; of an end block's data the version and the length are moved out.
-pub(crate) fn service_rule(
-    in_use: bool,
-    k: usize,
-    taken: usize,
-    ended: bool,
-    service: u8,
-    row: &[u8],
-) -> Rule
-    requires { (is_length k ≡ true) × (taken ≤ most_items) × (block_length k ≤ 8 * length row.now) }
-    ensures { rule_of result ≡ service_rule in_use k taken ended service (payload_of k (take (block_length k) (bits_of row.now))) }
-{
-    if is_letter(service) {
-        if ended {
+    // A letter or a mark, the end not taken.
+    #[tactic(auto, unfolding(crate::specs::Receiving::place))]
+    fn place_rule(self, service: u8) -> Rule
+        ensures { rule_of result ≡ place_rule self.head.taken (place self.head.setup.marks.in_use self.head.taken service) }
+    {
+        let taken = self.head.taken;
+        if self.is_of(taken, service) {
+            if taken < MOST_ITEMS {
+                return Rule::Accepts;
+            }
+            return Rule::AnythingElse;
+        }
+        if self.is_last(service) {
+            return Rule::Previous;
+        }
+        if self.is_of(taken + 1, service) {
             return Rule::OutOfSequence;
         }
-        return place_rule(in_use, taken, service);
+        Rule::AnythingElse
     }
-    if service == END {
-        let mut payload = [0u8; 5];
-        block::move_data(5, row, &mut payload).unwrap();
-        return end_rule(k, taken, ended, &payload);
+
+    fn makes_items(self, bits: usize) -> bool
+        requires { bits ≤ longest_order }
+        ensures { result ≡ makes_items self.head.setup.k bits self.head.taken }
+    {
+        item_count(self.head.setup.k, bits) == self.head.taken
     }
-    mark_rule(in_use, taken, ended, service)
+
+    #[tactic(auto, unfolding(crate::specs::Receiving::end_rule))]
+    fn end_rule(self, payload: &[u8; 5]) -> Rule
+        ensures { rule_of result ≡ end_rule self.head.setup.k self.head.taken self.head.ended (bits_of payload.now) }
+    {
+        if self.head.ended {
+            return Rule::EndsAgain;
+        }
+        if payload[0] != VERSION {
+            return Rule::WrongLength;
+        }
+        let bits = end_length(payload);
+        if bits != 0 && bits <= LONGEST_ORDER && self.makes_items(bits) {
+            return Rule::Ends(bits);
+        }
+        Rule::WrongLength
+    }
+
+    // No letter and no end block.
+    #[tactic(auto, unfolding(crate::specs::Receiving::mark_rule))]
+    fn mark_rule(self, service: u8) -> Rule
+        ensures { rule_of result ≡ mark_rule self.head.setup.marks.in_use self.head.taken self.head.ended service }
+    {
+        if self.head.setup.marks.in_use && is_mark(service) && !self.head.ended {
+            return self.place_rule(service);
+        }
+        Rule::AnythingElse
+    }
+
+    // Rule 1: first four bits 0101, last sixteen the sequence.
+    pub(crate) fn looks_sync(self, row: &[u8]) -> bool
+        requires { block_length self.head.setup.k ≤ 8 * length row.now }
+        ensures { result ≡ looks_sync self.head.setup.k (take (block_length self.head.setup.k) (bits_of row.now)) }
+    {
+        let m = self.head.setup.k / 8;
+        row[0] >> 4 == SYNC && block::received_check(row[m], row[m + 1], row[m + 2]) == SEQUENCE
+    }
+
+    // By the service bits; of an end block's data the version and the length are moved out.
+    pub(crate) fn service_rule(self, service: u8, row: &[u8]) -> Rule
+        requires { block_length self.head.setup.k ≤ 8 * length row.now }
+        ensures { rule_of result ≡ service_rule self.head.setup.marks.in_use self.head.setup.k self.head.taken self.head.ended service (payload_of self.head.setup.k (take (block_length self.head.setup.k) (bits_of row.now))) }
+    {
+        if is_letter(service) {
+            if self.head.ended {
+                return Rule::OutOfSequence;
+            }
+            return self.place_rule(service);
+        }
+        if service == END {
+            let mut payload = [0u8; 5];
+            block::move_data(5, row, &mut payload).unwrap();
+            return self.end_rule(&payload);
+        }
+        self.mark_rule(service)
+    }
 }

@@ -2,12 +2,12 @@
 ghost use Rattle.std.specs.Prelude.{◌≡◌, Bool, ◌||◌, List, ℕ, ◌*◌, ◌≤◌, length};
 ghost use Rattle.block.specs.Lengths.{block_length};
 ghost use Rattle.line.specs.Sending.{confirmed, repeated, item_block, sender_in_range, gave_up, sent_block, OpenSender, Send};
-ghost use Rattle.line.specs.Code.SendSteps.{GoingOn, Lent, Sends};
+ghost use Rattle.line.specs.Code.SendSteps.{GoingOn, Lent, judged, Sends};
 
 use crate::Refusal;
 use crate::loop_time::loop_time;
 use crate::marks::Marks;
-use crate::order::{LONGEST_ORDER, order_items, write_item};
+use crate::order::LONGEST_ORDER;
 use block::{OVERHEAD, packed, too_short};
 
 // The run of cancels at which a synchronising block comes before the repeat, and at which the sender gives up.
@@ -98,31 +98,16 @@ impl Sender {
     }
 
     // Every field within its range.
+    #[tactic(auto, using(crate::proofs::Items::item_count_fits), unfolding(crate::specs::Sending::sender_in_range, crate::specs::Order::valid_length))]
     fn in_range(self) -> bool
         ensures { result ≡ sender_in_range self }
     {
         let setup = self.setup;
-        let k = setup.k;
-        let length = setup.length;
-        if !block::known_length(k) {
-            return false;
-        }
-        if length == 0 {
-            return false;
-        }
-        if LONGEST_ORDER < length {
-            return false;
-        }
-        if !setup.marks.in_range() {
-            return false;
-        }
-        if self.newer == 0 {
-            return false;
-        }
-        if order_items(k, length) + 1 < self.newer {
-            return false;
-        }
-        self.run <= LAST_RUN
+        block::known_length(setup.k)
+            && (1..=LONGEST_ORDER).contains(&setup.length)
+            && setup.marks.in_range()
+            && (1..=setup.items() + 1).contains(&self.newer)
+            && self.run <= LAST_RUN
     }
 
     // Finished or given up.
@@ -133,26 +118,18 @@ impl Sender {
     }
 
     // Reading 0 of the newer item: the pair moves up by one, or the sender is finished.
+    #[tactic(auto, using(crate::proofs::Items::item_count_fits), unfolding(crate::specs::Sending::sender_in_range, crate::specs::Order::valid_length))]
     fn confirmed(self) -> Sender
         requires { GoingOn self }
         ensures { result ≡ confirmed self }
     {
-        let setup = self.setup;
-        if self.newer == order_items(setup.k, setup.length) + 1 {
-            return Sender {
-                run: 0,
-                opening: false,
-                next: Next::Newer,
-                finished: true,
-                ..self
-            };
-        }
+        let finished = self.newer == self.setup.items() + 1;
         Sender {
-            newer: self.newer + 1,
+            newer: if finished { self.newer } else { self.newer + 1 },
             run: 0,
             opening: false,
             next: Next::Newer,
-            finished: false,
+            finished,
             ..self
         }
     }
@@ -163,25 +140,12 @@ impl Sender {
         ensures { result ≡ repeated self }
     {
         let run = self.run + 1;
-        if self.opening {
-            return Sender {
-                run,
-                next: Next::Sync,
-                ..self
-            };
-        }
-        if SYNC_RUN <= run {
-            return Sender {
-                run,
-                next: Next::Sync,
-                ..self
-            };
-        }
-        Sender {
-            run,
-            next: Next::Older,
-            ..self
-        }
+        let next = if self.opening || SYNC_RUN <= run {
+            Next::Sync
+        } else {
+            Next::Older
+        };
+        Sender { run, next, ..self }
     }
 
     // What a call says of the item that it sent.
@@ -189,10 +153,9 @@ impl Sender {
         requires { GoingOn self }
         ensures { sent_block result ≡ item_block self number used cancelled }
     {
-        let setup = self.setup;
         Sent::Item {
             number,
-            end: order_items(setup.k, setup.length) <= number,
+            end: self.setup.items() <= number,
             used,
             cancelled,
         }
@@ -203,8 +166,7 @@ impl Sender {
         requires { (GoingOn self) × (block_length self.setup.k ≤ 8 * length block.old) }
         ensures { (order : List ℕ) (reading : Bool) → Sends self Next.Sync reading order block.old result block.new }
     {
-        let setup = self.setup;
-        packed::synchronising(setup.k / 8, block).unwrap();
+        packed::synchronising(self.setup.k / 8, block).unwrap();
         Step {
             state: Sender {
                 next: Next::Older,
@@ -219,9 +181,8 @@ impl Sender {
         requires { Lent self order.now block.old }
         ensures { (reading : Bool) → Sends self Next.Older reading order.now block.old result block.new }
     {
-        let setup = self.setup;
         let older = self.newer - 1;
-        write_item(setup.marks, setup.k, setup.length, older, order, block);
+        self.setup.write_item(older, order, block);
         Step {
             state: Sender {
                 next: Next::Newer,
@@ -236,11 +197,10 @@ impl Sender {
         requires { Lent self order.now block.old }
         ensures { Sends self Next.Newer reading order.now block.old result block.new }
     {
-        let setup = self.setup;
         let newer = self.newer;
-        write_item(setup.marks, setup.k, setup.length, newer, order, block);
+        self.setup.write_item(newer, order, block);
         if reading {
-            packed::cancel(setup.k / 8, block).unwrap();
+            packed::cancel(self.setup.k / 8, block).unwrap();
             return Step {
                 state: self.repeated(),
                 answer: Ok(self.item(newer, true, true)),
@@ -252,37 +212,34 @@ impl Sender {
         }
     }
 
+    // Whether a call sends, lent this order and this slice for the block.
+    #[tactic(auto, unfolding(crate::specs::Sending::sender_in_range, block::specs::Lengths::is_length))]
+    fn judge(self, order: &[u8], block: &[u8]) -> Result<(), Refusal>
+        ensures { result ≡ judged self order.now block.now }
+    {
+        if !self.in_range() {
+            return Err(Refusal::Spoiled);
+        }
+        if self.at_rest() {
+            return Err(Refusal::Rest);
+        }
+        if too_short(order, self.setup.length) || too_short(block, self.setup.k + OVERHEAD) {
+            return Err(Refusal::Short);
+        }
+        Ok(())
+    }
+
     // One block into block, on one reading of the return channel.
     pub fn send(self, order: &[u8], reading: bool, block: &mut [u8]) -> Step
         ensures { Send self order.now reading block.old result block.new }
     {
-        if !self.in_range() {
+        if let Err(refusal) = self.judge(order, block) {
             return Step {
                 state: self,
-                answer: Err(Refusal::Spoiled),
+                answer: Err(refusal),
             };
         }
-        if self.at_rest() {
-            return Step {
-                state: self,
-                answer: Err(Refusal::Rest),
-            };
-        }
-        let setup = self.setup;
-        if too_short(order, setup.length) {
-            return Step {
-                state: self,
-                answer: Err(Refusal::Short),
-            };
-        }
-        if too_short(block, setup.k + OVERHEAD) {
-            return Step {
-                state: self,
-                answer: Err(Refusal::Short),
-            };
-        }
-        let next = self.next;
-        match next {
+        match self.next {
             Next::Sync => self.send_sync(block),
             Next::Older => self.send_older(order, block),
             Next::Newer => self.send_newer(order, reading, block),

@@ -28,7 +28,8 @@ use Rattle.line.specs.declared.receiver.Receiver.{Receiver}
 use Rattle.line.specs.declared.receiving.Event.{Event}
 use Rattle.line.specs.declared.receiving.Event.TheVariants as E
 use Rattle.tint.specs.Refusals as Tint
-use Rattle.tint.specs.Format.{Dose, order_bytes, doses_in, is_format, canisters, most_total, in_range_and_order, total, judge_doses}
+use Rattle.tint.specs.Format.{order_bytes, doses_in, is_format, canisters, most_total, in_range_and_order, total, judge_doses}
+use Rattle.tint.specs.declared.Dose.{Dose}
 use Rattle.tint.specs.Calls.{judge_counted, read}
 use Rattle.noise.specs.Refusals as Noise
 use Rattle.noise.specs.Load.{Load, load, ones, load_block, report_of}

@@ -5,18 +5,20 @@ use mathlib.Core.List.{List, [], ◌∷◌, ◌++◌}
 use native.Mathlib.Omega.{arith}
 use Prim.Native.Nat.{ℕ, ◌*◌, ◌/◌, ◌≤◌, ◌<◌}
 use borrow.Author.Tests.{lt-ltb, le-ltb}
+use Rattle.std.proofs.Common.{Result, Ok, Err}
 use lib.Dec.{ltb}
 use lib.ListN.{length, drop}
 use Rattle.block.specs.Answer as A
 use Rattle.block.specs.Answer.{Answer, refused, done, refuse_if}
 use Rattle.block.proofs.Truth.{cond_case}
 use Rattle.tint.specs.Refusals as Refusals
-use Rattle.tint.specs.Format.{Dose, order_bytes, most_total, in_range_and_order, total, judge_doses}
-use Rattle.tint.specs.Calls.{doses_of, doses_from, judge_counted, judge, write, written_count, written_answer, written_slice, Write, read}
+use Rattle.tint.specs.Format.{order_bytes, most_total, in_range_and_order, total, judge_doses}
+use Rattle.tint.specs.declared.Dose.{Dose}
+use Rattle.tint.specs.Calls.{refusal_number, doses_of, doses_from, judge_counted, judge, write, written_count, written_answer, written_slice, Write, read}
 use Rattle.tint.specs.declared.Doses.{Doses}
-use Rattle.tint.specs.declared.Written.{Written}
-use Rattle.tint.specs.declared.Written.TheVariants as W
-use Rattle.tint.proofs.Entries.{doses_of-doses_from, not_refused, same_done, judge_good, judged_good, judged_refused, counted_many, counted-some}
+use Rattle.tint.specs.declared.Refusal.{Refusal}
+use Rattle.tint.proofs.Entries.{not_refused, same_done, judge_good, judged_good, judged_refused, counted_many, counted-some}
+use Rattle.tint.proofs.Arrays.{doses_of-doses_from}
 use Rattle.line_c.specs.BlockCalls.{refusal}
 use Rattle.line_c.specs.TintCalls.{numbers_of, doses_of_numbers, doses_held, write_tint, judge_held, written_bytes, WriteTintCall, read_tint, ReadTintCall}
 use Rattle.line_c.proofs.DoseNumbers.{length-numbers_of, length-doses_of_numbers, length-doses_held, held_all}
@@ -99,10 +101,13 @@ module _ (s : List ℕ) (count : ℕ) (slice : List ℕ) (bytes : ℕ) where
         ∙ ap₂ (λ (k : ℕ) (x : List Dose). judge_counted k x (refuse_if (ltb (length slice) (length (order_bytes x))) A.short (done (order_bytes x)))) (sym n) (sym ds)
 
     -- what the crate `tint` answers
-    module _ (answer : Written) (slice' : List ℕ) (w : Write d slice answer slice') where
-      pub write_refused : (n : ℕ) → answer ≡ W.Refused n → WriteTintCall s count slice bytes n slice' bytes
-      write_refused n g = go (write d slice) refl
+    module _ (answer : Result ℕ Refusal) (slice' : List ℕ) (w : Write d slice answer slice') where
+      pub write_refused : (r : Refusal) → answer ≡ Err r → WriteTintCall s count slice bytes (refusal_number r) slice' bytes
+      write_refused r g = go (write d slice) refl
         where
+          n : ℕ
+          n = refusal_number r
+
           go : (a : Answer (List ℕ)) → write d slice ≡ a → WriteTintCall s count slice bytes n slice' bytes
           go (refused m) f =
               let k : ◌≡◌ {A = Answer ℕ} (refused n) (refused m) = sym (ap written_answer g) ∙ w.answers ∙ ap written_count f in
@@ -110,7 +115,7 @@ module _ (s : List ℕ) (count : ℕ) (slice : List ℕ) (bytes : ℕ) where
               by_answer (refused m) (same_write ∙ f) n bytes slice' (let e : n ≡ m = cc in e) kept refl
           go (done x) f = not_refused n (length x) (sym (ap written_answer g) ∙ w.answers ∙ ap written_count f)
 
-      pub write_done : (n : ℕ) → answer ≡ W.Done n → WriteTintCall s count slice bytes 0 slice' n
+      pub write_done : (n : ℕ) → answer ≡ Ok n → WriteTintCall s count slice bytes 0 slice' n
       write_done n g = go (write d slice) refl
         where
           go : (a : Answer (List ℕ)) → write d slice ≡ a → WriteTintCall s count slice bytes 0 slice' n

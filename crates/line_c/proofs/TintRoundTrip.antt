@@ -13,7 +13,8 @@ use Rattle.block.specs.Answer.{Answer, refused, done}
 use Rattle.block.proofs.Truth.{or-false}
 use Rattle.block.proofs.Refusals.{passed_test}
 use Rattle.line.specs.WholeOrder.{Bytes}
-use Rattle.tint.specs.Format.{Dose, order_bytes, judge_doses}
+use Rattle.tint.specs.Format.{order_bytes, judge_doses}
+use Rattle.tint.specs.declared.Dose.{Dose}
 use Rattle.tint.specs.Calls.{judge_counted, written_slice, read}
 use Rattle.tint.proofs.Entries.{not_refused, same_done, judge_good, judged_good, counted-some, counted_good}
 use Rattle.tint.proofs.RoundTrip.{Writable, reads_order, order_read, read_few, encoded}

@@ -1,17 +1,17 @@
 -- The tint order's calls for C and Rust, the doses in a slice of 16-bit numbers: what each returns and writes, and its promise.
 -- Assumes nothing.
-use Rattle.std.specs.Prelude.{◌≡◌, ◌||◌, List, [], ◌∷◌, ◌++◌, ℕ, ◌*◌, ◌≤◌, ltb, length, take, drop}
+use Rattle.std.specs.Prelude.{◌≡◌, ◌||◌, List, [], ◌∷◌, ◌++◌, ℕ, ◌*◌, ◌≤◌, ltb, length, take, drop, flat_map}
 use Rattle.block.specs.Answer as A
 use Rattle.block.specs.Answer.{Answer, refused, done, refuse_if}
 use Rattle.line.specs.WholeOrder.{Bytes}
-use Rattle.tint.specs.Format.{Dose, order_bytes, judge_doses}
+use Rattle.tint.specs.Format.{order_bytes, judge_doses}
 use Rattle.tint.specs.Calls.{judge_counted, written_slice, read}
+use Rattle.tint.specs.declared.Dose.{Dose}
 use Rattle.line_c.specs.BlockCalls.{refusal}
 
 -- doses as numbers: canister and steps in turn
 abbrev pub numbers_of : List Dose → List ℕ
-numbers_of [] = []
-numbers_of (d ∷ ds) = d.canister ∷ d.steps ∷ numbers_of ds
+numbers_of = flat_map (λ (d : Dose). d.canister ∷ d.steps ∷ [])
 
 -- and back; a last number alone is no dose
 abbrev pub doses_of_numbers : List ℕ → List Dose

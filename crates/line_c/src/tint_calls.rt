@@ -1,64 +1,55 @@
 // The tint order's calls. Doses are a slice of 16-bit numbers, canister and steps in turn.
 ghost use Rattle.std.specs.Prelude.{◌≡◌, ◌++◌, ◌*◌, ◌/◌, ◌≤◌, length, drop};
-ghost use Rattle.tint.specs.Calls.{doses_of, doses_from};
+ghost use Rattle.tint.specs.Calls.{refusal_number, doses_from};
 ghost use Rattle.line_c.specs.BlockCalls.{refusal};
 ghost use Rattle.line_c.specs.TintCalls.{numbers_of, doses_held, judge_held, WriteTintCall, ReadTintCall};
 
-use tint::{Doses, Judged, Written};
+use tint::{CANISTERS, Dose, Doses, Refusal};
 
 // A dose's numbers.
 const DOSE_NUMBERS: usize = 2;
 
-// The first count doses.
+// The first count doses. One function for this and the crate tint's `load_entries` would take a closure, and be no shorter.
 fn load_doses(count: usize, numbers: &[u16]) -> Doses
     requires { (count ≤ 12) × (count * 2 ≤ length numbers.now) }
     ensures { result ≡ doses_from (doses_held numbers.now count) }
 {
-    let mut canisters = [0u16; 12];
-    let mut steps = [0u16; 12];
-    let mut i = 0;
-    while i < count {
-        let at = i * DOSE_NUMBERS;
-        canisters[i] = numbers[at];
-        steps[i] = numbers[at + 1];
-        i += 1;
+    let (pairs, _) = numbers[..count * DOSE_NUMBERS].as_chunks::<DOSE_NUMBERS>();
+    let mut list = [Dose::NONE; CANISTERS];
+    for (place, pair) in pairs.iter().enumerate() {
+        let [canister, steps] = *pair;
+        list[place] = Dose { canister, steps };
     }
     Doses {
-        count: count,
-        canisters: canisters,
-        steps: steps,
+        count: pairs.len(),
+        list,
     }
 }
 
 // The numbers of the doses, over the first ones of a slice.
-fn store_doses(doses: Doses, numbers: &mut [u16])
-    requires { (doses.count ≤ 12) × (doses.count * 2 ≤ length numbers.old) }
-    ensures { numbers.new ≡ numbers_of (doses_of doses) ++ drop (doses.count * 2) numbers.old }
+fn store_doses(doses: &[Dose], numbers: &mut [u16])
+    requires { length doses.now * 2 ≤ length numbers.old }
+    ensures { numbers.new ≡ numbers_of doses.now ++ drop (length doses.now * 2) numbers.old }
 {
-    let count = doses.count;
-    let canisters = doses.canisters;
-    let steps = doses.steps;
-    let mut i = 0;
-    while i < count {
-        let at = i * DOSE_NUMBERS;
-        numbers[at] = canisters[i];
-        numbers[at + 1] = steps[i];
-        i += 1;
+    // By place: nothing is proved of what is written through `chunks_exact_mut`.
+    for (place, dose) in doses.iter().enumerate() {
+        let at = place * DOSE_NUMBERS;
+        numbers[at..at + DOSE_NUMBERS].copy_from_slice(&[dose.canister, dose.steps]);
     }
 }
 
 // What a slice too short for its count is refused by.
-fn refuse_short(numbers: &[u16]) -> u8
+fn refuse_short(numbers: &[u16]) -> Refusal
     requires { length numbers.now / 2 ≤ 12 }
-    ensures { result ≡ refusal (judge_held numbers.now) }
+    ensures { refusal_number result ≡ refusal (judge_held numbers.now) }
 {
     let held = numbers.len() / DOSE_NUMBERS;
     if held == 0 {
-        return block::SHORT;
+        return Refusal::Short;
     }
     match tint::judge(load_doses(held, numbers)) {
-        Judged::Refused(number) => number,
-        Judged::Good => block::SHORT,
+        Ok(()) => Refusal::Short,
+        Err(refusal) => refusal,
     }
 }
 
@@ -71,18 +62,18 @@ pub extern "C" fn order_line_write_tint(
 ) -> u8
     ensures { WriteTintCall doses.now count order.old bytes.old result order.new bytes.new }
 {
-    if tint::CANISTERS < count {
-        return tint::ENTRY;
+    if CANISTERS < count {
+        return Refusal::Entry.into();
     }
     if doses.len() / DOSE_NUMBERS < count {
-        return refuse_short(doses);
+        return refuse_short(doses).into();
     }
     match tint::write(load_doses(count, doses), order) {
-        Written::Refused(number) => number,
-        Written::Done(written) => {
+        Ok(written) => {
             *bytes = written;
             0
         }
+        Err(refusal) => refusal.into(),
     }
 }
 
@@ -90,18 +81,15 @@ pub extern "C" fn order_line_write_tint(
 pub extern "C" fn order_line_read_tint(order: &[u8], doses: &mut [u16], count: &mut usize) -> u8
     ensures { ReadTintCall order.now doses.old count.old result doses.new count.new }
 {
-    let read = tint::read(order);
-    let answer = read.answer;
-    let found = read.doses;
-    match answer {
-        Judged::Refused(number) => number,
-        Judged::Good => {
+    match tint::read(order) {
+        Ok(found) => {
             if doses.len() / DOSE_NUMBERS < found.count {
-                return block::SHORT;
+                return Refusal::Short.into();
             }
-            store_doses(found, doses);
+            store_doses(&found.list[..found.count], doses);
             *count = found.count;
             0
         }
+        Err(refusal) => refusal.into(),
     }
 }

@@ -51,6 +51,7 @@ pub struct Noise {
 // ---- the generator
 
 // The first word's next value: each line is on the value of the one before.
+#[tactic(auto, unfolding(crate::specs::Generator::next_first, crate::specs::Generator::xor_left, crate::specs::Generator::xor_right))]
 fn next_first(x: u32) -> u32
     ensures { result ≡ next_first x }
 {
@@ -61,6 +62,7 @@ fn next_first(x: u32) -> u32
 
 impl Generator {
     // One draw: both words updated, and their sum.
+    #[tactic(auto, unfolding(crate::specs::Generator::next, crate::specs::Generator::drawn))]
     pub fn draw(&mut self) -> u32
         ensures { Draw self.old result self.new }
     {
@@ -78,6 +80,7 @@ fn lay(pattern: u16, place: usize, block: &mut [u8])
     ensures { block.new ≡ laid place pattern block.old }
 {
     let span = (u32::from(pattern) << (8 - place % 8)).to_be_bytes();
+    // By index: of a slice written through a zip of its iter_mut only the length is known.
     for (i, mask) in span[1..].iter().enumerate() {
         block[place / 8 + i] ^= mask;
     }
@@ -90,6 +93,7 @@ impl Generator {
         ensures { LoadedAs k self.old block.old (done (span_load (block_length k) self.old)) (Ok result) self.new block.new }
     {
         let number = self.draw();
+        // No From goes from u32 to u16 or usize.
         let pattern = (number % 65536) as u16;
         let places = k + block::OVERHEAD - (SPAN - 1);
         lay(pattern, (number / 65536) as usize % places, block);
@@ -100,6 +104,7 @@ impl Generator {
     }
 
     // What the low two bits of a draw choose.
+    #[tactic(auto, unfolding(crate::specs::Load::load))]
     fn choose(&mut self, k: usize, block: &mut [u8]) -> Noise
         requires { (is_length k ≡ true) × (too_short block.old (block_length k) ≡ false) }
         ensures { LoadedAs k self.old block.old (done (load (block_length k) self.old)) (Ok result) self.new block.new }
@@ -114,6 +119,7 @@ impl Generator {
     }
 
     // The noise of one block period, on the block as it was sent. Refused in the order 1, 13, 6.
+    #[tactic(auto, unfolding(crate::specs::Load::load_block))]
     pub fn load(&mut self, k: usize, block: &mut [u8]) -> Result<Noise, Refusal>
         ensures { LoadBlock k self.old block.old result self.new block.new }
     {

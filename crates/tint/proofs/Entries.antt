@@ -6,9 +6,8 @@ use mathlib.Core.Logic.{⊎_elim}
 use Prim.Native.Nat.{ℕ, zero, suc, ◌+◌, ◌*◌, ◌/◌, ◌%◌, ◌≤◌, ◌<◌}
 use native.Mathlib.Omega.{arith}
 use lib.Dec.{eqb, leb, ltb}
-use lib.ListN.{length, take, drop, get_or}
+use lib.ListN.{length, drop}
 use borrow.Author.Tests.{ltb-true, ltb-false, leb-true, eqb-true, eqb-false, not-true, not-false, lt-ltb, le-ltb, eq-eqb, ne_eqb}
-use Rattle.std.proofs.lemmas.List.{take_more, flat_map_more}
 use Rattle.crc.proofs.Bytes.{drop_bytes}
 use Rattle.block.specs.Answer.{Answer, refused, done, refuse_if}
 use Rattle.block.proofs.Truth.{and_true, either}
@@ -16,8 +15,10 @@ use Rattle.block.proofs.Refusals.{passed_test}
 use Rattle.line.specs.WholeOrder.{Bytes}
 use Rattle.tint.specs.Refusals as Refusals
 use Rattle.tint.specs.Format.{format_version, big_endian, from_big_endian, entries, order_bytes, doses_in, is_length_of, is_format, canisters, most_steps, most_total, is_in_range, in_range_and_order, total, judge_doses}
-use Rattle.tint.specs.Calls.{no_dose, judge_counted}
-use Rattle.tint.specs.Code.{head_bytes, low_entry, low_entries}
+use Rattle.tint.specs.Calls.{doses_of, judge_counted, Judge}
+use Rattle.tint.specs.declared.Doses.{Doses}
+use Rattle.std.proofs.Common.{Ok}
+use Rattle.tint.specs.Code.{head_bytes, low_entries}
 use Rattle.tint.specs.declared.Dose.{Dose}
 
 -- ---- entries and their doses
@@ -34,16 +35,6 @@ big_endian_from high low h =
 pub length-entries : (ds : List Dose) → length (entries ds) ≡ length ds * 3
 length-entries [] = refl
 length-entries (d ∷ ds) = omega (arith, length-entries ds)
-
-pub length-low_entries : (ds : List Dose) → length (low_entries ds) ≡ length ds * 3
-length-low_entries [] = refl
-length-low_entries (d ∷ ds) = omega (arith, length-low_entries ds)
-
--- with the next dose's
-pub low_entries-more : (ds : List Dose) (i : ℕ) → i < length ds
-    → low_entries (take i ds) ++ low_entry (get_or ds i no_dose) ≡ low_entries (take (i + 1) ds)
-low_entries-more ds i h =
-    flat_map_more low_entry [] (take i ds) (get_or ds i no_dose) ∙ ap low_entries (sym (take_more ds i no_dose h))
 
 pub doses_of-entries : (ds : List Dose) → doses_in (entries ds) ≡ ds
 doses_of-entries [] = refl
@@ -182,10 +173,6 @@ module _ {A : Type 0} (ds : List Dose) (next : Answer A) where
   unfolding judge_doses
   judge-entry h = rw h refl
 
-  pub judge-steps : in_range_and_order 0 ds ≡ true → most_total < total ds → judge_doses ds next ≡ refused Refusals.steps
-  unfolding judge_doses
-  judge-steps h t = rw (h, lt-ltb most_total (total ds) t) refl
-
   pub judge_good : in_range_and_order 0 ds ≡ true → total ds ≤ most_total → judge_doses ds next ≡ next
   unfolding judge_doses
   judge_good h t = rw (h, le-ltb most_total (total ds) t) refl
@@ -198,10 +185,6 @@ module _ {A : Type 0} (ds : List Dose) (next : Answer A) where
       (not-false (in_range_and_order 0 ds) a.0, ltb-false most_total (total ds) b.0, b.1)
 
   module _ (count : ℕ) where
-    pub counted_none : count ≡ 0 → judge_counted count ds next ≡ refused Refusals.format
-    unfolding judge_counted
-    counted_none h = rw (eq-eqb count 0 h) refl
-
     pub counted_many : canisters < count → judge_counted count ds next ≡ refused Refusals.entry
     unfolding judge_counted
     counted_many h = rw (ne_eqb count 0 (λ z. omega arith), lt-ltb canisters count h) refl
@@ -217,6 +200,10 @@ module _ {A : Type 0} (ds : List Dose) (next : Answer A) where
         let a = passed_test (eqb count 0) Refusals.format (refuse_if (ltb canisters count) Refusals.entry (judge_doses ds next)) x h in
         let b = passed_test (ltb canisters count) Refusals.entry (judge_doses ds next) x a.1 in
         (positive count (eqb-false count 0 a.0), ltb-false canisters count b.0, b.1)
+
+-- doses that were judged good are twelve at most
+pub judged_few : (d : Doses) → Judge d (Ok tt) → (1 ≤ d.count) × (d.count ≤ canisters)
+judged_few d j = let c = counted_good (doses_of d) (done tt) d.count tt (sym j.answers) in (c.0, c.1)
 
 -- ---- a judgement refuses whatever follows it
 

@@ -7,7 +7,7 @@ ghost use Rattle.tint.specs.Format.{doses_in, is_format, is_in_range, in_range_a
 ghost use Rattle.tint.specs.Calls.{refusal_number, doses_of, doses_from, judged_answer, Judge, Write, Read};
 ghost use Rattle.tint.specs.Code.{dose_of_entry, head_bytes, low_entry, low_entries};
 
-// Why a call turns its input away, each with its number; docs/PROTOCOL.md, "What the ends turn away".
+// Why a call turns its input away, each with its number; docs/PROTOCOL.md, "Tint orders". Short has the crate block's number.
 #[derive(Clone, Copy, Debug, PartialEq, Eq)]
 pub enum Refusal {
     Short = 6,
@@ -46,7 +46,8 @@ pub struct Dose {
     pub steps: u16,
 }
 
-// The first count places hold doses; the others do not matter. A fixed array with its count, since no heap is used.
+// The first count places hold doses; the others do not matter. An array with its count, since no heap is used, and no
+// invariant on the count, since `Judge` and `Write` speak of every one: above 12 it is refused.
 #[derive(Clone, Copy, Debug)]
 pub struct Doses {
     pub count: usize,
@@ -88,7 +89,7 @@ impl Dose {
 }
 
 impl Doses {
-    pub fn held(&self) -> &[Dose]
+    fn held(&self) -> &[Dose]
         requires { self.now.count ≤ 12 }
         ensures { result.now ≡ doses_of self.now }
     {
@@ -122,7 +123,6 @@ fn total_steps(doses: &[Dose]) -> u32
 // Every entry, then the total.
 #[tactic(auto, unfolding(crate::specs::Format::judge_doses))]
 fn judge_doses(doses: &[Dose]) -> Result<(), Refusal>
-    requires { length doses.now ≤ 12 }
     ensures { judged_answer result ≡ judge_doses doses.now (done tt) }
 {
     if !in_range_and_order(doses) {
@@ -135,7 +135,7 @@ fn judge_doses(doses: &[Dose]) -> Result<(), Refusal>
 }
 
 // Whether an order of these doses can be written. Refused in the order 10, 11, 12.
-#[tactic(auto, using(crate::proofs::Arrays::length_first_places), unfolding(crate::specs::Calls::judge_counted))]
+#[tactic(auto, unfolding(crate::specs::Calls::judge_counted))]
 pub fn judge(doses: Doses) -> Result<(), Refusal>
     ensures { Judge doses result }
 {
@@ -171,6 +171,7 @@ fn write_order(doses: &[Dose], order: &mut [u8])
 }
 
 // The order of these doses written over the first bytes of a slice. Refused in the order 10, 11, 12, 6.
+#[tactic(auto, using(crate::proofs::Entries::judged_few, crate::proofs::Arrays::length_first_places))]
 pub fn write(doses: Doses, order: &mut [u8]) -> Result<usize, Refusal>
     ensures { Write doses order.old result order.new }
 {

@@ -5,6 +5,7 @@ use mathlib.Core.List.{List, [], ◌∷◌, ◌++◌}
 use native.Mathlib.Omega.{arith}
 use Prim.Native.Nat.{ℕ}
 use lib.ListN.{replicate}
+use Rattle.std.proofs.Common.{None, Ok}
 use Rattle.crc.specs.Bits.{Bits}
 use Rattle.line.specs.Refusals as Refusals
 use Rattle.block.specs.Lengths.{is_length}
@@ -16,11 +17,9 @@ use Rattle.line.specs.Sending.{synchronising, item, fresh_sender, open_sender}
 use Rattle.line.specs.Receiving.{fresh_receiver, open_receiver}
 use Rattle.line.specs.Course.{sending, World, opened, course, final}
 use Rattle.line.specs.Delivery.{Assumptions, Openings, Delivered, Delivery}
-use Rattle.line.specs.declared.marks.CodeSize.TheVariants as C
 use Rattle.line.specs.declared.sender.Next.TheVariants.{Older, Newer}
 use Rattle.line.specs.declared.receiving.Event.TheVariants as E
 use Rattle.line.specs.declared.receiver.Opened.{Opened}
-use Rattle.line.specs.declared.receiver.Opening.TheVariants as Opening
 use Rattle.line.proofs.Delivery.Answers.{runs}
 use Rattle.line.proofs.Delivery.Theorem.{delivery}
 use Rattle.witness.proofs.Meets.{meets}
@@ -76,9 +75,9 @@ example_stored = refl
 
 -- both ends opened at 200 bit/s with loop 0, and what demand 3 says of the calls as they run
 abbrev machine : Opened
-machine = record { state = fresh_receiver 240 no_marks; answer = Opening.Opened }
+machine = record { state = fresh_receiver 240 no_marks; answer = Ok tt }
 
-pub example_opened : Openings 240 200 0 8 C.NotGiven C.NotGiven order (fresh_sender 240 8 no_marks) machine initial_store
+pub example_opened : Openings 240 200 0 8 None None order (fresh_sender 240 8 no_marks) machine initial_store
 unfolding open_sender loop_time is_speed has_entry longest_loop block_time open_receiver is_length marks_in_range item_count
 example_opened =
     record {
@@ -92,5 +91,5 @@ example_opened =
 pub example_delivered : Delivered 240 8 content initial_store (runs (fresh_sender 240 8 no_marks) (fresh_receiver 240 no_marks) (all_calls rows))
 unfolding Delivery
 example_delivered =
-    delivery 240 200 0 8 C.NotGiven C.NotGiven order (fresh_sender 240 8 no_marks) machine initial_store example_opened (all_calls rows)
+    delivery 240 200 0 8 None None order (fresh_sender 240 8 no_marks) machine initial_store example_opened (all_calls rows)
     (runs (fresh_sender 240 8 no_marks) (fresh_receiver 240 no_marks) (all_calls rows))

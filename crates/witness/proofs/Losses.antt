@@ -1,7 +1,7 @@
 -- Lists of calls that lose requests: one that ends in the alarm, and two with a good block between. Assumes nothing.
 use mathlib.Core.Path.{◌≡◌, refl}
 use mathlib.Core.Bool.{true, false}
-use mathlib.Core.List.{List, [], ◌∷◌, ◌++◌}
+use mathlib.Core.List.{List, [], ◌∷◌}
 use Rattle.block.specs.Block.{sync_block, cancelled}
 use Rattle.line.specs.Sending.{synchronising, item}
 use Rattle.line.specs.Course.{course}

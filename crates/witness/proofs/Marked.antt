@@ -5,6 +5,7 @@ use mathlib.Core.Bool.{Bool, true, false}
 use mathlib.Core.List.{List, [], ◌∷◌, ◌++◌}
 use native.Mathlib.Omega.{arith}
 use Prim.Native.Nat.{ℕ}
+use Rattle.std.proofs.Common.{Ok, Some}
 use Rattle.crc.specs.Bits.{Bits}
 use Rattle.block.specs.Lengths.{is_length}
 use Rattle.block.specs.Block.{sync_block, cancelled}
@@ -15,14 +16,12 @@ use Rattle.line.specs.Sending.{synchronising, item, fresh_sender, open_sender}
 use Rattle.line.specs.Receiving.{fresh_receiver, open_receiver}
 use Rattle.line.specs.Course.{World, opened, course, final}
 use Rattle.line.specs.Delivery.{Assumptions, Openings, Delivered, Delivery}
-use Rattle.line.specs.declared.marks.CodeSize.TheVariants as C
 use Rattle.line.specs.declared.marks.Marks.{Marks}
 use Rattle.line.specs.declared.sender.Sender.{Sender}
 use Rattle.line.specs.declared.sender.Next.{Next}
 use Rattle.line.specs.declared.sender.Next.TheVariants.{Sync, Older, Newer}
 use Rattle.line.specs.declared.receiver.Receiver.{Receiver}
 use Rattle.line.specs.declared.receiver.Opened.{Opened}
-use Rattle.line.specs.declared.receiver.Opening.TheVariants as Opening
 use Rattle.line.specs.declared.receiving.Event.TheVariants as E
 use Rattle.line.specs.declared.receiving.Phase.TheVariants as P
 use Rattle.line.proofs.Delivery.Answers.{runs}
@@ -32,10 +31,10 @@ use Rattle.witness.proofs.PeriodRows.{Row, all_calls, trace, sender_with, receiv
 use Rattle.witness.proofs.TwoItems.{order, content, initial_store, one, two}
 
 abbrev five : Marks
-five = marks_of (C.Given 5)
+five = marks_of (Some 5)
 
 abbrev eight : Marks
-eight = marks_of (C.Given 8)
+eight = marks_of (Some 8)
 
 abbrev block : ℕ → Bits
 block i = item_bits five 240 480 content i
@@ -83,9 +82,9 @@ whole_stored = refl
 
 -- both ends opened with marks, at 200 bit/s with loop 0, and what demand 3 says of the calls as they run
 abbrev machine : Opened
-machine = record { state = fresh_receiver 240 eight; answer = Opening.Opened }
+machine = record { state = fresh_receiver 240 eight; answer = Ok tt }
 
-pub whole-opened : Openings 240 200 0 480 (C.Given 5) (C.Given 8) order (fresh_sender 240 480 five) machine initial_store
+pub whole-opened : Openings 240 200 0 480 (Some 5) (Some 8) order (fresh_sender 240 480 five) machine initial_store
 unfolding open_sender loop_time is_speed has_entry longest_loop block_time open_receiver is_length marks_in_range is_code_size item_count
 whole-opened =
     record {
@@ -100,7 +99,7 @@ pub whole_delivered :
     Delivered 240 480 content initial_store (runs (fresh_sender 240 480 five) (fresh_receiver 240 eight) (all_calls whole))
 unfolding Delivery
 whole_delivered =
-    delivery 240 200 0 480 (C.Given 5) (C.Given 8) order (fresh_sender 240 480 five) machine initial_store whole-opened
+    delivery 240 200 0 480 (Some 5) (Some 8) order (fresh_sender 240 480 five) machine initial_store whole-opened
     (all_calls whole) (runs (fresh_sender 240 480 five) (fresh_receiver 240 eight) (all_calls whole))
 
 -- ---- the reading of item 1 is turned over: item 1 is cancelled, and item 0, with its mark, is the previous item

@@ -4,6 +4,7 @@ use mathlib.Core.Bool.{true, false, false≢true}
 use mathlib.Core.List.{List, [], ◌∷◌, ◌++◌}
 use Prim.Native.Nat.{ℕ}
 use lib.ListN.{drop, replicate}
+use Rattle.std.proofs.Common.{Some}
 use Rattle.crc.specs.Bits.{Bits, bytes_of}
 use Rattle.block.specs.Block.{sync_block, cancelled}
 use Rattle.line.specs.Marks.{marks_of}
@@ -12,7 +13,6 @@ use Rattle.line.specs.Sending.{synchronising, item, fresh_sender}
 use Rattle.line.specs.Receiving.{fresh_receiver, searching}
 use Rattle.line.specs.Course.{Call, sending, receiving, World, opened, entry, course, final}
 use Rattle.line.specs.Delivery.{some, is_lost, Assumptions, Guarantees}
-use Rattle.line.specs.declared.marks.CodeSize.TheVariants as C
 use Rattle.line.specs.declared.marks.Marks.{Marks}
 use Rattle.line.specs.declared.sender.Next.TheVariants.{Sync, Older, Newer}
 use Rattle.line.specs.declared.receiving.Event.TheVariants as E
@@ -23,7 +23,7 @@ use Rattle.witness.proofs.TwoItems as Two
 use Rattle.witness.proofs.TwoItems.{order, content, initial_store}
 
 abbrev five : Marks
-five = marks_of (C.Given 5)
+five = marks_of (Some 5)
 
 -- ---- marks at the receiver alone: item 0's letter is that of the item after, and brings the sequence alarm
 

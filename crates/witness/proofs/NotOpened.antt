@@ -6,6 +6,7 @@ use mathlib.Core.List.{List, [], ◌∷◌, ◌++◌}
 use native.Mathlib.Omega.{arith}
 use Prim.Native.Nat.{ℕ, ◌*◌, ◌≤◌}
 use lib.ListN.{length, take, get_or, replicate}
+use Rattle.std.proofs.Common.{None, Ok}
 use Rattle.crc.specs.Bits.{Bits}
 use Rattle.block.specs.Block.{sync_block}
 use Rattle.line.specs.Marks.{marks_in_range}
@@ -15,8 +16,6 @@ use Rattle.line.specs.Sending.{synchronising, item, fresh_sender, open_sender, O
 use Rattle.line.specs.Receiving.{open_receiver, OpenReceiver}
 use Rattle.line.specs.Course.{World, opened, course, final}
 use Rattle.line.specs.Delivery.{some, is_lost, reports_end, Assumptions, Guarantees}
-use Rattle.line.specs.declared.marks.CodeSize.TheVariants as C
-use Rattle.line.specs.declared.sender.Opened.TheVariants as SenderOpened
 use Rattle.line.specs.declared.sender.Next.TheVariants.{Older, Newer}
 use Rattle.line.specs.declared.receiver.Receiver.{Receiver}
 use Rattle.line.specs.declared.receiver.Opened.{Opened}
@@ -74,11 +73,11 @@ unfolding trace
 joins_meets = (meets 240 content (course w₁ (all_calls joins)) refl, refl)
 
 -- of the openings too, at 200 bit/s with loop 0; but the receiver is not one just opened
-pub joins_opened : OpenSender 240 200 0 480 C.NotGiven order (SenderOpened.Opened w₁.sender) × (item_count 240 480 * 240 ≤ 8 * length w₁.store)
+pub joins_opened : OpenSender 240 200 0 480 None order (Ok w₁.sender) × (item_count 240 480 * 240 ≤ 8 * length w₁.store)
 unfolding trace open_sender marks_in_range loop_time is_speed has_entry longest_loop block_time
 joins_opened = (record { answers = refl }, omega arith)
 
-pub joins_not_opened : (o : Opened) → OpenReceiver 240 C.NotGiven o → o.state ≡ w₁.receiver → ⊥
+pub joins_not_opened : (o : Opened) → OpenReceiver 240 None o → o.state ≡ w₁.receiver → ⊥
 unfolding trace open_receiver marks_in_range
 joins_not_opened o h e =
     let taken : ◌≡◌ {A = ℕ} 0 1 = ap (λ (r : Receiver). r.taken) (sym h.state ∙ e) in

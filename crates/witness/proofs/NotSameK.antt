@@ -6,6 +6,7 @@ use mathlib.Core.List.{List, ◌++◌, map}
 use native.Mathlib.Omega.{arith}
 use Prim.Native.Nat.{ℕ, ◌*◌, ◌≤◌}
 use lib.ListN.{length, replicate}
+use Rattle.std.proofs.Common.{None, Ok}
 use Rattle.block.specs.Lengths.{is_length}
 use Rattle.block.specs.Block.{sync_block}
 use Rattle.line.specs.Marks.{marks_in_range}
@@ -15,11 +16,8 @@ use Rattle.line.specs.Sending.{synchronising, item, fresh_sender, open_sender, O
 use Rattle.line.specs.Receiving.{fresh_receiver, open_receiver, OpenReceiver}
 use Rattle.line.specs.Course.{Call, World, Entry, opened, course, final}
 use Rattle.line.specs.Delivery.{Guarantees}
-use Rattle.line.specs.declared.marks.CodeSize.TheVariants as C
-use Rattle.line.specs.declared.sender.Opened.TheVariants as SenderOpened
 use Rattle.line.specs.declared.sender.Next.TheVariants.{Newer}
 use Rattle.line.specs.declared.receiver.Opened.{Opened}
-use Rattle.line.specs.declared.receiver.Opening.TheVariants as Opening
 use Rattle.line.specs.declared.receiving.Event.TheVariants as E
 use Rattle.witness.proofs.PeriodRows.{outcome, trace, no_marks, sender, period_calls, period_outcomes}
 use Rattle.witness.proofs.TwoItems.{order, content, block}
@@ -72,10 +70,10 @@ unheard_finished = (refl, refl)
 
 -- the openings, at 200 bit/s with loop 0: neither is refused, both are without marks, but each has its own k
 abbrev machine : Opened
-machine = record { state = fresh_receiver 3840 no_marks; answer = Opening.Opened }
+machine = record { state = fresh_receiver 3840 no_marks; answer = Ok tt }
 
-pub unheard_opened : OpenSender 240 200 0 480 C.NotGiven order (SenderOpened.Opened (fresh_sender 240 480 no_marks))
-    × OpenReceiver 3840 C.NotGiven machine × (item_count 240 480 * 240 ≤ 8 * length store) × (item_count 3840 480 * 3840 ≤ 8 * length store)
+pub unheard_opened : OpenSender 240 200 0 480 None order (Ok (fresh_sender 240 480 no_marks))
+    × OpenReceiver 3840 None machine × (item_count 240 480 * 240 ≤ 8 * length store) × (item_count 3840 480 * 3840 ≤ 8 * length store)
 unfolding open_sender loop_time is_speed has_entry longest_loop block_time open_receiver is_length marks_in_range item_count
 unheard_opened = (record { answers = refl }, record { answers = refl; state = refl }, omega arith, omega arith)
 

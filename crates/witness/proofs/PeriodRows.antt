@@ -4,6 +4,7 @@ use mathlib.Core.Bool.{Bool, true, false, not}
 use mathlib.Core.List.{List, [], ◌∷◌, map, flat_map}
 use Prim.Native.Nat.{ℕ}
 use lib.ListN.{replicate}
+use Rattle.std.proofs.Common.{None}
 use Rattle.crc.specs.Bits.{Bits, binary, number, bits_of, bytes_of, xor_bits, parity, zeros}
 use Rattle.crc.specs.Check.{remainder, passes, check}
 use Rattle.block.specs.Answer.{Answer}
@@ -15,7 +16,6 @@ use Rattle.line.specs.Sending.{Block, fresh_sender, sender_in_range, send, trans
 use Rattle.line.specs.Receiving.{fresh_receiver, zero_array, is_of, place, end_rule, mark_rule, service_rule, looks_sync, judge, blank, Reception, in_step, reception, receiver_in_range, receive, store_at}
 use Rattle.line.specs.Course.{Call, sending, receiving, World, Entry, send_refused, receive_refused, sent, heard, course, final}
 use Rattle.line.specs.Delivery.{event_of}
-use Rattle.line.specs.declared.marks.CodeSize.TheVariants as C
 use Rattle.line.specs.declared.marks.Marks.{Marks}
 use Rattle.line.specs.declared.sender.Sender.{Sender}
 use Rattle.line.specs.declared.sender.Next.{Next}
@@ -62,7 +62,7 @@ trace w (r ∷ rs) =
 
 -- what opening without a code size fixes
 abbrev pub no_marks : Marks
-no_marks = marks_of C.NotGiven
+no_marks = marks_of None
 
 -- a sender of an order of L bits: its newer item, the run, whether opening lasts, what is next, whether it is finished
 abbrev pub sender_with : Marks → (L newer run : ℕ) → Bool → Next → Bool → Sender

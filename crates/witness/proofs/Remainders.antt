@@ -7,6 +7,7 @@ use mathlib.Core.Logic.{◌↔◌}
 use Prim.Native.Nat.{ℕ, ◌^◌}
 use lib.Dec.{lit≤}
 use lib.ListN.{length, take, drop, get_or, replicate}
+use Rattle.std.proofs.Common.{Some}
 use Rattle.crc.specs.Bits.{Bits, number, bytes_of, zeros, xor_bits}
 use Rattle.crc.specs.Polynomial.{polynomial, Remainder}
 use Rattle.crc.specs.Check.{remainder}
@@ -20,7 +21,6 @@ use Rattle.line.specs.Sending.{Block, item, send, sent_bits, send_bytes}
 use Rattle.line.specs.Receiving.{Rule, check_fails, anything_else, Reception, stops, holding, receive, Report, reported}
 use Rattle.line.specs.BadRemainder.{ReadsInStep}
 use Rattle.line.specs.Course.{World}
-use Rattle.line.specs.declared.marks.CodeSize.TheVariants as C
 use Rattle.line.specs.declared.receiver.Receiver.{Receiver}
 use Rattle.line.specs.declared.receiving.Event.{Event}
 use Rattle.line.specs.declared.receiving.Event.TheVariants as E
@@ -65,7 +65,7 @@ cases =
     reports (good 1 false) (cancelled (block 1)) (E.Bad cancelled_remainder)
     ∷ reports (holding (good 1 false) (take 259 (cancelled (block 1)))) (drop 259 (cancelled (block 1))) (E.Bad cancelled_remainder)
     ∷ reports (good 2 false) (cancelled (block 2)) (E.Bad cancelled_remainder)
-    ∷ reports (receiver_with (marks_of (C.Given 8)) 0 false 0 false P.InStep) (cancelled (zero_block mark5)) (E.Bad cancelled_remainder)
+    ∷ reports (receiver_with (marks_of (Some 8)) 0 false 0 false P.InStep) (cancelled (zero_block mark5)) (E.Bad cancelled_remainder)
     -- rule 7: service bits of no item, and with r at 0 the letter C
     ∷ reports (good 1 false) (zero_block 0b1111) (E.Bad 0)
     ∷ reports (good 0 false) (zero_block letter_c) (E.Bad 0)

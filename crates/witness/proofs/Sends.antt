@@ -5,13 +5,13 @@ use mathlib.Core.Bool.{Bool, true, false}
 use mathlib.Core.List.{List, [], ◌∷◌}
 use Prim.Native.Nat.{ℕ, zero, suc}
 use lib.ListN.{replicate}
+use Rattle.std.proofs.Common.{None}
 use Rattle.block.specs.Answer.{Answer, done}
 use Rattle.block.specs.Lengths.{is_length}
 use Rattle.line.specs.LoopTime.{is_speed, block_time, has_entry, longest_loop, loop_time}
 use Rattle.line.specs.Marks.{marks_of, marks_in_range}
 use Rattle.line.specs.Order.{valid_length, item_count}
 use Rattle.line.specs.Sending.{fresh_sender, open_sender, Block, synchronising, item, transmit, sender_in_range, gave_up, send, send_state}
-use Rattle.line.specs.declared.marks.CodeSize.TheVariants as C
 use Rattle.line.specs.declared.sender.Sender.{Sender}
 
 abbrev pub order : List ℕ
@@ -21,9 +21,9 @@ abbrev pub slice : List ℕ
 slice = replicate 33 0
 
 abbrev pub fresh : Sender
-fresh = fresh_sender 240 8 (marks_of C.NotGiven)
+fresh = fresh_sender 240 8 (marks_of None)
 
-pub opens : open_sender 240 200 0 8 C.NotGiven order ≡ done fresh
+pub opens : open_sender 240 200 0 8 None order ≡ done fresh
 unfolding open_sender marks_in_range loop_time is_length is_speed has_entry longest_loop block_time
 opens = refl
 

@@ -4,20 +4,19 @@ use mathlib.Core.Path.{◌≡◌, refl}
 use mathlib.Core.Bool.{Bool, true, false}
 use mathlib.Core.List.{List, [], ◌∷◌, map}
 use Prim.Native.Nat.{ℕ}
+use Rattle.std.proofs.Common.{None, Option, Some}
 use Rattle.crc.specs.Bits.{number}
 use Rattle.line.specs.Marks.{marks_of, mark, is_mark}
 use Rattle.line.specs.Order.{letter_a, letter_b, letter_c, letter, is_letter, data_service, valid_length}
 use Rattle.line.specs.Receiving.{Rule, accepts, previous, out_of_sequence, wrong_length, ends_again, anything_else, is_of, place, end_rule, mark_rule, service_rule}
-use Rattle.line.specs.declared.marks.CodeSize.{CodeSize}
-use Rattle.line.specs.declared.marks.CodeSize.TheVariants as C
 
 -- ---- what items carry
 
-abbrev first_items : CodeSize → List ℕ
+abbrev first_items : Option ℕ → List ℕ
 first_items size = map (data_service (marks_of size)) (0 ∷ 1 ∷ 2 ∷ 3 ∷ 4 ∷ [])
 
 pub carried :
-    map first_items (C.NotGiven ∷ C.Given 5 ∷ C.Given 6 ∷ C.Given 7 ∷ C.Given 8 ∷ [])
+    map first_items (None ∷ Some 5 ∷ Some 6 ∷ Some 7 ∷ Some 8 ∷ [])
     ≡ (letter_a ∷ letter_b ∷ letter_c ∷ letter_a ∷ letter_b ∷ [])
     ∷ (0b0001 ∷ letter_a ∷ letter_b ∷ letter_c ∷ letter_a ∷ [])
     ∷ (0b1010 ∷ letter_a ∷ letter_b ∷ letter_c ∷ letter_a ∷ [])

@@ -7,11 +7,12 @@ use lib.ListN.{take, drop, replicate}
 use Rattle.block.specs.Answer as A
 use Rattle.block.specs.Answer.{Answer, refused, done}
 use Rattle.tint.specs.Refusals as Refusals
-use Rattle.tint.specs.Format.{Dose, order_bytes, judge_doses}
+use Rattle.tint.specs.Format.{order_bytes, judge_doses}
 use Rattle.tint.specs.Calls.{judge_counted, doses_from, write, read}
+use Rattle.tint.specs.declared.Dose.{Dose}
 use Rattle.tint.specs.declared.Doses.{Doses}
 
-abbrev dose : ℕ → ℕ → Dose
+abbrev pub dose : ℕ → ℕ → Dose
 dose canister steps = record { canister = canister; steps = steps }
 
 -- docs/PROTOCOL.md, "Tint orders"
@@ -95,8 +96,9 @@ abbrev twelve : ℕ → Doses
 twelve count =
     record {
       count = count;
-      canisters = 1 ∷ 2 ∷ 3 ∷ 4 ∷ 5 ∷ 6 ∷ 7 ∷ 8 ∷ 9 ∷ 10 ∷ 11 ∷ 12 ∷ [];
-      steps = 1 ∷ 1 ∷ 1 ∷ 1 ∷ 1 ∷ 1 ∷ 1 ∷ 4800 ∷ 4800 ∷ 4800 ∷ 4800 ∷ 4800 ∷ [];
+      list =
+          dose 1 1 ∷ dose 2 1 ∷ dose 3 1 ∷ dose 4 1 ∷ dose 5 1 ∷ dose 6 1 ∷ dose 7 1 ∷ dose 8 4800 ∷ dose 9 4800 ∷ dose 10 4800
+          ∷ dose 11 4800 ∷ dose 12 4800 ∷ [];
     }
 
 abbrev write_cases : List WriteCase

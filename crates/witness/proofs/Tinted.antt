@@ -4,6 +4,7 @@ use mathlib.Core.Path.{◌≡◌, refl}
 use mathlib.Core.Bool.{Bool, true, ◌&&◌}
 use mathlib.Core.List.{List, [], ◌∷◌, ◌++◌}
 use native.Mathlib.Omega.{arith}
+use Rattle.std.proofs.Common.{Result, Ok, None}
 use Prim.Native.Nat.{ℕ, zero, suc, ◌/◌}
 use lib.Dec.{ltb, lit<, lit≤}
 use lib.ListN.{length, take, drop, replicate}
@@ -18,23 +19,20 @@ use Rattle.line.specs.Receiving.{fresh_receiver, open_receiver}
 use Rattle.line.specs.Course.{course, final}
 use Rattle.line.specs.Delivery.{some, is_end, Assumptions, Openings}
 use Rattle.line.specs.WholeOrder.{Bytes}
-use Rattle.line.specs.declared.marks.CodeSize.TheVariants as C
 use Rattle.line.specs.declared.receiver.Opened.{Opened}
-use Rattle.line.specs.declared.receiver.Opening.TheVariants as Opening
 use Rattle.tint.specs.Format.{order_bytes, judge_doses}
 use Rattle.tint.specs.Calls.{doses_of, judge_counted, write, Write, read, Read}
 use Rattle.tint.specs.RoundTrip.{ReadAs}
 use Rattle.tint.specs.Delivered.{TintDelivery}
+use Rattle.tint.specs.declared.Refusal.{Refusal}
 use Rattle.tint.specs.declared.Doses.{Doses}
-use Rattle.tint.specs.declared.Judged.TheVariants as J
-use Rattle.tint.specs.declared.Written.TheVariants as W
-use Rattle.tint.specs.declared.OrderRead.{OrderRead}
 use Rattle.tint.proofs.RoundTrip.{round_trip}
 use Rattle.tint.proofs.Delivered.{tint_delivery}
 use Rattle.witness.proofs.Meets.{meets}
 use Rattle.witness.proofs.PeriodRows.{Row, all_calls, trace, no_marks}
 use Rattle.witness.proofs.TwoItems.{Items, content_of, opened_of}
 use Rattle.witness.proofs.Repeats.{repeats}
+use Rattle.witness.proofs.TintCases.{dose}
 
 -- ---- the doses, and their order written
 
@@ -43,8 +41,9 @@ abbrev doses : Doses
 doses =
     record {
       count = 12;
-      canisters = 1 ∷ 2 ∷ 3 ∷ 4 ∷ 5 ∷ 6 ∷ 7 ∷ 8 ∷ 9 ∷ 10 ∷ 11 ∷ 12 ∷ [];
-      steps = 4800 ∷ 1 ∷ 300 ∷ 256 ∷ 255 ∷ 4661 ∷ 3000 ∷ 2 ∷ 1000 ∷ 513 ∷ 4096 ∷ 1116 ∷ [];
+      list =
+          dose 1 4800 ∷ dose 2 1 ∷ dose 3 300 ∷ dose 4 256 ∷ dose 5 255 ∷ dose 6 4661 ∷ dose 7 3000 ∷ dose 8 2 ∷ dose 9 1000 ∷ dose 10 513
+          ∷ dose 11 4096 ∷ dose 12 1116 ∷ [];
     }
 
 -- the order's bytes: of its first item, and of its second
@@ -72,7 +71,7 @@ slice = replicate 45 6
 abbrev order : List ℕ
 order = front ++ (back ++ replicate 6 6)
 
-pub written : Write doses slice (W.Done 39) order
+pub written : Write doses slice (Ok 39) order
 unfolding write judge_counted judge_doses order_bytes
 written = record { answers = refl; writes = refl }
 
@@ -111,10 +110,10 @@ tinted_stored = refl
 
 -- both ends opened without marks, at 200 bit/s with loop 0
 abbrev machine : Opened
-machine = record { state = fresh_receiver 240 no_marks; answer = Opening.Opened }
+machine = record { state = fresh_receiver 240 no_marks; answer = Ok tt }
 
 pub tinted_opened :
-    Openings 240 200 0 312 C.NotGiven C.NotGiven order (fresh_sender 240 312 no_marks) machine items.initial_store
+    Openings 240 200 0 312 None None order (fresh_sender 240 312 no_marks) machine items.initial_store
 unfolding open_sender loop_time is_speed has_entry longest_loop block_time open_receiver is_length marks_in_range item_count
 tinted_opened =
     record {
@@ -127,8 +126,8 @@ tinted_opened =
 
 -- ---- the order read
 
-abbrev pub result : OrderRead
-result = record { answer = J.Good; doses = doses }
+abbrev pub result : Result Doses Refusal
+result = Ok doses
 
 pub tinted_read : Read (take (312 / 8) (final (opened_of items) (all_calls rows)).store) result
 unfolding trace read judge_doses
@@ -149,13 +148,13 @@ pub read_back : Read (front ++ back) result
 unfolding read judge_doses
 read_back = record { answers = refl; doses = refl }
 
-pub written_again : (W.Done 39 ≡ W.Done (length (front ++ back))) × (order ≡ (front ++ back) ++ drop (length (front ++ back)) slice)
+pub written_again : (◌≡◌ {A = Result ℕ Refusal} (Ok 39) (Ok (length (front ++ back)))) × (order ≡ (front ++ back) ++ drop (length (front ++ back)) slice)
 written_again =
-    round_trip.writes_read (front ++ back) slice order result (W.Done 39) (bytes (front ++ back) refl) read_back refl (lit≤ tt) written
+    round_trip.writes_read (front ++ back) slice order doses (Ok 39) (bytes (front ++ back) refl) read_back (lit≤ tt) written
 
 pub tinted : ReadAs doses result
 unfolding TintDelivery
 tinted =
-    tint_delivery doses slice order 39 written order (bytes order refl) refl 240 200 0 312 C.NotGiven C.NotGiven
+    tint_delivery doses slice order 39 written order (bytes order refl) refl 240 200 0 312 None None
     (fresh_sender 240 312 no_marks) machine items.initial_store refl (bytes items.initial_store refl) tinted_opened
     (all_calls rows) tinted_meets tinted_ended result tinted_read

@@ -1,31 +1,22 @@
--- `crc::fold_words` meets its contract: the window and the bytes to come leave what they left at first. Assumes nothing.
-use mathlib.Core.Path.{◌≡◌, refl, ◌∙◌}
-use mathlib.Core.List.{List}
+-- `crc::fold_words` meets its contract: it folds in each word in its turn. Assumes nothing.
+use mathlib.Core.Path.{◌≡◌, sym, ap, ◌∙◌}
+use mathlib.Core.List.{List, ◌++◌, map, map-id}
 use Prim.Native.Nat.{ℕ}
-use native.Mathlib.Omega.{arith}
 use borrow.Author.Rules.{rules}
-use lib.ListN.{length}
-use Rattle.crc.specs.Words.{words_of}
-use Rattle.crc.specs.declared.Window.{Window}
-use Rattle.crc.proofs.Words.{register-next, register_end}
+use borrow.Author.Tests.{tests}
+use Rattle.std.specs.Int.{from_be_bytes, w64}
+use Rattle.std.proofs.lemmas.Iterator.{items_from_drains, YieldsList-from_slice, YieldsList-from_map}
+use Rattle.crc.specs.Words.{left_by}
+use Rattle.crc.proofs.Words.{left_by_folded}
 use Rattle.crc.proofs.fold_words.Goals as goal
 
-pub loop-i-init : goal.loop-i-init
-loop-i-init c = (search rules, search rules, refl)
-
-pub loop-i-preserved : goal.loop-i-preserved
-loop-i-preserved c = let s : List ℕ = c.args.s.now in
-    let i : ℕ = c.loop-i.i in
-    let w : Window = c.loop-i.w in (
-      search rules,
-      search rules,
-      register-next (words_of w) (words_of c.fold_four-w.result) c.load_word.result s i c.load_word.ensures c.fold_four-w.ensures
-          ∙ c.loop-i.invariant.2,
-    )
-
 pub returns : goal.returns
-returns c = let s : List ℕ = c.args.s.now in
-    let i : ℕ = c.loop-i.i in
-    let w : Window = c.loop-i.w in
-    let e : i ≡ length s = omega arith in
-    register_end (words_of w) s i e ∙ c.loop-i.invariant.2
+returns c = let start : List ℕ = c.args.start in
+    let words : List ℕ = map (from_be_bytes w64) c.args.words.now in
+    let run = c.fold.ensures.ran in
+    let items : run.0 ≡ words
+    = sym (map-id run.0)
+    ∙ items_from_drains run.0 (run.2.1.0, run.2.1.1, λ _. (run.2.0, run.2.1.2))
+    (YieldsList-from_map _ (from_be_bytes w64) (YieldsList-from_slice c.args.words.now cc) c.map.ensures.closure (λ x r q k. search (rules, tests))) in
+    left_by_folded _ (λ p. p.1) (λ p x q k. search (rules, tests)) (tt, start) run.0 (run.1, c.fold.result) run.3
+    ∙ ap (λ (l : List ℕ). left_by (start ++ l)) items

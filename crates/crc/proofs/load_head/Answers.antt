@@ -5,19 +5,19 @@ use Prim.Native.Nat.{ℕ, ◌+◌, ◌-◌, ◌*◌}
 use native.Mathlib.Omega.{arith}
 use borrow.Author.Rules.{rules}
 use lib.ListN.{take}
-use lib.Seq.{take-take}
-use Rattle.crc.specs.Bits.{bits_of}
+use Rattle.std.specs.Int.{from_be_bytes, w64}
 use Rattle.crc.specs.Check.{register}
+use Rattle.crc.proofs.Words.{binary-from_be_bytes, bits_of_words_one}
 use Rattle.crc.proofs.Bytes.{take-bits_of}
 use Rattle.crc.proofs.Head.{register_head}
 use Rattle.crc.proofs.load_head.Goals as goal
 
 pub returns : goal.returns
 returns c = let at : ℕ = c.args.c in
-    let s : List ℕ = c.args.s.now in
-    let h : ℕ = c.args.h in
-    let e : 16 + (8 * h - 16) + (64 - 8 * h) ≡ 64 = omega arith in
-    let f : 16 + (8 * h - 16) ≡ 8 * h = omega arith in
-    register_head at c.load_word.result (8 * h - 16) (64 - 8 * h) (search rules) (search rules) e
-    ∙ ap (register at)
-    (ap₂ take f c.load_word.ensures ∙ take-bits_of h (take 8 s) ∙ ap bits_of (take-take h 8 s (search rules)))
+    let s : List ℕ = c.args.bytes in
+    let n : ℕ = c.args.count in
+    let e : 16 + (8 * n - 16) + (64 - 8 * n) ≡ 64 = omega arith in
+    let f : 16 + (8 * n - 16) ≡ 8 * n = omega arith in
+    rw (c.from.ensures, c.from_be_bytes.ensures)
+    (ap (register 0) (bits_of_words_one _) ∙ register_head at (from_be_bytes w64 s) (8 * n - 16) (64 - 8 * n) (search rules) (search rules) e
+    ∙ ap (register at) (ap₂ take f (binary-from_be_bytes s (search rules) (search rules)) ∙ take-bits_of n s))

@@ -1,8 +1,7 @@
 -- What the receiver's private functions ask and promise: the code's rules, and what is handed back for a reception.
 -- Assumes nothing.
-use Rattle.std.specs.Prelude.{◌≡◌, Bool, true, List, ℕ, ◌*◌, ◌≤◌, ◌<◌, length, Err, Ok}
+use Rattle.std.specs.Prelude.{◌≡◌, Bool, List, ℕ, Err, Ok}
 use Rattle.crc.specs.Bits.{Bits}
-use Rattle.block.specs.Lengths.{is_length, block_length}
 use Rattle.line.specs.declared.Refusal.{Refusal}
 use Rattle.line.specs.declared.receiver.Receiver.{Receiver}
 use Rattle.line.specs.declared.receiving.Event.{Event}
@@ -11,24 +10,8 @@ use Rattle.line.specs.declared.head.Head.{Head}
 use Rattle.line.specs.declared.head.HeadStep.{HeadStep}
 use Rattle.line.specs.declared.rules.Rule as D
 use Rattle.line.specs.declared.rules.Rule.TheVariants as C
-use Rattle.line.specs.Order.{most_items}
-use Rattle.line.specs.Receiving.{last_bad, Rule, accepts, previous, out_of_sequence, ends, wrong_length, ends_again, anything_else, waits, meaning, block_rule, stops, Reception, judge_store, received_answer, reported, receive_state, receive_store}
+use Rattle.line.specs.Receiving.{Rule, accepts, previous, out_of_sequence, ends, wrong_length, ends_again, anything_else, waits, meaning, block_rule, stops, Reception, judge_store, received_answer, reported, receive_state, receive_store}
 use Rattle.line.specs.ReceivingInPlace.{with_array}
-
--- ---- what the private functions ask of their arguments
-
--- a head whose fields that a block's judging uses are in range
-pub record HeadInRange (h : Head) : Type 0 where
-  pub known : is_length h.setup.k ≡ true
-  pub bad_row : h.bad_row < last_bad
-  pub items : h.taken ≤ most_items
-
--- and a slice that holds the n bits of a block
-pub record FinishedBlock (h : Head) (slice : List ℕ) : Type 0 where
-  pub range : HeadInRange h
-  pub held : block_length h.setup.k ≤ 8 * length slice
-
--- ---- what they promise
 
 -- the rule that each case of the code's enum stands for
 abbrev pub rule_of : D.Rule → Rule

@@ -64,13 +64,12 @@ formed : (c : In_ok-entries) → (is_format c.args.order.now ≡ true) × (c.in_
 formed c = MatchOption-at_some _ _ _ c.in_ok-entries.ensures.ok_part c.entries_of.ensures
 
 -- the doses that were loaded
-loaded : (c : After-held) → let ds : List Dose = doses_in (drop 3 c.args.order.now) in
+loaded : (c : After-held) → c.in_ok-entries.entries.now ≡ drop 3 c.args.order.now → let ds : List Dose = doses_in (drop 3 c.args.order.now) in
     (c.load_entries-doses.result ≡ doses_from ds) × (c.held.result.now ≡ ds)
-loaded c =
+loaded c e =
     let ds : List Dose = doses_in (drop 3 c.args.order.now) in
-    let e : c.load_entries-doses.result ≡ doses_from ds =
-    c.load_entries-doses.ensures ∙ ap (λ (s : List ℕ). doses_from (doses_in s)) (formed (goal.at.judge_doses-requires c).In_ok-entries).1 in
-    (e, c.held.ensures ∙ ap doses_of e ∙ doses_of-doses_from ds)
+    let f : c.load_entries-doses.result ≡ doses_from ds = c.load_entries-doses.ensures ∙ ap (λ (s : List ℕ). doses_from (doses_in s)) e in
+    (f, c.held.ensures ∙ ap doses_of f ∙ doses_of-doses_from ds)
 
 pub returns-in_err-entries : goal.returns-in_err-entries
 returns-in_err-entries c = let p = err_from_is_err_and c.from_residual.result c.from_residual.ensures.1 in
@@ -80,15 +79,13 @@ pub returns-then-entries-gt-CANISTERS : goal.returns-then-entries-gt-CANISTERS
 returns-then-entries-gt-CANISTERS c = let f = formed (goal.at.returns-then-entries-gt-CANISTERS c).In_ok-entries in
     too_many c.args.order.now f.0 (omega (arith, ap length f.1))
 
-pub judge_doses-requires : goal.judge_doses-requires
-judge_doses-requires c = let f = formed (goal.at.judge_doses-requires c).In_ok-entries in
-    omega (arith, ap length f.1, ap length (loaded c).1, length-doses_in (drop 3 c.args.order.now))
-
 pub returns-in_err-judge_doses : goal.returns-in_err-judge_doses
 returns-in_err-judge_doses c = let p = err_from_is_err_and c.from_residual-in_err-judge_doses.result c.from_residual-in_err-judge_doses.ensures.1 in
-    rw (p.1, p.2) (bad c.args.order.now (formed (goal.at.returns-in_err-judge_doses c).In_ok-entries).0 _
-    (c.in_err-judge_doses.ensures ∙ ap judge (loaded (goal.at.returns-in_err-judge_doses c).After-held).1))
+    let f = formed (goal.at.returns-in_err-judge_doses c).In_ok-entries in
+    rw (p.1, p.2) (bad c.args.order.now f.0 _
+    (c.in_err-judge_doses.ensures ∙ ap judge (loaded (goal.at.returns-in_err-judge_doses c).After-held f.1).1))
 
 pub returns : goal.returns
-returns c = let l = loaded (goal.at.returns c).After-held in
-    good c.args.order.now (formed (goal.at.returns c).In_ok-entries).0 _ l.0 (c.in_ok-judge_doses.ensures ∙ ap judge l.1)
+returns c = let f = formed (goal.at.returns c).In_ok-entries in
+    let l = loaded (goal.at.returns c).After-held f.1 in
+    good c.args.order.now f.0 _ l.0 (c.in_ok-judge_doses.ensures ∙ ap judge l.1)

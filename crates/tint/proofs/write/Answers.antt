@@ -1,5 +1,4 @@
 -- `write` keeps its promise: what judging refuses, then a slice too short, then the order written. Assumes nothing.
-use borrow.Author.Rules.{rules}
 use borrow.Author.Tests.{lt-ltb, le-ltb}
 use mathlib.Core.List.{List, ◌++◌}
 use mathlib.Core.Bool.{Bool, true}
@@ -20,7 +19,7 @@ use Rattle.tint.specs.declared.Refusal.TheVariants as N
 use Rattle.tint.specs.declared.Dose.{Dose}
 use Rattle.tint.specs.declared.Doses.{Doses}
 use Rattle.tint.proofs.Arrays.{length_first_places}
-use Rattle.tint.proofs.Entries.{length-order_bytes, rising_order_bytes, judge_good, judged_good, counted-some, counted_good, counted_refused}
+use Rattle.tint.proofs.Entries.{length-order_bytes, rising_order_bytes, judge_good, judged_good, counted-some, counted_good, counted_refused, judged_few}
 use Rattle.tint.proofs.write.Goals as goal
 use Rattle.tint.proofs.write.Goals.{In_ok-judge}
 
@@ -36,9 +35,6 @@ module _ (d : Doses) (slice : List ℕ) where
       record { answers = sym (ap written_count w); writes = sym (ap (written_slice slice) w) }
 
   module _ (e : done tt ≡ judge d) where
-    few : (1 ≤ d.count) × (d.count ≤ 12)
-    few = let c = counted_good ds (done tt) d.count tt (sym e) in (c.0, c.1)
-
     rises : in_range_and_order 0 ds ≡ true
     rises = (judged_good ds (done tt) tt (counted_good ds (done tt) d.count tt (sym e)).2).0
 
@@ -50,6 +46,7 @@ module _ (d : Doses) (slice : List ℕ) where
     unfolding write
     room t h =
         let j = judged_good ds (done tt) tt (counted_good ds (done tt) d.count tt (sym e)).2 in
+        let few = judged_few d (record { answers = e }) in
         counted-some ds _ d.count few.0 few.1 ∙ judge_good ds _ j.0 j.1
         ∙ ap (λ (b : Bool). refuse_if b A.short (done (order_bytes ds))) h
 
@@ -80,22 +77,8 @@ pub returns-in_err-judge : goal.returns-in_err-judge
 returns-in_err-judge c = let p = err_from_is_err_and c.from_residual.result c.from_residual.ensures.1 in
     rw (p.1, p.2) (turned c.args.doses c.args.order.now _ c.in_err-judge.ensures.answers)
 
-pub overflow_mul-bytes : goal.overflow_mul-bytes
-overflow_mul-bytes c = let f = few c.args.doses c.args.order.now (good c) in search rules
-
-pub overflow_add-bytes : goal.overflow_add-bytes
-overflow_add-bytes c = let f = few c.args.doses c.args.order.now (good c) in search rules
-
 pub returns-then-order-bytes : goal.returns-then-order-bytes
 returns-then-order-bytes c = short c.args.doses c.args.order.now (good (goal.at.returns-then-order-bytes c).In_ok-judge) c.if-order-bytes.true
-
-pub held-requires : goal.held-requires
-held-requires c = (few c.args.doses c.args.order.now (good (goal.at.held-requires c).In_ok-judge)).1
-
-pub write_order-requires : goal.write_order-requires
-write_order-requires c = let f = few c.args.doses c.args.order.now (good (goal.at.write_order-requires c).In_ok-judge) in
-    let n = ap length c.held.ensures ∙ length_first_places c.args.doses.count c.args.doses.list in
-    (omega arith, omega arith)
 
 pub returns : goal.returns
 returns c = let a = c.args in

@@ -38,18 +38,18 @@ loop-i-preserved c = let a = c.args in
     let s : ℕ = a.held % 8 in
     let at : ℕ = from + l.i in
     let e : from + (l.i + 1) ≡ suc at = omega arith in
-    let n = whole_bytes a.line.now s a.count (omega arith) c.requires.1 in
-    let x : get_or (take ((s + a.count) / 8) a.line.now) l.i 0 ≡ get_or a.line.now l.i 0 =
-    get_or-take ((s + a.count) / 8) a.line.now l.i 0 (omega arith) in (
+    let n = whole_bytes a.line.bytes.now s a.line.bits (omega arith) a.line.held in
+    let x : get_or (take ((s + a.line.bits) / 8) a.line.bytes.now) l.i 0 ≡ get_or a.line.bytes.now l.i 0 =
+    get_or-take ((s + a.line.bits) / 8) a.line.bytes.now l.i 0 (omega arith) in (
       ap (λ (k : ℕ). drop k (set l.array at c.join.result)) e
           ∙ drop-set-lt (suc at) l.array at c.join.result (omega arith)
           ∙ further l.array a.array.now at l.invariant.0
           ∙ ap (λ (k : ℕ). drop k a.array.now) (sym e),
       ap (λ (y : ℕ). bits_of (take (from + (l.i + 1)) (set l.array at c.join.result)) ++ binary s y) x
-          ∙ ap (λ (k : ℕ). bits_of (take k (set l.array at c.join.result)) ++ binary s (get_or a.line.now l.i 0)) e
-          ∙ one_byte_more l.array a.line.now at l.i s l.carry c.join.result (take a.held (bits_of a.array.now))
+          ∙ ap (λ (k : ℕ). bits_of (take k (set l.array at c.join.result)) ++ binary s (get_or a.line.bytes.now l.i 0)) e
+          ∙ one_byte_more l.array a.line.bytes.now at l.i s l.carry c.join.result (take a.held (bits_of a.array.now))
           (omega arith) (omega arith) (omega arith) (c.join.ensures ∙ ap (λ (y : ℕ). take 8 (binary s l.carry ++ binary 8 y)) x) l.invariant.1
-          ∙ ap (λ (k : ℕ). take a.held (bits_of a.array.now) ++ bits_of (take k a.line.now)) (sym (add-one l.i)),
+          ∙ ap (λ (k : ℕ). take a.held (bits_of a.array.now) ++ bits_of (take k a.line.bytes.now)) (sym (add-one l.i)),
     )
 
 pub returns : goal.returns
@@ -57,17 +57,17 @@ returns c = let a = c.args in
     let l = c.loop-i in
     let from : ℕ = a.held / 8 in
     let s : ℕ = a.held % 8 in
-    let whole : ℕ = (s + a.count) / 8 in
+    let whole : ℕ = (s + a.line.bits) / 8 in
     let at : ℕ = from + whole in
-    let n = whole_bytes a.line.now s a.count (omega arith) c.requires.1 in
+    let n = whole_bytes a.line.bytes.now s a.line.bits (omega arith) a.line.held in
     let done : l.i ≡ whole = omega arith in
     let w : Fits w8 c.merge.result = search rules in
     let held : length l.array ≡ 483 = search rules in
     packed (set l.array at c.merge.result) 483
-    (overwrite a.held (take a.count (bits_of a.line.now)) (bits_of a.array.now))
+    (overwrite a.held (take a.line.bits (bits_of a.line.bytes.now)) (bits_of a.array.now))
     (length-set l.array at c.merge.result ∙ held)
     (set_bytes l.array at c.merge.result w.fits (λ j. search rules))
-    (last_byte l.array a.array.now a.line.now a.held a.count at whole s ((s + a.count) % 8) l.carry c.join-last.result c.merge.result
+    (last_byte l.array a.array.now a.line.bytes.now a.held a.line.bits at whole s ((s + a.line.bits) % 8) l.carry c.join-last.result c.merge.result
     (omega arith) (omega arith) (rw done at l.invariant.0) (omega arith) (omega arith) (omega arith) (omega arith) (omega arith)
     (c.join-last.ensures ∙ ap (λ (x : ℕ). take 8 (binary s l.carry ++ binary 8 x)) c.byte_at.ensures)
     c.merge.ensures

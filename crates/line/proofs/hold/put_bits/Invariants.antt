@@ -8,4 +8,4 @@ use Rattle.line.proofs.hold.put_bits.Given as goal
 
 abbrev pub invariant-loop-i : goal.invariant-loop-i
 invariant-loop-i l = (drop (l.from + l.i) l.array ≡ drop (l.from + l.i) l.initial.array)
-    × (bits_of (take (l.from + l.i) l.array) ++ binary l.shift l.carry ≡ take l.held (bits_of l.initial.array) ++ bits_of (take l.i l.line))
+    × (bits_of (take (l.from + l.i) l.array) ++ binary l.shift l.carry ≡ take l.held (bits_of l.initial.array) ++ bits_of (take l.i l.line.bytes.now))

@@ -1,31 +1,16 @@
 -- `end_data` writes the version and the length's four bytes over zeros. Assumes nothing.
 use mathlib.Core.Path.{◌≡◌, ap, ◌∙◌}
 use mathlib.Core.List.{List, ◌∷◌, ◌++◌, append_assoc}
-use Prim.Native.Nat.{ℕ, ◌+◌, ◌*◌, ◌/◌, ◌%◌, ◌^◌}
+use Prim.Native.Nat.{ℕ, ◌+◌, ◌*◌, ◌/◌, ◌%◌}
 use native.Mathlib.Omega.{arith}
-use lib.Bits.{bit_and, and_mask, mask_lt}
+use mir.Syntax.{w32}
+use Rattle.std.specs.Int.{to_be_bytes}
 use lib.ListN.{replicate}
 use Rattle.crc.specs.Bits.{Bits, binary, bits_of}
 use Rattle.crc.proofs.Rows.{binary_join, binary-mod}
 use Rattle.line.specs.Order.{version, end_payload}
 use Rattle.line.proofs.LastItem.{bits_of-zeros}
 use Rattle.line.proofs.order.end_data.Goals as goal
-
-pub overflow_cast-payload : goal.overflow_cast-payload
-overflow_cast-payload c = record { fits = mask_lt (c.args.bits / 2 ^ 24) 8 }
-
-pub overflow_cast-payload-2 : goal.overflow_cast-payload-2
-overflow_cast-payload-2 c = record { fits = mask_lt (c.args.bits / 2 ^ 16) 8 }
-
-pub overflow_cast-payload-3 : goal.overflow_cast-payload-3
-overflow_cast-payload-3 c = record { fits = mask_lt (c.args.bits / 2 ^ 8) 8 }
-
-pub overflow_cast-payload-4 : goal.overflow_cast-payload-4
-overflow_cast-payload-4 c = record { fits = mask_lt c.args.bits 8 }
-
--- the low byte of a number, as the code masks it
-binary_mask : (n : ℕ) → binary 8 (bit_and n 255) ≡ binary 8 n
-binary_mask n = ap (binary 8) (and_mask n 8) ∙ binary-mod 8 n
 
 -- a number's last eight bits behind the others
 binary_last : (w n : ℕ) → binary (w + 8) n ≡ binary w (n / 256) ++ binary 8 n
@@ -45,22 +30,22 @@ four_bytes n =
     (binary_last 8 (n / 65536) ∙ ap (λ (m : ℕ). binary 8 m ++ binary 8 (n / 65536)) f))
 
 -- the first five bytes
-front : (n : ℕ) (rest : List ℕ)
-    → bits_of
-    (version ∷ bit_and (n / 16777216) 255 ∷ bit_and (n / 65536) 255 ∷ bit_and (n / 256) 255 ∷ bit_and n 255 ∷ rest)
-    ≡ (binary 8 version ++ binary 32 n) ++ bits_of rest
+front : (n : ℕ) (four rest : List ℕ) → four ≡ to_be_bytes w32 n
+    → bits_of (version ∷ (four ++ rest)) ≡ (binary 8 version ++ binary 32 n) ++ bits_of rest
 unfolding bits_of
-front n rest =
-    simp (
-      binary_mask (n / 16777216),
-      binary_mask (n / 65536),
-      binary_mask (n / 256),
-      binary_mask n,
+front n four rest e =
+    rw e
+    (simp (
+      binary-mod 8 (n / 16777216),
+      binary-mod 8 (n / 65536),
+      binary-mod 8 (n / 256),
+      binary-mod 8 n,
       four_bytes n,
       append_assoc,
-    )
+    ))
 
 pub returns : goal.returns
 unfolding end_payload
-returns c = front c.args.bits (replicate 475 0)
+returns c =
+    front c.args.bits c.copy_from_slice.new.self (replicate 475 0) (c.copy_from_slice.ensures.after ∙ c.to_be_bytes.ensures)
     ∙ ap (λ (l : Bits). (binary 8 version ++ binary 32 c.args.bits) ++ l) (bits_of-zeros 475)

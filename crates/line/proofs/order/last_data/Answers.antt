@@ -1,31 +1,20 @@
 -- `last_data` copies the order's whole bytes and the first bits of the next over zeros. Assumes nothing.
-use borrow.Author.Rules.{rules}
-use mathlib.Core.Path.{◌≡◌, refl, ap, sym, ◌∙◌}
+use mathlib.Core.Path.{◌≡◌, refl, ap, ap₂, ◌∙◌}
 use mathlib.Core.List.{List, ◌∷◌, ◌++◌}
 use Prim.Native.Nat.{ℕ, suc, ◌+◌, ◌-◌, ◌*◌, ◌/◌, ◌%◌, ◌≤◌, ◌<◌}
 use native.Mathlib.Omega.{arith}
 use lib.ListN.{length, get_or, set, take, drop, replicate, length-drop}
-use lib.Seq.{get_or-drop}
 use Rattle.crc.specs.Bits.{Bits, binary, bits_of, bytes_of, number, zeros}
-use Rattle.line.proofs.LastItem.{copied, written, packed_whole, packed_rest}
+use Rattle.std.proofs.lemmas.List.{drop-replicate}
+use Rattle.line.proofs.LastItem.{written, packed_whole, packed_rest}
 use Rattle.line.proofs.order.last_data.Goals as goal
 
-pub loop-j-init : goal.loop-j-init
-loop-j-init c = (search rules, refl)
-
--- one byte more
-again : (order payload : List ℕ) (start j : ℕ) → payload ≡ take j (drop start order) ++ replicate (480 - j) 0
-    → start + j < length order → j < 480
-    → set payload j (get_or order (start + j) 0) ≡ take (j + 1) (drop start order) ++ replicate (480 - (j + 1)) 0
-again order payload start j e h g =
-    ap (λ (l : List ℕ). set l j (get_or order (start + j) 0)) e
-    ∙ ap (λ (x : ℕ). set (take j (drop start order) ++ replicate (480 - j) 0) j x) (sym (get_or-drop start order j 0))
-    ∙ copied j (drop start order) 480 (omega (arith, length-drop start order)) g
-
-pub loop-j-preserved : goal.loop-j-preserved
-loop-j-preserved c = let l = c.loop-j in
-    let a = c.args in
-    (search rules, again a.order.now l.payload a.start l.j l.invariant.1 (omega arith) (omega arith))
+-- the copied bytes and the zeros behind them
+copied : (order : List ℕ) (start whole : ℕ) (front : List ℕ) → front ≡ take (start + whole - start) (drop start order)
+    → front ++ drop whole (replicate 480 0) ≡ take whole (drop start order) ++ replicate (480 - whole) 0
+copied order start whole front e =
+    let n : start + whole - start ≡ whole = omega arith in
+    ap₂ (λ (x y : List ℕ). x ++ y) (e ∙ ap (λ (i : ℕ). take i (drop start order)) n) (drop-replicate whole 480 0)
 
 module _ (order payload : List ℕ) (bits start j : ℕ) (bytes : (i : ℕ) → get_or order i 0 < 256) (from : 8 * start ≤ bits)
     (within : bits ≤ 8 * start + 3840) (lent : bits ≤ 8 * length order)
@@ -53,13 +42,11 @@ module _ (order payload : List ℕ) (bits start j : ℕ) (bytes : (i : ℕ) → 
 
 pub returns-then-rest-gt0 : goal.returns-then-rest-gt0
 returns-then-rest-gt0 c = let a = c.args in
-    let l = c.loop-j in
-    some-rest a.order.now l.payload a.bits a.start l.j (λ i. (c.shared_slice_known-1.given i).fits)
-    (omega arith) (omega arith) (omega arith) l.invariant.1 (omega arith) c.keep_first.result c.if-rest-gt0.true
+    some-rest a.order.now (c.copy_from_slice.new.self ++ drop (a.bits / 8 - a.start) (replicate 480 0)) a.bits a.start (a.bits / 8 - a.start) (λ i. (c.shared_slice_known-1.given i).fits)
+    (omega arith) (omega arith) (omega arith) (copied a.order.now a.start (a.bits / 8 - a.start) c.copy_from_slice.new.self c.copy_from_slice.ensures.after) refl c.keep_first.result c.if-rest-gt0.true
     c.keep_first.ensures
 
 pub returns-else-rest-gt0 : goal.returns-else-rest-gt0
 returns-else-rest-gt0 c = let a = c.args in
-    let l = c.loop-j in
-    no_rest a.order.now l.payload a.bits a.start l.j (λ i. (c.shared_slice_known-1.given i).fits)
-    (omega arith) (omega arith) (omega arith) l.invariant.1 (omega arith) c.if-rest-gt0.false
+    no_rest a.order.now (c.copy_from_slice.new.self ++ drop (a.bits / 8 - a.start) (replicate 480 0)) a.bits a.start (a.bits / 8 - a.start) (λ i. (c.shared_slice_known-1.given i).fits)
+    (omega arith) (omega arith) (omega arith) (copied a.order.now a.start (a.bits / 8 - a.start) c.copy_from_slice.new.self c.copy_from_slice.ensures.after) refl c.if-rest-gt0.false

@@ -1,21 +1,15 @@
--- The loop of `load_doses`: the numbers taken so far, those to come, and zeros behind. Assumes nothing.
-use mathlib.Core.List.{List}
-use Prim.Native.Nat.{ℕ, ◌-◌, ◌*◌, ◌≤◌}
-use lib.ListN.{length, take, drop}
-use Rattle.tint.specs.Format.{Dose}
-use Rattle.tint.specs.Calls.{canisters_of, steps_of}
-use Rattle.tint.proofs.Arrays.{Filled}
-use Rattle.line_c.specs.TintCalls.{doses_of_numbers, doses_held}
+-- The loop of `load_doses`: the doses so far, and none behind them. Assumes nothing.
+use mathlib.Core.List.{List, map}
+use mathlib.Core.Path.{◌≡◌}
+use Prim.Native.Nat.{ℕ}
+use lib.ListN.{get_or, take}
+use Rattle.tint.specs.Calls.{filled_up}
+use Rattle.tint.specs.declared.Dose.{Dose}
 use Rattle.line_c.proofs.tint_calls.load_doses.Given as goal
 
--- the doses to come from place i on
-abbrev pub to_come : ℕ → List ℕ → ℕ → List Dose
-to_come count s i = take (count - i) (doses_of_numbers (drop (i * 2) s))
+-- the dose of two numbers
+abbrev pub dose_of : List ℕ → Dose
+dose_of pair = record { canister = get_or pair 0 0; steps = get_or pair 1 0 }
 
-abbrev pub invariant-loop-i : goal.invariant-loop-i
-invariant-loop-i l = (l.i ≤ l.count) × (l.count ≤ 12) × (l.count * 2 ≤ length l.numbers)
-    × Filled (canisters_of (doses_held l.numbers l.count)) (canisters_of (to_come l.count l.numbers l.i)) l.canisters l.i
-    × Filled (steps_of (doses_held l.numbers l.count)) (steps_of (to_come l.count l.numbers l.i)) l.steps l.i
-
-abbrev pub decreases-loop-i : goal.decreases-loop-i
-decreases-loop-i l = l.count - l.i
+abbrev pub invariant-loop-place : goal.invariant-loop-place
+invariant-loop-place l = l.list ≡ filled_up (map dose_of (take l.place l.pairs))

@@ -11,5 +11,6 @@ use Rattle.line.proofs.head.Head.hold_window.Goals as goal
 
 pub returns : goal.returns
 returns c = let a = c.args in
-    ap₂ (λ (l : List ℕ) (n : ℕ). stepped (record { setup = a.self.setup; bits = l ++ drop 2 a.array.now; held = n; bad_row = a.self.bad_row; back = true; taken = a.self.taken; ended = a.self.ended; phase = a.self.phase }) E.None a.used)
+    c.reports.ensures _
+    ∙ ap₂ (λ (l : List ℕ) (n : ℕ). stepped (record { setup = a.self.setup; bits = l ++ drop 2 a.array.now; held = n; bad_row = a.self.bad_row; back = true; taken = a.self.taken; ended = a.self.ended; phase = a.self.phase }) E.None a.used)
     (c.copy_from_slice.ensures.after ∙ c.store.ensures) (sym (length-binary a.window.held a.window.number))

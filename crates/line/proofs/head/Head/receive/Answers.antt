@@ -3,12 +3,11 @@ use mathlib.Core.Path.{◌≡◌, sym, ap, ◌∙◌, subst}
 use mathlib.Core.Bool.{true}
 use mathlib.Core.List.{List}
 use Prim.Native.Nat.{ℕ}
-use borrow.Author.Tests.{ltb-false}
 use lib.ListN.{length}
 use Rattle.line.specs.Receiving.{array_bytes, receiver_in_range}
 use Rattle.line.specs.ReceivingInPlace.{with_array, ReceiveInPlace}
 use Rattle.line.specs.declared.head.HeadStep.{HeadStep}
-use Rattle.line.proofs.ReceivingCall.{refuses_spoiled, refuses_short, receives}
+use Rattle.line.proofs.ReceivingCall.{in_range, refuses_spoiled, refuses_short, receives}
 use Rattle.line.proofs.InPlace.{another_length, in_place}
 use Rattle.line.proofs.head.Head.receive.Goals as goal
 use Rattle.line.proofs.head.Head.receive.Goals.{In-Some, Else-not-in_range}
@@ -48,11 +47,9 @@ returns-then-too_short c = let a = c.args in
     (in_place a.self c.in-Some.array.now a.line.now a.bits a.ready a.store.now (enough s) _ _ _
     (rw c.refused-then-too_short.ensures (refuses_short (with_array a.self c.in-Some.array.now) a.line.now a.bits a.ready a.store.now (ranged (goal.at.returns-then-too_short c).Else-not-in_range) t)))
 
-pub read-requires : goal.read-requires
-read-requires c = (
-  ranged (goal.at.read-requires c).Else-not-in_range,
-  ltb-false _ _ (sym c.too_short.ensures ∙ c.if-too_short.false),
-)
+pub invariant_of-read : goal.invariant_of-read
+invariant_of-read c = let r = in_range _ (ranged (goal.at.invariant_of-read c).Else-not-in_range) in
+    record { known = r.known; bad_row = r.bad_row; items = r.taken; held = r.held }
 
 pub returns : goal.returns
 returns c = let a = c.args in

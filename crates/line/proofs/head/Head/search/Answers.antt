@@ -15,7 +15,7 @@ use Rattle.line.proofs.head.Head.search.Goals as goal
 pub loop-used-init : goal.loop-used-init
 loop-used-init c = let a = c.args in (
   refl,
-  ap (λ (w : Bits). S.search (with_array a.self a.array.now) w (take a.bits (bits_of a.line.now)) 0)
+  ap (λ (w : Bits). S.search (with_array a.self a.array.now) w (take a.line.bits (bits_of a.line.bytes.now)) 0)
       (c.load-window.ensures.1 ∙ window_held a.array.now a.self.held (omega arith) (omega arith)),
 )
 
@@ -23,21 +23,21 @@ pub returns-then-ends_sequence : goal.returns-then-ends_sequence
 returns-then-ends_sequence c = let l = c.loop-used in
     c.after_good.ensures
     ∙ ap handed_back
-    (search_found (with_array c.args.self c.args.array.now) c.args.line.now c.args.bits c.requires.1 (binary l.window.held l.window.number) l.used _ c.loop-used-test.true
+    (search_found (with_array c.args.self c.args.array.now) c.args.line.bytes.now c.args.line.bits c.args.line.held (binary l.window.held l.window.number) l.used _ c.loop-used-test.true
     c.bit_at-next.ensures (sym c.ends_sequence.ensures ∙ c.if-ends_sequence.true) ∙ l.invariant.1)
 
 pub loop-used-preserved : goal.loop-used-preserved
 loop-used-preserved c = let l = c.loop-used in (
   l.invariant.0,
-  search_on (with_array c.args.self c.args.array.now) c.args.line.now c.args.bits c.requires.1 (binary l.window.held l.window.number) l.used _ c.loop-used-test.true
+  search_on (with_array c.args.self c.args.array.now) c.args.line.bytes.now c.args.line.bits c.args.line.held (binary l.window.held l.window.number) l.used _ c.loop-used-test.true
       c.bit_at-next.ensures (sym c.ends_sequence.ensures ∙ c.if-ends_sequence.false) _ c.slide-window.ensures ∙ l.invariant.1,
 )
 
 pub returns : goal.returns
 returns c = let l = c.loop-used in
     let w : Bits = binary l.window.held l.window.number in
-    let done : c.args.bits ≡ l.used = omega arith in
+    let done : c.args.line.bits ≡ l.used = omega arith in
     c.hold_window.ensures
     ∙ ap₂ (λ (array : List ℕ) (used : ℕ). stepped (S.searching (with_array c.args.self array) w) E.None used) l.invariant.0 done
     ∙ ap handed_back
-    (sym (search_end (with_array c.args.self c.args.array.now) c.args.line.now c.args.bits c.requires.1 w l.used (sym done)) ∙ l.invariant.1)
+    (sym (search_end (with_array c.args.self c.args.array.now) c.args.line.bytes.now c.args.line.bits c.args.line.held w l.used (sym done)) ∙ l.invariant.1)

@@ -9,4 +9,4 @@ use Rattle.line.proofs.head.Head.search.Given as goal
 
 abbrev pub invariant-loop-used : goal.invariant-loop-used
 invariant-loop-used l = (l.array ≡ l.initial.array)
-    × (S.search (with_array l.self l.initial.array) (binary l.window.held l.window.number) (drop l.used (take l.bits (bits_of l.line))) l.used ≡ S.search (with_array l.self l.initial.array) (held_bits (with_array l.self l.initial.array)) (take l.bits (bits_of l.line)) 0)
+    × (S.search (with_array l.self l.initial.array) (binary l.window.held l.window.number) (drop l.used (take l.line.bits (bits_of l.line.bytes.now))) l.used ≡ S.search (with_array l.self l.initial.array) (held_bits (with_array l.self l.initial.array)) (take l.line.bits (bits_of l.line.bytes.now)) 0)

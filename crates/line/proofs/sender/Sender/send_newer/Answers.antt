@@ -17,7 +17,7 @@ use Rattle.line.proofs.sender.Sender.send_newer.Goals as goal
 
 pub write_item-requires : goal.write_item-requires
 write_item-requires c = let r = in_range c.args.self c.requires.sender.range in
-    (r.known, r.valid, c.requires.order_lent, c.requires.room)
+    (record { known = r.known; valid = r.valid; room = c.requires.room }, c.requires.order_lent)
 
 pub unwrap-requires : goal.unwrap-requires
 unwrap-requires c = let s = c.args.self in

@@ -12,7 +12,7 @@ overflow_sub-older c = let r = in_range c.args.self c.requires.sender.range in
 
 pub write_item-requires : goal.write_item-requires
 write_item-requires c = let r = in_range c.args.self c.requires.sender.range in
-    (r.known, r.valid, c.requires.order_lent, c.requires.room)
+    (record { known = r.known; valid = r.valid; room = c.requires.room }, c.requires.order_lent)
 
 pub returns : goal.returns
 unfolding transmit sent_bits

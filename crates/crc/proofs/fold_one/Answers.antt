@@ -1,8 +1,0 @@
--- `crc::fold_one` meets its contract, by the law of the same name. Assumes nothing.
-use mathlib.Core.Path.{sym}
-use borrow.Author.Rules.{rules}
-use Rattle.crc.proofs.Folding as laws
-use Rattle.crc.proofs.fold_one.Goals as goal
-
-pub returns : goal.returns
-returns c = sym (laws.fold_one c.args.a c.args.b (search rules))
