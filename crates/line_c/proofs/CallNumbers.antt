@@ -3,6 +3,7 @@
 use mathlib.Core.Path.{◌≡◌, refl}
 use mathlib.Core.Bool.{Bool, true, false, not, ◌&&◌, ◌||◌}
 use mathlib.Core.List.{List, [], ◌∷◌}
+use Rattle.std.specs.Prelude.{Option}
 use Prim.Native.Nat.{ℕ, ◌+◌, ◌*◌, ◌≤◌}
 use native.Mathlib.Omega.{arith}
 use lib.Dec.{eqb, ltb}
@@ -22,7 +23,6 @@ use Rattle.line.specs.Marks.{marks_of, marks_in_range}
 use Rattle.line.specs.Order.{longest_order}
 use Rattle.line.specs.Sending.{Block, synchronising, item, transmit, sender_in_range, gave_up, fresh_sender, unless_refused, open_sender, send}
 use Rattle.line.specs.Receiving.{meaning, open_receiver, Reception, reception, reported, receiver_in_range, receive}
-use Rattle.line.specs.declared.marks.CodeSize.{CodeSize}
 use Rattle.line.specs.declared.sender.Sender.{Sender}
 use Rattle.line.specs.declared.receiver.Receiver.{Receiver}
 use Rattle.line.specs.declared.receiving.Event.{Event}
@@ -134,7 +134,7 @@ module _ (P : Bool → ℕ → Type 0) (holds : Numbers P) where
       ((not (is_length k), A.block) ∷ (too_short slice (block_length k) || too_short payload k, A.short) ∷ [])
       refl (done v) (holds.of_other _ (verdict_word v))
 
-  pub open_sender-number : (k speed loop_ms L : ℕ) (size : CodeSize) (order state : List ℕ)
+  pub open_sender-number : (k speed loop_ms L : ℕ) (size : Option ℕ) (order state : List ℕ)
       → Plain (open_sender_in k speed loop_ms L size order state)
   unfolding open_sender_in open_sender
   open_sender-number k speed loop_ms L size order state =
@@ -163,7 +163,7 @@ module _ (P : Bool → ℕ → Type 0) (holds : Numbers P) where
   pub send-number : (state order : List ℕ) (reading : Bool) (slice : List ℕ) → By sent_word (send_in order reading slice (sender_of state))
   send-number state order reading slice = sent-number order reading slice (sender_of state) (sender_number state)
 
-  pub open_receiver-number : (k : ℕ) (size : CodeSize) (state : List ℕ) → Plain (open_receiver_in k size state)
+  pub open_receiver-number : (k : ℕ) (size : Option ℕ) (state : List ℕ) → Plain (open_receiver_in k size state)
   unfolding open_receiver_in open_receiver
   open_receiver-number k size state =
       judge-number receiver_size state (open_receiver k size)

@@ -3,13 +3,14 @@
 use mathlib.Core.Path.{◌≡◌, refl, sym, ◌∙◌}
 use mathlib.Core.Bool.{Bool, true, false}
 use mathlib.Core.List.{List}
+use Rattle.std.specs.Prelude.{Option, Result, Ok}
 use Prim.Native.Nat.{ℕ, ◌+◌, ◌-◌, ◌≤◌, ◌<◌}
 use native.Mathlib.Omega.{arith}
 use Rattle.block.specs.Answer.{done}
 use Rattle.block.proofs.Lengths.{length_facts}
 use Rattle.line.specs.Order.{most_items}
-use Rattle.line.specs.Sending.{open_sender, Block, synchronising, item, transmit, sender_in_range, send, send_state, sent_answer}
-use Rattle.line.specs.declared.marks.CodeSize.{CodeSize}
+use Rattle.line.specs.Sending.{open_sender, Block, synchronising, item, transmit, sender_in_range, send, send_state, sent_block, sent_answer}
+use Rattle.line.specs.declared.Refusal.{Refusal}
 use Rattle.line.specs.declared.sender.Sender.{Sender}
 use Rattle.line.specs.declared.sender.Next.{Next}
 use Rattle.line.specs.declared.sender.Next.TheVariants.{Sync, Older, Newer}
@@ -19,6 +20,7 @@ use Rattle.line.specs.declared.sender.Step.{Step}
 use Rattle.line.proofs.Items.{valid_most, item_count_fits}
 use Rattle.line.proofs.SenderRange.{in_range, opened_in_range, sendable, send_in_range}
 use Rattle.line_c.specs.State.{SenderFits}
+use Rattle.line_c.specs.SenderCalls.{number_fits}
 
 newer_most : (s : Sender) → sender_in_range s ≡ true → s.newer ≤ most_items + 1
 newer_most s h =
@@ -33,16 +35,16 @@ sender_fits s h =
     let n = newer_most s h in
     record { k = omega arith; length = omega arith; newer = omega arith; run = omega (arith, r.cancels) }
 
-pub opened_fits : (k speed loop_ms L : ℕ) (size : CodeSize) (order : List ℕ) (s : Sender)
+pub opened_fits : (k speed loop_ms L : ℕ) (size : Option ℕ) (order : List ℕ) (s : Sender)
     → open_sender k speed loop_ms L size order ≡ done s → SenderFits s
 opened_fits k speed loop_ms L size order s e =
     sender_fits s (opened_in_range k speed loop_ms L size order s (record { answers = sym e }))
 
 -- ---- a sending call that sends
 
-sent_of : Block → Sent
-sent_of synchronising = W.Synchronising
-sent_of (item i end used cancelled) = W.Item i end used cancelled
+sent_of : Block → Result Sent Refusal
+sent_of synchronising = Ok W.Synchronising
+sent_of (item i end used cancelled) = Ok (W.Item i end used cancelled)
 
 answer_of : (b : Block) → sent_answer (sent_of b) ≡ done b
 unfolding sent_of
@@ -71,3 +73,7 @@ module _ (s : Sender) (order : List ℕ) (reading : Bool) (slice : List ℕ) whe
   item_fits i end used cancelled e =
       let q = sendable s order reading slice (item i end used cancelled) e in
       omega (arith, newer_most s q.range, item_at_most s s.next reading i end used cancelled q.block)
+
+  pub number_fits_of : (x : Sent) → done (sent_block x) ≡ send s order reading slice → number_fits x
+  number_fits_of W.Synchronising e = tt
+  number_fits_of (W.Item i end used cancelled) e = item_fits i end used cancelled (sym e)

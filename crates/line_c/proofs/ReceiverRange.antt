@@ -3,6 +3,7 @@
 use mathlib.Core.Path.{◌≡◌, refl}
 use mathlib.Core.Bool.{Bool, true, false, not, ◌||◌}
 use mathlib.Core.List.{List, [], ◌∷◌, ◌++◌}
+use Rattle.std.specs.Prelude.{Option}
 use Prim.Native.Nat.{ℕ, suc, ◌+◌, ◌^◌, ◌≤◌, ◌<◌}
 use native.Mathlib.Omega.{arith}
 use borrow.Author.Tests.{ltb-true, leb-true, not-false}
@@ -18,7 +19,6 @@ use Rattle.block.proofs.Truth.{cond_case}
 use Rattle.block.proofs.Refusals.{passed_test}
 use Rattle.line.specs.Marks.{marks_of}
 use Rattle.line.specs.Receiving.{array_bytes, fresh_receiver, open_receiver, Rule, unfinished, standing, sequence_found, reads_sync, check_fails, accepts, previous, out_of_sequence, ends, wrong_length, ends_again, anything_else, waits, block_rule, blank, last_bad, after_bad, after, held_bits, Reception, latest, is_sequence, search, under_alarm, holding, missing, finished_row, in_step, by_phase, reception, held_in_range, receiver_in_range, receive}
-use Rattle.line.specs.declared.marks.CodeSize.{CodeSize}
 use Rattle.line.specs.declared.receiver.Receiver.{Receiver}
 use Rattle.line.specs.declared.receiving.Phase.{Phase}
 use Rattle.line.specs.declared.receiving.Phase.TheVariants as P
@@ -130,7 +130,7 @@ module _ (s : Receiver) (r : InRange s) (f : ReceiverFits s) where
 
 -- ---- opening and a receiving call
 
-pub opened_fits : (k : ℕ) (size : CodeSize) (u : Unit {0}) → open_receiver k size ≡ done u
+pub opened_fits : (k : ℕ) (size : Option ℕ) (u : Unit {0}) → open_receiver k size ≡ done u
     → ReceiverFits (fresh_receiver k (marks_of size))
 unfolding open_receiver fresh_receiver
 opened_fits k size u e =

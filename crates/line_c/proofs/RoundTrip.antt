@@ -3,6 +3,7 @@
 use mathlib.Core.Path.{◌≡◌, refl, sym, ap, ◌∙◌}
 use mathlib.Core.Bool.{Bool, true, false, not, ◌&&◌}
 use mathlib.Core.List.{List, ◌++◌, append_assoc}
+use Rattle.std.specs.Prelude.{Option}
 use Prim.Native.Nat.{ℕ, zero, suc, ◌+◌, ◌-◌, ◌*◌, ◌/◌, ◌%◌, ◌^◌, ◌≤◌, ◌<◌}
 use native.Mathlib.Nat.{div-add-mod'}
 use native.Mathlib.Omega.{arith}
@@ -15,7 +16,6 @@ use Rattle.block.specs.Answer.{Answer, refused, done, refuse_if}
 use Rattle.block.proofs.Truth.{and_left, and_right}
 use Rattle.block.proofs.Refusals.{passed_test}
 use Rattle.line.specs.Marks.{marks_of}
-use Rattle.line.specs.declared.marks.CodeSize.{CodeSize}
 use Rattle.line.specs.declared.marks.Marks.{Marks}
 use Rattle.line.specs.declared.sender.Sender.{Sender}
 use Rattle.line.specs.declared.sender.Next.{Next}
@@ -257,7 +257,7 @@ pub in_range_read_back : (s : Sender) (rest : List ℕ) → sender_in_range s �
 in_range_read_back s rest h = sender_read_back s rest (sender_fits s h)
 
 -- after an opening that is not refused, the bytes hold the sender that was opened
-pub opened-read_back : (k speed loop_ms L : ℕ) (size : CodeSize) (order state : List ℕ) (result : ℕ) (state' : List ℕ) (s : Sender)
+pub opened-read_back : (k speed loop_ms L : ℕ) (size : Option ℕ) (order state : List ℕ) (result : ℕ) (state' : List ℕ) (s : Sender)
     → OpenSenderCall k speed loop_ms L size order state result state' → open_sender_in k speed loop_ms L size order state ≡ done s
     → sender_of state' ≡ done s
 unfolding open_sender_in
@@ -357,7 +357,7 @@ pub in_range_receiver_read_back : (s : Receiver) (rest : List ℕ) → receiver_
 in_range_receiver_read_back s rest h b = receiver_read_back s rest (receiver_fits s h b)
 
 -- after an opening that is not refused, the bytes hold the receiver that was opened
-pub opened_receiver-read_back : (k : ℕ) (size : CodeSize) (state : List ℕ) (result : ℕ) (state' : List ℕ) (u : Unit {0})
+pub opened_receiver-read_back : (k : ℕ) (size : Option ℕ) (state : List ℕ) (result : ℕ) (state' : List ℕ) (u : Unit {0})
     → OpenReceiverCall k size state result state' → open_receiver_in k size state ≡ done u
     → receiver_of state' ≡ done (fresh_receiver k (marks_of size))
 unfolding open_receiver_in
@@ -368,7 +368,7 @@ opened_receiver-read_back k size state result state' u p e =
     (receiver_read_back s (drop receiver_size state)
     (R.opened_fits k size u (judged receiver_size state (open_receiver k size) u e)))
 
-holds_of : (state : List ℕ) (s : Receiver) → receiver_of state ≡ done s → (holds_receiver state ≡ true) × (s ≡ receiver_in state)
+pub holds_of : (state : List ℕ) (s : Receiver) → receiver_of state ≡ done s → (holds_receiver state ≡ true) × (s ≡ receiver_in state)
 unfolding receiver_of
 holds_of state s e =
     let p = passed_test (not (holds_receiver state)) A.spoiled (done (receiver_in state)) s e in

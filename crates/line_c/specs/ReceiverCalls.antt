@@ -1,11 +1,10 @@
 -- The receiving end's calls for C and Rust, the receiver in lent bytes: what each returns and writes, and its promise.
 -- Assumes nothing.
-use Rattle.std.specs.Prelude.{◌≡◌, Bool, true, false, cond, List, ◌++◌, ℕ, drop}
+use Rattle.std.specs.Prelude.{Option, ◌≡◌, Bool, true, false, cond, List, ◌++◌, ℕ, drop}
 use Rattle.block.specs.Answer as A
 use Rattle.block.specs.Answer.{Answer, refused, done}
 use Rattle.line.specs.Marks.{marks_of}
 use Rattle.line.specs.Receiving.{event_kind, with_length, open_receiver, fresh_receiver, Reception, receiver_in_range, receive, receive_store, Report, reported}
-use Rattle.line.specs.declared.marks.CodeSize.{CodeSize}
 use Rattle.line.specs.declared.receiver.Receiver.{Receiver}
 use Rattle.line.specs.declared.receiving.Event.{Event}
 use Rattle.line.specs.declared.receiving.Event.TheVariants as E
@@ -19,14 +18,14 @@ receiver_over state s = receiver_bytes s ++ drop receiver_size state
 
 -- ---- opening, without marks if no code size is given: 1, 9, then the slice for the state: 6
 
-unfoldable pub open_receiver_in : ℕ → CodeSize → List ℕ → Answer (Unit {0})
+unfoldable pub open_receiver_in : ℕ → Option ℕ → List ℕ → Answer (Unit {0})
 open_receiver_in k size state = judge_state receiver_size state (open_receiver k size)
 
-abbrev pub opened_receiver : ℕ → CodeSize → List ℕ → Answer (Unit {0}) → List ℕ
+abbrev pub opened_receiver : ℕ → Option ℕ → List ℕ → Answer (Unit {0}) → List ℕ
 opened_receiver k size state (refused n) = state
 opened_receiver k size state (done u) = receiver_over state (fresh_receiver k (marks_of size))
 
-pub record OpenReceiverCall (k : ℕ) (size : CodeSize) (state : List ℕ) (result : ℕ) (state' : List ℕ) : Type 0 where
+pub record OpenReceiverCall (k : ℕ) (size : Option ℕ) (state : List ℕ) (result : ℕ) (state' : List ℕ) : Type 0 where
   pub answers : result ≡ refusal (open_receiver_in k size state)
   pub writes : state' ≡ opened_receiver k size state (open_receiver_in k size state)
 

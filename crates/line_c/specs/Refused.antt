@@ -1,12 +1,11 @@
 -- Whether a call was refused, told from the number that it returns: the header's ORDER_LINE_IS_REFUSED, and that it is
 -- right for every call. Assumes nothing.
-use Rattle.std.specs.Prelude.{◌≡◌, Bool, true, false, ◌&&◌, List, ℕ, eqb, ltb}
+use Rattle.std.specs.Prelude.{Option, ◌≡◌, Bool, true, false, ◌&&◌, List, ℕ, eqb, ltb}
 use Rattle.block.specs.Answer as A
 use Rattle.block.specs.Answer.{Answer, refused, done}
 use Rattle.block.specs.Calls.{build_block, read_block}
 use Rattle.line.specs.LoopTime.{loop_time}
 use Rattle.line.specs.Receiving.{reported}
-use Rattle.line.specs.declared.marks.CodeSize.{CodeSize}
 use Rattle.noise.specs.Load.{report_of}
 use Rattle.line_c.specs.State.{sender_of, receiver_of}
 use Rattle.line_c.specs.BlockCalls.{refusal, read_number}
@@ -30,13 +29,13 @@ pub record RefusalsTold : Type 0 where
       → is_refusal (refusal (build_block k service payload slice)) ≡ is_refused (build_block k service payload slice)
   pub read_block : (k : ℕ) (slice payload : List ℕ)
       → is_refusal (read_number (read_block k slice payload)) ≡ is_refused (read_block k slice payload)
-  pub open_sender : (k speed loop_ms L : ℕ) (size : CodeSize) (order state : List ℕ)
+  pub open_sender : (k speed loop_ms L : ℕ) (size : Option ℕ) (order state : List ℕ)
       → is_refusal (refusal (open_sender_in k speed loop_ms L size order state))
       ≡ is_refused (open_sender_in k speed loop_ms L size order state)
   pub send : (state order : List ℕ) (reading : Bool) (slice : List ℕ)
       → is_refusal (sent_word (send_in order reading slice (sender_of state))) ≡ is_refused (send_in order reading slice (sender_of state))
   pub sender_rest : (state : List ℕ) → is_refusal (rest_in (sender_of state)) ≡ eqb (rest_in (sender_of state)) A.spoiled
-  pub open_receiver : (k : ℕ) (size : CodeSize) (state : List ℕ)
+  pub open_receiver : (k : ℕ) (size : Option ℕ) (state : List ℕ)
       → is_refusal (refusal (open_receiver_in k size state)) ≡ is_refused (open_receiver_in k size state)
   pub receive : (state line : List ℕ) (count : ℕ) (ready : Bool) (store : List ℕ)
       → is_refusal (report_number (reported (receive_in line count ready store (receiver_of state))))

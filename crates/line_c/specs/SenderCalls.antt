@@ -1,11 +1,12 @@
 -- The sending end's calls for C and Rust, the sender in lent bytes: what each returns and writes, and its promise.
 -- Assumes nothing.
-use Rattle.std.specs.Prelude.{◌≡◌, Bool, cond, List, ◌++◌, ℕ, ◌+◌, ◌*◌, ltb, length, drop}
+use Rattle.std.specs.Prelude.{Option, ⊤, ◌<◌, ◌≡◌, Bool, cond, List, ◌++◌, ℕ, ◌+◌, ◌*◌, ltb, length, drop}
 use Rattle.block.specs.Answer as A
 use Rattle.block.specs.Answer.{Answer, refused, done, refuse_if}
 use Rattle.line.specs.Sending.{open_sender, Block, synchronising, item, sender_in_range, gave_up, send, send_state, send_bytes}
-use Rattle.line.specs.declared.marks.CodeSize.{CodeSize}
 use Rattle.line.specs.declared.sender.Sender.{Sender}
+use Rattle.line.specs.declared.sender.Sent.{Sent}
+use Rattle.line.specs.declared.sender.Sent.TheVariants as W
 use Rattle.line_c.specs.State.{sender_size, sender_of, sender_bytes}
 use Rattle.line_c.specs.BlockCalls.{refusal}
 
@@ -19,7 +20,7 @@ abbrev pub judge_state : {A : Type 0} → ℕ → List ℕ → Answer A → Answ
 judge_state size state (refused n) = refused n
 judge_state size state (done a) = refuse_if (ltb (length state) size) A.short (done a)
 
-unfoldable pub open_sender_in : ℕ → ℕ → ℕ → ℕ → CodeSize → List ℕ → List ℕ → Answer Sender
+unfoldable pub open_sender_in : ℕ → ℕ → ℕ → ℕ → Option ℕ → List ℕ → List ℕ → Answer Sender
 open_sender_in k speed loop_ms L size order state = judge_state sender_size state (open_sender k speed loop_ms L size order)
 
 abbrev pub opened_bytes : List ℕ → Answer Sender → List ℕ
@@ -27,7 +28,7 @@ opened_bytes state (refused n) = state
 opened_bytes state (done s) = sender_over state s
 
 pub record OpenSenderCall
-    (k speed loop_ms L : ℕ) (size : CodeSize) (order state : List ℕ) (result : ℕ) (state' : List ℕ)
+    (k speed loop_ms L : ℕ) (size : Option ℕ) (order state : List ℕ) (result : ℕ) (state' : List ℕ)
     : Type 0 where
   pub answers : result ≡ refusal (open_sender_in k speed loop_ms L size order state)
   pub writes : state' ≡ opened_bytes state (open_sender_in k speed loop_ms L size order state)
@@ -41,6 +42,11 @@ flag_word t n = cond t n 0
 
 abbrev pub item_word : ℕ → Bool → Bool → Bool → ℕ
 item_word i end used cancelled = 0x300 + flag_word end 0x400 + flag_word used 0x800 + flag_word cancelled 0x1000 + i * 65536
+
+-- an item's number fits its half of the word
+abbrev pub number_fits : Sent → Type 0
+number_fits W.Synchronising = ⊤
+number_fits (W.Item i end used cancelled) = i < 65536
 
 abbrev pub sent_word : Answer Block → ℕ
 sent_word (refused n) = n

@@ -1,8 +1,12 @@
 -- The ends' states in bytes that the caller lends: the two layouts, little-endian and of any alignment. Assumes nothing.
-use Rattle.std.specs.Prelude.{◌≡◌, Bool, true, false, not, ◌&&◌, List, [], ◌∷◌, ◌++◌, ℕ, zero, suc, ◌+◌, ◌-◌, ◌*◌, ◌/◌, ◌%◌, ◌^◌, ◌<◌, eqb, leb, length, take, drop, get_or}
+use Rattle.std.specs.Prelude.{Result, Ok, Err, ◌≡◌, Bool, true, false, not, ◌&&◌, List, [], ◌∷◌, ◌++◌, ℕ, zero, suc, ◌+◌, ◌-◌, ◌*◌, ◌/◌, ◌%◌, ◌^◌, ◌<◌, eqb, leb, length, take, drop, get_or}
 use Rattle.block.specs.Answer as A
-use Rattle.block.specs.Answer.{Answer, done, refuse_if}
+use Rattle.block.specs.Answer.{Answer, refused, done, refuse_if}
+use Rattle.line.specs.Refusals.{refusal_number}
 use Rattle.line.specs.Receiving.{array_bytes}
+use Rattle.line.specs.ReceivingInPlace.{with_array}
+use Rattle.line.specs.declared.Refusal.{Refusal}
+use Rattle.line.specs.declared.head.Head.{Head}
 use Rattle.line.specs.declared.marks.Marks.{Marks}
 use Rattle.line.specs.declared.sender.Sender.{Sender}
 use Rattle.line.specs.declared.sender.Next.{Next}
@@ -140,6 +144,11 @@ receiver_in s =
 -- bytes that hold no receiver are refused as spoiled
 unfoldable pub receiver_of : List ℕ → Answer Receiver
 receiver_of s = refuse_if (not (holds_receiver s)) A.spoiled (done (receiver_in s))
+
+-- a head that the bytes hold, with their array
+abbrev pub head_answer : List ℕ → Result Head Refusal → Answer Receiver
+head_answer s (Ok h) = done (with_array h (take array_bytes (drop head_size s)))
+head_answer s (Err r) = refused (refusal_number r)
 
 abbrev pub receiver_head : Receiver → List ℕ
 receiver_head s =

@@ -1,10 +1,11 @@
 // The loop-time test and the calls on one block.
 ghost use Rattle.line_c.specs.BlockCalls.{LoopTimeCall, BuildBlockCall, ReadBlockCall};
 
-use block::{Built, Read, build_block, read_block};
-use line::loop_time::{LoopTime, loop_time};
+use crate::answer::answer_number;
+use block::{Read, build_block, read_block};
+use line::loop_time::loop_time;
 
-// What reading a block answers where it is not refused: PASSED and the service bits, or FAILED.
+// What reading a block answers where it is not refused: PASSED and the service bits, or FAILED. The C interface's numbers.
 pub const PASSED: u16 = 0x100;
 
 pub const FAILED: u16 = 0x200;
@@ -13,10 +14,7 @@ pub const FAILED: u16 = 0x200;
 pub extern "C" fn order_line_loop_time(k: usize, speed: u32, loop_ms: u32) -> u8
     ensures { LoopTimeCall k speed loop_ms result }
 {
-    match loop_time(k, speed, loop_ms) {
-        LoopTime::Allowed => 0,
-        LoopTime::Refused(number) => number,
-    }
+    answer_number(loop_time(k, speed, loop_ms))
 }
 
 #[unsafe(no_mangle)]
@@ -28,10 +26,7 @@ pub extern "C" fn order_line_build_block(
 ) -> u8
     ensures { BuildBlockCall k service payload.now block.old result block.new }
 {
-    match build_block(k, service, payload, block) {
-        Built::Done => 0,
-        Built::Refused(number) => number,
-    }
+    answer_number(build_block(k, service, payload, block))
 }
 
 #[unsafe(no_mangle)]
@@ -44,11 +39,11 @@ pub extern "C" fn order_line_read_block(
     ensures { ReadBlockCall k block.now payload.old remainder.old result payload.new remainder.new }
 {
     match read_block(k, block, payload) {
-        Read::Passed(service) => PASSED + service as u16,
-        Read::Failed(found) => {
+        Ok(Read::Passed(service)) => PASSED + u16::from(service),
+        Ok(Read::Failed(found)) => {
             *remainder = found;
             FAILED
         }
-        Read::Refused(number) => number as u16,
+        Err(refusal) => u16::from(u8::from(refusal)),
     }
 }

@@ -1,5 +1,6 @@
 // What the two states' layouts share: numbers of four bytes, the lowest first, the first 16 bytes, and the marks at the end.
-ghost use Rattle.std.specs.Prelude.{◌≡◌, ◌++◌, ◌+◌, ◌≤◌, ◌<◌, length, drop};
+ghost use Rattle.std.specs.Prelude.{◌≡◌, ◌++◌, ◌+◌, ◌≤◌, length, drop, get_or};
+ghost use Rattle.std.specs.Bool.{OnTrue};
 ghost use Rattle.std.proofs.lemmas.List.Edits.{sets};
 ghost use Rattle.line_c.specs.State.{word_at, word_bytes, head_size, head_bytes, marks_size, marks_in, marks_bytes, holds};
 
@@ -9,18 +10,13 @@ pub(crate) const HEAD_SIZE: usize = 16;
 
 pub(crate) const MARKS_SIZE: usize = 2;
 
-pub(crate) fn wide(x: u8) -> usize
-    ensures { (result ≡ x) × (result < 256) }
-{
-    x as usize
-}
-
 // The number in the four bytes from place at on.
+#[tactic(auto, unfolding(crate::specs::State::word_at))]
 pub(crate) fn load_word(s: &[u8], at: usize) -> usize
     requires { at + 4 ≤ length s.now }
     ensures { result ≡ word_at s.now at }
 {
-    wide(s[at]) + 256 * wide(s[at + 1]) + 65536 * wide(s[at + 2]) + 16777216 * wide(s[at + 3])
+    u32::from_le_bytes([s[at], s[at + 1], s[at + 2], s[at + 3]]) as usize
 }
 
 // The low four bytes of a number, from place at on.
@@ -28,50 +24,36 @@ fn store_word(s: &mut [u8], at: usize, n: usize)
     requires { at + 4 ≤ length s.old }
     ensures { s.new ≡ sets s.old at (word_bytes n) }
 {
-    s[at] = (n % 256) as u8;
-    s[at + 1] = (n / 256 % 256) as u8;
-    s[at + 2] = (n / 65536 % 256) as u8;
-    s[at + 3] = (n / 16777216 % 256) as u8;
+    s[at..at + 4].copy_from_slice(&n.to_le_bytes()[..4]);
 }
 
-// Whether there are size bytes, those at 13, 14 and 15 are at most a, b and c, and the marks' flag at most 1.
-pub(crate) fn holds_state(size: usize, a: u8, b: u8, c: u8, s: &[u8]) -> bool
+// Whether there are size bytes, those at 13, 14 and 15 are at most these, and the marks' flag at most 1.
+#[tactic(auto, unfolding(crate::specs::State::holds))]
+pub(crate) fn holds_state(size: usize, most: [u8; 3], s: &[u8]) -> bool
     requires { head_size ≤ size }
-    ensures { result ≡ holds size a b c s.now }
+    ensures held { result ≡ holds size (get_or most 0 0) (get_or most 1 0) (get_or most 2 0) s.now }
+    ensures enough { OnTrue result (size ≤ length s.now) }
 {
-    if s.len() < size {
-        return false;
-    }
-    if a < s[13] {
-        return false;
-    }
-    if b < s[14] {
-        return false;
-    }
-    if c < s[15] {
-        return false;
-    }
-    if 1 < s[size - MARKS_SIZE] {
-        return false;
-    }
-    true
+    size <= s.len()
+        && s[13] <= most[0]
+        && s[14] <= most[1]
+        && s[15] <= most[2]
+        && s[size - MARKS_SIZE] <= 1
 }
 
 // Three numbers of four bytes and four bytes, over the first bytes of s.
-pub(crate) fn store_head(x: usize, y: usize, z: usize, d: u8, a: u8, b: u8, c: u8, s: &mut [u8])
+pub(crate) fn store_head(words: [usize; 3], bytes: [u8; 4], s: &mut [u8])
     requires { head_size ≤ length s.old }
-    ensures { s.new ≡ head_bytes x y z d a b c ++ drop head_size s.old }
+    ensures { s.new ≡ head_bytes (get_or words 0 0) (get_or words 1 0) (get_or words 2 0) (get_or bytes 0 0) (get_or bytes 1 0) (get_or bytes 2 0) (get_or bytes 3 0) ++ drop head_size s.old }
 {
-    store_word(s, 0, x);
-    store_word(s, 4, y);
-    store_word(s, 8, z);
-    s[12] = d;
-    s[13] = a;
-    s[14] = b;
-    s[15] = c;
+    store_word(s, 0, words[0]);
+    store_word(s, 4, words[1]);
+    store_word(s, 8, words[2]);
+    s[12..HEAD_SIZE].copy_from_slice(&bytes);
 }
 
 // The marks from place at on.
+#[tactic(auto, unfolding(crate::specs::State::marks_in))]
 pub(crate) fn load_marks(s: &[u8], at: usize) -> Marks
     requires { at + marks_size ≤ length s.now }
     ensures { result ≡ marks_in s.now at }
@@ -82,10 +64,11 @@ pub(crate) fn load_marks(s: &[u8], at: usize) -> Marks
     }
 }
 
+#[tactic(auto, unfolding(crate::specs::State::marks_bytes), using(crate::proofs::Flags::from_bool_flag))]
 pub(crate) fn store_marks(s: &mut [u8], at: usize, marks: Marks)
     requires { at + marks_size ≤ length s.old }
     ensures { s.new ≡ sets s.old at (marks_bytes marks) }
 {
-    s[at] = marks.in_use as u8;
+    s[at] = u8::from(marks.in_use);
     s[at + 1] = marks.size;
 }

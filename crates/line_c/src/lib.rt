@@ -1,6 +1,7 @@
 // The order line's calls for C and Rust: numbers and lent bytes, the ends' states in lent bytes too.
 #![tactic(auto)]
 
+mod answer;
 pub mod block_calls;
 mod layout;
 pub mod noise_calls;

@@ -1,12 +1,13 @@
 // A receiver in lent bytes.
-ghost use Rattle.std.specs.Prelude.{◌≡◌, [], ◌++◌, ◌≤◌, length, take, drop};
+ghost use Rattle.std.specs.Prelude.{OnOk, ◌≡◌, [], ◌++◌, ◌≤◌, length, take, drop};
 ghost use Rattle.line.specs.Receiving.{array_bytes};
 ghost use Rattle.line.specs.ReceivingInPlace.{with_array};
-ghost use Rattle.line_c.specs.State.{head_size, array_end, receiver_size, holds_receiver, receiver_in, receiver_head, receiver_bytes, phase_of, phase_byte};
+ghost use Rattle.line_c.specs.State.{head_size, head_answer, array_end, receiver_size, receiver_of, receiver_head, receiver_bytes, phase_of};
 
 use crate::layout::{
-    HEAD_SIZE, MARKS_SIZE, holds_state, load_marks, load_word, store_head, store_marks, wide,
+    HEAD_SIZE, MARKS_SIZE, holds_state, load_marks, load_word, store_head, store_marks,
 };
+use line::Refusal;
 use line::head::Head;
 use line::receiver::Receiver;
 use line::receiving::{ARRAY_SIZE, Phase, Setup};
@@ -16,6 +17,7 @@ pub(crate) const ARRAY_END: usize = HEAD_SIZE + ARRAY_SIZE;
 
 pub(crate) const RECEIVER_SIZE: usize = ARRAY_END + MARKS_SIZE;
 
+// A From of a number would be for the crate that has Phase to write, and only these bytes know the numbers.
 fn phase_of(n: u8) -> Phase
     ensures { result ≡ phase_of n }
 {
@@ -27,69 +29,43 @@ fn phase_of(n: u8) -> Phase
     }
 }
 
-fn phase_byte(phase: Phase) -> u8
-    ensures { result ≡ phase_byte phase }
+// The state but for its array. Bytes that hold no receiver are refused as spoiled.
+#[tactic(auto, unfolding(crate::specs::State::receiver_of, crate::specs::State::receiver_in))]
+pub(crate) fn load_head(s: &[u8]) -> Result<Head, Refusal>
+    ensures held { head_answer s.now result ≡ receiver_of s.now }
+    ensures enough { OnOk result (receiver_size ≤ length s.now) }
 {
-    match phase {
-        Phase::Search => 0,
-        Phase::InStep => 1,
-        Phase::SequenceAlarm => 2,
-        Phase::LengthAlarm => 3,
+    if !holds_state(RECEIVER_SIZE, [1, 1, 3], s) {
+        return Err(Refusal::Spoiled);
     }
-}
-
-// Whether the bytes hold a receiver.
-pub(crate) fn holds_receiver(s: &[u8]) -> bool
-    ensures { result ≡ holds_receiver s.now }
-{
-    holds_state(RECEIVER_SIZE, 1, 1, 3, s)
-}
-
-// The array, behind the head.
-fn store_bits(bits: [u8; 483], s: &mut [u8])
-    requires { array_end ≤ length s.old }
-    ensures { s.new ≡ take head_size s.old ++ bits ++ drop array_end s.old }
-{
-    let mut i = 0;
-    while i < ARRAY_SIZE {
-        s[HEAD_SIZE + i] = bits[i];
-        i += 1;
-    }
-}
-
-pub(crate) fn load_head(s: &[u8]) -> Head
-    requires { receiver_size ≤ length s.now }
-    ensures { with_array result (take array_bytes (drop head_size s.now)) ≡ receiver_in s.now }
-{
-    Head {
+    Ok(Head {
         setup: Setup {
             k: load_word(s, 0),
             marks: load_marks(s, ARRAY_END),
         },
         held: load_word(s, 4),
-        bad_row: wide(s[12]),
+        bad_row: usize::from(s[12]),
         back: s[13] == 1,
         taken: load_word(s, 8),
         ended: s[14] == 1,
         phase: phase_of(s[15]),
-    }
+    })
 }
 
 // The array and the marks stay as they are.
+#[tactic(auto, using(crate::proofs::Flags::from_bool_flag))]
 pub(crate) fn put_head(head: Head, s: &mut [u8])
     requires { head_size ≤ length s.old }
     ensures { s.new ≡ receiver_head (with_array head []) ++ drop head_size s.old }
 {
-    let setup = head.setup;
-    let phase = head.phase;
     store_head(
-        setup.k,
-        head.held,
-        head.taken,
-        (head.bad_row % 256) as u8,
-        head.back as u8,
-        head.ended as u8,
-        phase_byte(phase),
+        [head.setup.k, head.held, head.taken],
+        [
+            (head.bad_row % 256) as u8,
+            u8::from(head.back),
+            u8::from(head.ended),
+            head.phase as u8,
+        ],
         s,
     );
 }
@@ -98,9 +74,7 @@ pub(crate) fn store_receiver(receiver: Receiver, s: &mut [u8])
     requires { receiver_size ≤ length s.old }
     ensures { s.new ≡ receiver_bytes receiver ++ drop receiver_size s.old }
 {
-    let bits = receiver.bits;
-    let setup = receiver.setup;
     put_head(receiver.head(), s);
-    store_bits(bits, s);
-    store_marks(s, ARRAY_END, setup.marks);
+    s[HEAD_SIZE..ARRAY_END].copy_from_slice(&receiver.bits);
+    store_marks(s, ARRAY_END, receiver.setup.marks);
 }

@@ -1,14 +1,17 @@
 // A sender in lent bytes.
-ghost use Rattle.std.specs.Prelude.{◌≡◌, ◌++◌, ◌≤◌, length, drop};
-ghost use Rattle.line_c.specs.State.{sender_size, holds_sender, sender_in, sender_bytes, next_of, next_byte};
+ghost use Rattle.std.specs.Prelude.{◌≡◌, ◌++◌, ◌≤◌, length, drop, OnOk};
+ghost use Rattle.line.specs.Sending.{opened_answer};
+ghost use Rattle.line_c.specs.State.{sender_size, sender_of, sender_bytes, next_of};
 
 use crate::layout::{
-    HEAD_SIZE, MARKS_SIZE, holds_state, load_marks, load_word, store_head, store_marks, wide,
+    HEAD_SIZE, MARKS_SIZE, holds_state, load_marks, load_word, store_head, store_marks,
 };
+use line::Refusal;
 use line::sender::{Next, Sender, Setup};
 
 pub(crate) const SENDER_SIZE: usize = HEAD_SIZE + MARKS_SIZE;
 
+// A From of a number would be for the crate that has Next to write, and only these bytes know the numbers.
 fn next_of(n: u8) -> Next
     ensures { result ≡ next_of n }
 {
@@ -19,56 +22,42 @@ fn next_of(n: u8) -> Next
     }
 }
 
-fn next_byte(next: Next) -> u8
-    ensures { result ≡ next_byte next }
+// Bytes that hold no sender are refused as spoiled.
+#[tactic(auto, unfolding(crate::specs::State::sender_of, crate::specs::State::sender_in))]
+pub(crate) fn load_sender(s: &[u8]) -> Result<Sender, Refusal>
+    ensures held { opened_answer result ≡ sender_of s.now }
+    ensures enough { OnOk result (sender_size ≤ length s.now) }
 {
-    match next {
-        Next::Sync => 0,
-        Next::Older => 1,
-        Next::Newer => 2,
+    if !holds_state(SENDER_SIZE, [1, 2, 1], s) {
+        return Err(Refusal::Spoiled);
     }
-}
-
-// Whether the bytes hold a sender.
-pub(crate) fn holds_sender(s: &[u8]) -> bool
-    ensures { result ≡ holds_sender s.now }
-{
-    holds_state(SENDER_SIZE, 1, 2, 1, s)
-}
-
-pub(crate) fn load_sender(s: &[u8]) -> Sender
-    requires { sender_size ≤ length s.now }
-    ensures { result ≡ sender_in s.now }
-{
-    Sender {
+    Ok(Sender {
         setup: Setup {
             k: load_word(s, 0),
             length: load_word(s, 4),
             marks: load_marks(s, HEAD_SIZE),
         },
         newer: load_word(s, 8),
-        run: wide(s[12]),
+        run: usize::from(s[12]),
         opening: s[13] == 1,
         next: next_of(s[14]),
         finished: s[15] == 1,
-    }
+    })
 }
 
 pub(crate) fn store_sender(sender: Sender, s: &mut [u8])
     requires { sender_size ≤ length s.old }
     ensures { s.new ≡ sender_bytes sender ++ drop sender_size s.old }
 {
-    let setup = sender.setup;
-    let next = sender.next;
     store_head(
-        setup.k,
-        setup.length,
-        sender.newer,
-        (sender.run % 256) as u8,
-        sender.opening as u8,
-        next_byte(next),
-        sender.finished as u8,
+        [sender.setup.k, sender.setup.length, sender.newer],
+        [
+            (sender.run % 256) as u8,
+            u8::from(sender.opening),
+            sender.next as u8,
+            u8::from(sender.finished),
+        ],
         s,
     );
-    store_marks(s, HEAD_SIZE, setup.marks);
+    store_marks(s, HEAD_SIZE, sender.setup.marks);
 }

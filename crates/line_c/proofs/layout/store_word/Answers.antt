@@ -1,20 +1,20 @@
--- `store_word` makes its four stores in a row. Assumes nothing.
+-- `store_word`: a copy over four bytes is four stores. Assumes nothing.
+use mathlib.Core.Path.{◌≡◌, sym, ◌∙◌}
+use mathlib.Core.List.{List, append_assoc}
+use Prim.Native.Nat.{ℕ, ◌+◌, ◌≤◌}
 use native.Mathlib.Omega.{arith}
-use native.Mathlib.Numerals.{add-one, add-two}
-use lib.ListN.{length-set}
+use borrow.Rule.Slice.PartMut.{put_mid}
+use lib.ListN.{length, take, drop}
+use lib.Seq.{drop-drop, sets, sets-eq}
 use Rattle.line_c.specs.State.{word_bytes}
-use Rattle.line_c.proofs.Places.{add_three}
 use Rattle.line_c.proofs.layout.store_word.Goals as goal
 
-pub bounds-s-at-2 : goal.bounds-s-at-2
-bounds-s-at-2 c = simp length-set (omega arith)
-
-pub bounds-s-at-3 : goal.bounds-s-at-3
-bounds-s-at-3 c = simp length-set (omega arith)
-
-pub bounds-s-at-4 : goal.bounds-s-at-4
-bounds-s-at-4 c = simp length-set (omega arith)
+copied : (s : List ℕ) (at n k : ℕ) → at + 4 ≤ length s → k ≡ 4 → put_mid at k s (word_bytes n) ≡ sets s at (word_bytes n)
+unfolding word_bytes
+copied s at n k h e =
+    let w = word_bytes n in
+    rw (e, drop-drop 4 at s) (sym (sets-eq w s at h ∙ append_assoc (take at s) w (drop (at + 4) s)))
 
 pub returns : goal.returns
 unfolding word_bytes
-returns c = rw (add-one, add-two, add_three)
+returns c = rw (c.copy_from_slice.ensures.after, c.to_le_bytes.ensures) (copied c.args.s.now c.args.at c.args.n _ c.requires (omega arith))

@@ -1,9 +1,10 @@
--- `store_receiver` hands the head to `put_head`, the array to `store_bits` and the marks to `store_marks`. Assumes nothing.
-use mathlib.Core.Path.{◌≡◌, ap, ◌∙◌}
+-- `store_receiver` hands the head to `put_head`, copies the array and hands the marks to `store_marks`. Assumes nothing.
+use mathlib.Core.Path.{◌≡◌, refl, ap, ◌∙◌}
 use mathlib.Core.List.{List, [], ◌++◌, append_assoc}
 use Prim.Native.Nat.{ℕ, ◌≤◌}
 use native.Mathlib.Omega.{arith}
-use lib.ListN.{length, take, drop, length-append, length-drop}
+use borrow.Rule.Slice.PartMut.{put_mid}
+use lib.ListN.{length, drop, length-append, length-drop}
 use lib.Seq.{sets, drop-drop}
 use Rattle.line.specs.Receiving.{array_bytes}
 use Rattle.line.specs.ReceivingInPlace.{with_array}
@@ -13,17 +14,16 @@ use Rattle.line_c.specs.State.{word_bytes, head_size, head_bytes, marks_size, ma
 use Rattle.line_c.proofs.Places.{length_head, marks_stored}
 use borrow.Author.Rules.{rules}
 use Rattle.line_c.proofs.receiver_bytes.store_receiver.Goals as goal
-use Rattle.line_c.proofs.receiver_bytes.store_receiver.Goals.{Start}
 
 -- the array over what stands behind the head
-with_bits : (h : Head) (receiver : Receiver) (s s₁ s₂ : List ℕ) → with_array h receiver.bits ≡ receiver
-    → s₁ ≡ receiver_head (with_array h []) ++ drop head_size s
-    → s₂ ≡ take head_size s₁ ++ receiver.bits ++ drop array_end s₁ → s₂ ≡ receiver_head receiver ++ receiver.bits ++ drop array_end s
+with_bits : (h : Head) (receiver : Receiver) (s s₁ array : List ℕ) → with_array h receiver.bits ≡ receiver
+    → s₁ ≡ receiver_head (with_array h []) ++ drop head_size s → array ≡ receiver.bits
+    → put_mid 16 483 s₁ array ≡ receiver_head receiver ++ receiver.bits ++ drop array_end s
 unfolding head_bytes word_bytes
-with_bits h receiver s s₁ s₂ e e₁ e₂ =
-    let f : take head_size s₁ ++ receiver.bits ++ drop array_end s₁ ≡ receiver_head (with_array h []) ++ receiver.bits ++ drop array_end s =
-    rw (e₁, drop-drop 483 16 s) in
-    e₂ ∙ f ∙ ap (λ (r : Receiver). receiver_head r ++ receiver.bits ++ drop array_end s) e
+with_bits h receiver s s₁ array e e₁ e₂ =
+    let f : put_mid 16 483 s₁ array ≡ receiver_head (with_array h []) ++ receiver.bits ++ drop array_end s =
+    rw (e₂, e₁, drop-drop 483 16 s) refl in
+    f ∙ ap (λ (r : Receiver). receiver_head r ++ receiver.bits ++ drop array_end s) e
 
 -- and the marks behind it
 with_marks : (receiver : Receiver) (s s₂ s₃ : List ℕ) → receiver_size ≤ length s → length receiver.bits ≡ array_bytes
@@ -38,14 +38,8 @@ with_marks receiver s s₂ s₃ n w e₂ e₃ =
     ∙ marks_stored (receiver_head receiver ++ receiver.bits) (drop array_end s) m array_end front room
     ∙ rw (drop-drop marks_size array_end s) (simp append_assoc)
 
-enough : (c : Start) → receiver_size ≤ length c.args.s.now
-enough c = search rules
-
-whole : (c : Start) → length c.args.receiver.bits ≡ array_bytes
-whole c = search rules
-
 pub returns : goal.returns
 returns c = let a = c.args in
-    with_marks a.receiver a.s.now _ _ (enough (goal.at.returns c).Start) (whole (goal.at.returns c).Start)
-    (with_bits _ a.receiver a.s.now _ _ c.head.ensures c.put_head.ensures c.store_bits.ensures)
+    with_marks a.receiver a.s.now _ _ (search rules) (search rules)
+    (with_bits _ a.receiver a.s.now _ _ c.head.ensures c.put_head.ensures c.copy_from_slice.ensures.after)
     c.store_marks.ensures

@@ -7,11 +7,10 @@ use lib.ListN.{length, drop, length-drop}
 use lib.Seq.{drop-drop, sets}
 use Rattle.line.specs.declared.sender.Sender.{Sender}
 use Rattle.line_c.specs.State.{head_size, marks_size, marks_bytes, sender_size, sender_head, sender_bytes}
-use Rattle.line_c.proofs.Flags.{bool_byte_flag}
+use Rattle.line_c.proofs.Flags.{from_bool_flag}
 use Rattle.line_c.proofs.Places.{length_head, marks_stored}
 use borrow.Author.Rules.{rules}
 use Rattle.line_c.proofs.sender_bytes.store_sender.Goals as goal
-use Rattle.line_c.proofs.sender_bytes.store_sender.Goals.{Start}
 
 -- the marks behind the head
 joined : (sender : Sender) (s s₁ s₂ : List ℕ) → sender_size ≤ length s → s₁ ≡ sender_head sender ++ drop head_size s
@@ -23,9 +22,6 @@ joined sender s s₁ s₂ h e₁ e₂ =
     ∙ marks_stored (sender_head sender) (drop head_size s) m head_size (length_head _ _ _ _ _ _ _) (simp length-drop (omega arith))
     ∙ rw (drop-drop marks_size head_size s) (sym (append_assoc (sender_head sender) (marks_bytes m) (drop sender_size s)))
 
-enough : (c : Start) → sender_size ≤ length c.args.s.now
-enough c = search rules
-
 pub returns : goal.returns
-returns c = joined c.args.sender c.args.s.now _ _ (enough (goal.at.returns c).Start)
-    (c.store_head.ensures ∙ simp (c.next_byte.ensures, bool_byte_flag)) c.store_marks.ensures
+returns c = joined c.args.sender c.args.s.now _ _ (search rules)
+    (c.store_head.ensures ∙ simp (c.from.ensures, c.from-2.ensures, from_bool_flag) (search rules)) c.store_marks.ensures

@@ -4,22 +4,22 @@ use mathlib.Core.Path.{◌≡◌, refl, sym, ap, ◌∙◌}
 use mathlib.Core.Bool.{Bool, true, false, cond, not, ◌||◌}
 use mathlib.Core.List.{List}
 use Prim.Native.Nat.{ℕ}
-use borrow.Author.Tests.{eq-eqb, ne_eqb}
 use lib.Dec.{eqb}
+use Rattle.std.specs.Prelude.{Result, Ok, Err}
 use Rattle.block.specs.Answer as A
 use Rattle.line.specs.Refusals as Refusals
+use Rattle.line.specs.Refusals.{refusal_number}
 use Rattle.block.specs.Answer.{Answer, refused, done, refuse_if}
 use Rattle.block.specs.Lengths.{block_length}
 use Rattle.block.specs.Calls.{too_short}
-use Rattle.line.specs.Sending.{Block, synchronising, item, transmit, sender_in_range, gave_up, send, sent_answer}
+use Rattle.line.specs.Sending.{Block, transmit, sender_in_range, gave_up, send, sent_answer}
+use Rattle.line.specs.declared.Refusal.{Refusal}
+use Rattle.line.specs.declared.Refusal.TheVariants as R
 use Rattle.line.specs.declared.sender.Sender.{Sender}
 use Rattle.line.specs.declared.sender.Sent.{Sent}
-use Rattle.line.specs.declared.sender.Sent.TheVariants as W
-use Rattle.line_c.specs.State.{sender_size, holds_sender, sender_in, sender_of}
+use Rattle.line_c.specs.State.{sender_of}
 use Rattle.line_c.specs.SenderCalls.{going_on_number, finished_number, gave_up_number, rest_in, SenderRestCall}
-use Rattle.line_c.proofs.RoundTrip.{held}
 use Rattle.line_c.proofs.sender_calls.order_line_sender_rest.Goals as goal
-use Rattle.line_c.proofs.sender_calls.order_line_sender_rest.Goals.{Else-not-holds_sender, In-Refused}
 
 -- the number that an answer comes to
 abbrev rest_after : Bool → Answer Block → ℕ
@@ -42,59 +42,46 @@ rest-sent s order reading slice =
     rest_tests (sender_in_range s) s.finished (gave_up s)
     (too_short order s.setup.length || too_short slice (block_length s.setup.k)) (transmit s s.next reading).block
 
--- an answer that is no refusal
-goes_on : (a : Sent) → ((n : ℕ) → a ≡ W.Refused n → ⊥) → (b : Block) × (sent_answer a ≡ done b)
-goes_on W.Synchronising k = (synchronising, refl)
-goes_on (W.Item i end used cancelled) k = (item i end used cancelled, refl)
-goes_on (W.Refused n) k = absurd (k n refl)
+-- an answer that is no refusal, and one that is another
+goes_on : (finished : Bool) (a : Result Sent Refusal) → ((r : Refusal) → a ≡ Err r → ⊥) → going_on_number ≡ rest_after finished (sent_answer a)
+goes_on finished (Ok x) k = refl
+goes_on finished (Err r) k = absurd (k r refl)
 
-module _ (state : List ℕ) where
-  unheld : holds_sender state ≡ false → SenderRestCall state A.spoiled
-  unfolding sender_of
-  unheld h = record { answers = rw h }
+other_refusal : (finished : Bool) (r : Refusal) → (r ≡ R.Spoiled → ⊥) → (r ≡ R.Rest → ⊥)
+    → going_on_number ≡ rest_after finished (refused (refusal_number r))
+other_refusal finished R.Block h g = refl
+other_refusal finished R.Speed h g = refl
+other_refusal finished R.LoopTime h g = refl
+other_refusal finished R.Empty h g = refl
+other_refusal finished R.Long h g = refl
+other_refusal finished R.Short h g = refl
+other_refusal finished R.Spoiled h g = absurd (h refl)
+other_refusal finished R.Rest h g = absurd (g refl)
+other_refusal finished R.CodeSize h g = refl
 
-  answered : holds_sender state ≡ true → (s : Sender) → s ≡ sender_in state → (n : ℕ) → n ≡ rest_in (done s) → SenderRestCall state n
-  unfolding sender_of
-  answered h s e n r = record { answers = rw h (r ∙ ap (λ (x : Sender). rest_in (done x)) e) }
-
+module _ (state : List ℕ) (s : Sender) (e : done s ≡ sender_of state) (order : List ℕ) (reading : Bool) (slice : List ℕ) (x : Result Sent Refusal) (w : sent_answer x ≡ send s order reading slice) (n : ℕ) where
   -- by what a sending call answers
-  sent-answer : holds_sender state ≡ true → (s : Sender) → s ≡ sender_in state → (order : List ℕ) (reading : Bool) (slice : List ℕ) (a : Answer Block)
-      → a ≡ send s order reading slice → (n : ℕ) → n ≡ rest_after s.finished a → SenderRestCall state n
-  sent-answer h s e order reading slice a w n r = answered h s e n (r ∙ ap (rest_after s.finished) w ∙ rest-sent s order reading slice)
+  answered : n ≡ rest_after s.finished (sent_answer x) → SenderRestCall state n
+  answered r = record { answers = r ∙ ap (rest_after s.finished) w ∙ rest-sent s order reading slice ∙ ap rest_in e }
 
--- the bytes hold a sender, where the test was passed
-bytes-held : (c : Else-not-holds_sender) → holds_sender c.args.state.now ≡ true
-bytes-held c = sym c.holds_sender.ensures ∙ c.if-not-holds_sender.false
-
--- a sending call that is refused
-refused-answer : (c : In-Refused) (n : ℕ) → n ≡ rest_after c.load_sender-sender.result.finished (refused c.in-Refused.number)
-    → SenderRestCall c.args.state.now n
-refused-answer c n r =
-    sent-answer _ (sym c.holds_sender.ensures ∙ c.if-not-holds_sender.false) _ c.load_sender-sender.ensures _ _ _ _
-    (sym (ap sent_answer c.in-Refused.is) ∙ c.send-step.ensures.answers) n r
-
-pub returns-then-not-holds_sender : goal.returns-then-not-holds_sender
-returns-then-not-holds_sender c = unheld _ (sym c.holds_sender.ensures ∙ c.if-not-holds_sender.true)
-
-pub load_sender-sender-requires : goal.load_sender-sender-requires
-load_sender-sender-requires c = (held sender_size 1 2 1 c.args.state.now (bytes-held (goal.at.load_sender-sender-requires c).Else-not-holds_sender)).enough
+  turned : (r : Refusal) → x ≡ Err r → n ≡ rest_after s.finished (refused (refusal_number r)) → SenderRestCall state n
+  turned r h g = answered (g ∙ ap (λ (y : Result Sent Refusal). rest_after s.finished (sent_answer y)) (sym h))
 
 pub returns-in_default : goal.returns-in_default
-returns-in_default c =
-    let b = goes_on c.send-step.result.answer c.in_default.not-Refused in
-    sent-answer _ (bytes-held (goal.at.returns-in_default c).Else-not-holds_sender) _ c.load_sender-sender.ensures _ _ _ _
-    (sym b.1 ∙ c.send-step.ensures.answers) going_on_number refl
+returns-in_default c = answered _ _ c.in-Ok.ensures.held _ _ _ _ c.send.ensures.answers _ (goes_on _ _ c.in_default.not-Err)
 
-pub returns-then-number-eq-SPOILED : goal.returns-then-number-eq-SPOILED
-returns-then-number-eq-SPOILED c = refused-answer (goal.at.returns-then-number-eq-SPOILED c).In-Refused _ (rw (eq-eqb _ _ c.if-number-eq-SPOILED.true))
+pub returns-in-Spoiled : goal.returns-in-Spoiled
+returns-in-Spoiled c = turned _ _ c.in-Ok.ensures.held _ _ _ _ c.send.ensures.answers _ _ c.in-Err-answer.is
+    (c.from-in-Spoiled.ensures ∙ rw c.in-Spoiled.is refl)
 
-pub returns-then-number-ne-REST : goal.returns-then-number-ne-REST
-returns-then-number-ne-REST c = refused-answer (goal.at.returns-then-number-ne-REST c).In-Refused _ (rw (ne_eqb _ _ c.if-number-eq-SPOILED.false, ne_eqb _ _ c.if-number-ne-REST.true))
+pub returns-in-Rest : goal.returns-in-Rest
+returns-in-Rest c = turned _ _ c.in-Ok.ensures.held _ _ _ _ c.send.ensures.answers _ _ c.in-Err-answer.is
+    (rw (c.in-Rest.is, c.if-sender.true) refl)
 
-pub returns-then-sender : goal.returns-then-sender
-returns-then-sender c = refused-answer (goal.at.returns-then-sender c).In-Refused _
-    (rw (ne_eqb _ _ c.if-number-eq-SPOILED.false, eq-eqb _ _ c.if-number-ne-REST.false, c.if-sender.true))
+pub returns-in-Rest-2 : goal.returns-in-Rest-2
+returns-in-Rest-2 c = turned _ _ c.in-Ok.ensures.held _ _ _ _ c.send.ensures.answers _ _ c.in-Err-answer.is
+    (rw (c.in-Rest-2.is, c.if-sender.false) refl)
 
-pub returns : goal.returns
-returns c = refused-answer (goal.at.returns c).In-Refused _
-    (rw (ne_eqb _ _ c.if-number-eq-SPOILED.false, eq-eqb _ _ c.if-number-ne-REST.false, c.if-sender.false))
+pub returns-in_default-refusal : goal.returns-in_default-refusal
+returns-in_default-refusal c = turned _ _ c.in-Ok.ensures.held _ _ _ _ c.send.ensures.answers _ _ c.in-Err-answer.is
+    (other_refusal _ _ c.in_default-refusal.not-Spoiled c.in_default-refusal.not-Rest)
