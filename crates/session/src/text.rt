@@ -1,13 +1,11 @@
 // What the run program writes, each text in fixed memory.
 ghost use Rattle.std.specs.Prelude.{◌≡◌, ◌+◌, ◌<◌, ◌≤◌, length};
-ghost use Rattle.line.specs.Refusals.{refusal_number};
 ghost use Rattle.session.specs.Buffer.{Appends};
 ghost use Rattle.session.specs.Period.{answer_of};
 ghost use Rattle.session.specs.Text.{decimal, bit_text, block_text, mark_text, item_text, reading_text, event_text, holding, heading, refused_text, line_text, outcome_text};
 
 use crate::buffer::Buffer;
 use crate::period::{Block, Line, Outcome};
-use line::Refusal;
 use line::receiving::Event;
 
 // The longest line has 62 bytes.
@@ -115,12 +113,13 @@ pub fn heading_text() -> Text
     text
 }
 
-pub fn refused_text(refusal: Refusal) -> Text
-    ensures { result ≡ holding (refused_text (refusal_number refusal)) }
+// A number, and no Refusal: its promise is of every number.
+pub fn refused_text(number: u8) -> Text
+    ensures { result ≡ holding (refused_text number) }
 {
     let mut text = Text::new();
     text.append(b"refused ");
-    text.decimal(u64::from(u8::from(refusal)));
+    text.decimal(u64::from(number));
     text.append(b"\n");
     text
 }
@@ -148,6 +147,6 @@ pub fn outcome_text(period: u64, outcome: Outcome) -> Text
 {
     match outcome {
         Ok(line) => line_text(period, line),
-        Err(refusal) => refused_text(refusal),
+        Err(refusal) => refused_text(u8::from(refusal)),
     }
 }

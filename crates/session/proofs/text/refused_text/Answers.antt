@@ -2,7 +2,6 @@
 use native.Mathlib.Omega.{arith}
 use mathlib.Core.Path.{◌≡◌, ap, ◌∙◌}
 use Prim.Native.Nat.{◌+◌}
-use Rattle.line.specs.Refusals.{refusal_number}
 use Rattle.session.specs.Buffer.{Appends}
 use Rattle.session.specs.Text.{empty_text, ascii, refused_text}
 use Rattle.session.specs.Text.{Text}
@@ -19,21 +18,20 @@ worded : (c : After-append) → c.append.new.self.len ≡ 8
 worded c = c.append.ensures.len ∙ ap (λ (t : Text). t.len + 8) c.new-text.ensures
 
 pub decimal-requires : goal.decimal-requires
-decimal-requires c = omega (arith, worded (goal.at.decimal-requires c).After-append, length-decimal 19 c.from-2.result (omega arith))
+decimal-requires c = omega (arith, worded (goal.at.decimal-requires c).After-append, length-decimal 19 c.from.result (omega arith))
 
 pub append-requires-2 : goal.append-requires-2
 append-requires-2 c = omega (
   arith,
   worded (goal.at.append-requires-2 c).After-append,
   c.decimal.ensures.len,
-  length-decimal 19 c.from-2.result (omega arith),
+  length-decimal 19 c.from.result (omega arith),
 )
 
 pub returns : goal.returns
 unfolding refused_text
 returns c = let w : Appends empty_text (ascii "refused ") c.append.new.self =
     rw c.new-text.ensures at c.append.ensures in
-    let n : c.from-2.result ≡ refusal_number c.args.refusal = c.from-2.ensures ∙ c.from.ensures in
-    let d = rw n at c.decimal.ensures in
-    appends_all (refused_text (refusal_number c.args.refusal)) c.append-2.new.self
+    let d = rw c.from.ensures at c.decimal.ensures in
+    appends_all (refused_text c.args.number) c.append-2.new.self
     (appends_next _ _ _ _ (appends_next _ _ _ _ w d) c.append-2.ensures)
