@@ -56,7 +56,7 @@ def functions(text):
     """Each function's name, parameters, requires and body."""
     for found in re.finditer(r'^( *)(?:pub(?:\(crate\))? )?(?:extern "C" )?fn (\w+)(?:<[^(]*>)?\(', text, re.M):
         close = text.index(')', found.end())
-        end = re.compile(r'^' + found[1] + r'\{$', re.M).search(text, close) or re.compile(r'\{$', re.M).search(text, close)
+        end = re.compile(r'\{$', re.M).search(text, close)
         head = text[close:end.start()] if end else ''
         names = [part.split(':')[0].strip() for part in parts(text[found.end():close]) if ':' in part]
         requires = [r for r in re.findall(r'requires(?: \w+)? \{ (.*) \}', head)]
@@ -119,8 +119,8 @@ def point_6(name, text):
 
 def point_7(name, text):
     for fn, _, _, body in functions(text):
-        for found in re.finditer(r'match (\w+) \{', body):
-            calls = [arm for arm in parts(block_after(body, found.start())) if re.search(r'=>\s*(?:\{\s*)?self\.\w+\(', arm)]
+        for found in re.finditer(r'match ([\w.]+) \{', body):
+            calls = [arm for arm in parts(block_after(body, found.start())) if re.search(r'=>\s*(?:\{\s*)?self(?:\.head)?\.\w+\(', arm)]
             if len(calls) >= 2:
                 yield f'fn {fn}: match {found[1]}, {len(calls)} steps'
 

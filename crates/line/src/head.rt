@@ -221,7 +221,8 @@ impl Head {
     }
 }
 
-// A finished block's row comes with a clause on its length and no type: a struct would be one more loan in each clause.
+// A finished block's row comes with a clause on its length and no type: a struct would be one more loan in each clause. Nor do array,
+// ready and store make one: they are the caller's, each by itself.
 impl Checked {
     // A bad block with its remainder; lost where rule 7 goes back to search.
     fn after_bad(
@@ -412,6 +413,7 @@ impl Checked {
         if line.bits == 0 {
             return self.head.idle();
         }
+        // No table of steps: the match says what each phase is lent.
         match self.head.phase {
             Phase::Search => self.head.search(array, line),
             Phase::InStep => self.in_step(array, line, ready, store),

@@ -6,6 +6,8 @@ ghost use Rattle.line.specs.Receiving.{array_bytes, overwrite};
 use crate::receiving::{ARRAY_SIZE, Line};
 use block::byte_at;
 
+// n is below 8 in three clauses, and no type of its own: it is a remainder by 8 where it is made.
+
 // The first n bits of a byte, as the last n of a byte.
 fn first_bits(x: u8, n: usize) -> u8
     requires { n < 8 }

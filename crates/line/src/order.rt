@@ -96,6 +96,7 @@ fn end_data(bits: usize) -> [u8; 480]
     payload
 }
 
+// `Writable` is a clause of five of these, and no type: a struct would hold the lent block as well.
 impl Setup {
     // The number of the order's data items.
     pub(crate) fn items(self) -> usize

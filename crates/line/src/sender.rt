@@ -43,7 +43,7 @@ pub struct Sender {
     pub finished: bool,
 }
 
-// What a sending call sent.
+// What a sending call sent: an item or a synchronising block, which is no absence.
 #[derive(Clone, Copy)]
 pub enum Sent {
     Synchronising,
@@ -63,6 +63,7 @@ pub struct Step {
     pub answer: Result<Sent, Refusal>,
 }
 
+// `GoingOn` is a clause of four private steps, and no type: by a rule of the project a step is a method on the sender.
 impl Sender {
     // The pair is 0 and 1, opening lasts, and the first block is a synchronising block.
     #[tactic(auto, unfolding(crate::specs::Sending::open_sender, crate::specs::Sending::fresh_sender))]
@@ -239,6 +240,7 @@ impl Sender {
                 answer: Err(refusal),
             };
         }
+        // No table of steps: the match says what each case lends.
         match self.next {
             Next::Sync => self.send_sync(block),
             Next::Older => self.send_older(order, block),

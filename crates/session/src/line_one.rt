@@ -151,6 +151,7 @@ impl LineOne {
         ensures value { result ≡ next self c (length order.old) }
         ensures order_after { order.new ≡ next_order self self.place c order.old }
     {
+        // No table of steps: a place may carry a value, and one step writes.
         match self.place {
             Place::K => self.read_k(c, Place::Unreadable),
             Place::KDigits => self.read_k(c, Place::Length),

@@ -31,7 +31,7 @@ pub struct Ends {
     pub receiver: Receiver,
 }
 
-// The block sent, as it is shown.
+// The block sent, as it is shown: no Option, since a synchronising block is sent too.
 #[derive(Clone, Copy)]
 pub enum Block {
     Synchronising,
@@ -122,6 +122,7 @@ fn hear(receiver: Receiver, line: &mut [u8], count: usize, store: &mut [u8]) -> 
     ensures { heard_told result store.new ≡ P.hear count receiver (take count (bits_of line.old)) store.old Event.None }
 {
     let mut state = receiver;
+    // Counted down by the bits that each call used, which no range knows.
     let mut left = count;
     let mut last = Event::None;
     while 0 < left {

@@ -46,6 +46,7 @@ fn number_after(number: u64, yielded: Option<Outcome>) -> u64
     }
 }
 
+// The room asked of an output is a clause of three functions: a type that has it would be made anew for each byte.
 fn put_yield(number: u64, yielded: Option<Outcome>, output: &mut Output)
     requires { output.old.len + room ≤ output_room }
     ensures fits { length (yield_text number (yielded_answer yielded)) ≤ room }

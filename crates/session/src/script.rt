@@ -206,6 +206,7 @@ impl Session {
     pub fn read(self, c: u8, order: &mut [u8], store: &mut [u8]) -> Taken
         ensures { Take self c order.old store.old result order.new store.new }
     {
+        // No table of steps, here and in `end`: the steps are lent different things.
         match self.place {
             Place::LineOne => {
                 if c == b'\n' {

@@ -11,7 +11,8 @@ use line::receiving::Event;
 // The longest line has 62 bytes.
 pub type Text = Buffer<64>;
 
-// A `write!` in place of these promises no success, and the texts are promised whole.
+// A `write!` in place of these promises no success, and the texts are promised whole. Each asks for its own room; a type of texts
+// with room for one byte would serve three of them.
 impl Text {
     fn decimal(&mut self, n: u64)
         requires { self.old.len + length (decimal n) ≤ 64 }
