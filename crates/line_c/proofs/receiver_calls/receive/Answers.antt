@@ -1,7 +1,7 @@
 -- `receive`: the receiver that the bytes hold, its array in place, is handed to `receive`, and its head back.
 -- Assumes nothing.
 use mathlib.Core.Path.{◌≡◌, refl, sym, ap, ◌∙◌}
-use mathlib.Core.Bool.{Bool, true, false}
+use mathlib.Core.Bool.{Bool, true}
 use mathlib.Core.List.{List, [], ◌++◌, append_assoc}
 use Prim.Native.Nat.{ℕ, ◌≤◌}
 use native.Mathlib.Omega.{arith}
@@ -23,7 +23,7 @@ use Rattle.std.proofs.lemmas.Result.{err_from_is_err_and}
 use Rattle.line.proofs.InPlace.{by_value}
 use Rattle.line.proofs.KeptSetup.{received_setup}
 use Rattle.line_c.specs.State.{head_size, marks_bytes, array_end, receiver_size, holds_receiver, receiver_in, receiver_of, receiver_head, receiver_bytes}
-use Rattle.line_c.specs.ReceiverCalls.{receiver_over, event_number, event_length, event_remainder, report_number, report_used, report_length, report_remainder, received_state, ReceiveCall}
+use Rattle.line_c.specs.ReceiverCalls.{receiver_over, report_number, report_used, report_length, report_remainder, received_state, ReceiveCall}
 use Rattle.line_c.proofs.RoundTrip.{held, marks_written_back, holds_of}
 use Rattle.line_c.proofs.receiver_calls.receive.Goals as goal
 

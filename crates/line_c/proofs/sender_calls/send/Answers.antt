@@ -1,5 +1,5 @@
 -- `send`: what is sent is an item of the sender's. Assumes nothing.
-use mathlib.Core.Path.{◌≡◌, sym, ap, ◌∙◌}
+use mathlib.Core.Path.{sym, ap, ◌∙◌}
 use Rattle.line.specs.Sending.{sent_answer}
 use Rattle.line_c.proofs.Ranges.{number_fits_of}
 use Rattle.line_c.proofs.sender_calls.send.Goals as goal
