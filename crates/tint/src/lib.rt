@@ -88,6 +88,7 @@ impl Dose {
     }
 }
 
+// At most 12 is a clause of four functions, asked where it was judged, and no invariant: `Judge` speaks of any count.
 impl Doses {
     fn held(&self) -> &[Dose]
         requires { self.now.count ≤ 12 }
