@@ -3,15 +3,13 @@
 use mathlib.Core.Path.{◌≡◌, refl, sym, ap, ◌∙◌, subst}
 use mathlib.Core.Bool.{Bool, true, false, ◌||◌, or-false}
 use Rattle.std.specs.Prelude.{Ok, Err, IsOk}
-use mathlib.Core.List.{List, [], ◌∷◌, ◌++◌}
+use mathlib.Core.List.{List, [], ◌++◌}
 use Prim.Native.Nat.{ℕ, ◌+◌, ◌-◌, ◌*◌, ◌/◌, ◌%◌, ◌≤◌}
 use native.Mathlib.Omega.{arith}
 use borrow.Author.Tests.{le-ltb}
 use lib.Dec.{leb}
 use lib.ListN.{length, take, drop, length-drop}
 use lib.Seq.{take_at, take-take, length-take-le}
-use types.Run.{OneOf, miss}
-use denote.Enum.Declared.{tag_of}
 use Rattle.crc.specs.Bits.{Bits, bits_of, bytes_of}
 use Rattle.crc.proofs.Bytes.{length-bits_of, bits_of-append, bits_of-bytes_of_exact}
 use Rattle.block.specs.Answer.{done}
@@ -25,14 +23,10 @@ use Rattle.block.specs.declared.Read.{Read}
 use Rattle.block.proofs.Lengths.{whole_bytes}
 use Rattle.block.proofs.Refusals.{service_done, move_done}
 use Rattle.line.specs.Receiving.{last_bad, after_bad, Rule, reads_sync, check_fails, accepts, meaning, end_rule, service_rule, looks_sync, judge, or_wait, block_rule, stops, Reception, store_at}
-use Rattle.line.specs.Code.ReceiveSteps.{rule_of, stepped, handed_back, judged, Handed}
+use Rattle.line.specs.Code.ReceiveSteps.{stepped, handed_back, judged, Handed}
 use Rattle.line.specs.declared.receiver.Receiver.{Receiver}
 use Rattle.line.specs.declared.receiving.Event.TheVariants as E
-use Rattle.line.specs.declared.Refusal.TheVariants as N
 use Rattle.line.specs.declared.receiver.Step.{Step}
-use Rattle.line.specs.declared.rules.Rule as D
-use Rattle.line.specs.declared.rules.Rule.TheVariants as C
-use Rattle.line.specs.contracts.rules.Rule as code
 use Rattle.line.proofs.LastItem.{drop-take}
 
 -- ---- the store
@@ -47,30 +41,12 @@ pub handed_bad : (s : Receiver) (remainder used : ℕ)
     ≡ handed_back (stops s (check_fails remainder) [] used)
 handed_bad s remainder used = ap (λ (t : Bool). stepped (after_bad s t) (E.Bad remainder) used) (or-false (leb last_bad (s.bad_row + 1)))
 
--- every rule of the code but the first stores nothing
-pub stores_nothing : (r : D.Rule) → OneOf (1 ∷ 2 ∷ 3 ∷ 4 ∷ 5 ∷ 6 ∷ 7 ∷ []) (tag_of code.the_type r) → (meaning (rule_of r)).stores ≡ false
-stores_nothing C.Accepts h = absurd (miss (1 ∷ 2 ∷ 3 ∷ 4 ∷ 5 ∷ 6 ∷ 7 ∷ []) 0 tt h)
-stores_nothing C.Previous h = refl
-stores_nothing C.OutOfSequence h = refl
-stores_nothing (C.Ends L) h = refl
-stores_nothing C.WrongLength h = refl
-stores_nothing C.EndsAgain h = refl
-stores_nothing C.AnythingElse h = refl
-stores_nothing C.Waits h = refl
-
 module _ (s : Receiver) (row : Bits) (used : ℕ) (store : List ℕ) (r : Step) where
   pub handed_rule : (ready : Bool) (rule : Rule) → rule ≡ block_rule s row ready → (meaning rule).stores ≡ false
       → r ≡ handed_back (stops s rule [] used) → Handed s store (judged s row ready used) r store
   handed_rule ready rule e n h =
       subst (λ (y : Rule). Handed s store (stops s y row used) r store) e
       (subst (λ (y : Step). Handed s store (stops s rule row used) y store) (sym h) (handed_plain s store (stops s rule row used) n))
-
-  -- rule 3, the store short
-  pub handed_short : too_short store (s.taken * s.setup.k + s.setup.k) ≡ true → r ≡ record { state = s; answer = Err N.Short }
-      → Handed s store (stops s accepts row used) r store
-  handed_short q h =
-      subst (λ (y : Step). Handed s store (stops s accepts row used) y store) (sym h)
-      (record { answers = rw q; state = rw q; writes = sym (simp q) })
 
   -- rule 3, the data in the store
   pub handed_stored : (store' : List ℕ) → too_short store (s.taken * s.setup.k + s.setup.k) ≡ false
@@ -79,10 +55,6 @@ module _ (s : Receiver) (row : Bits) (used : ℕ) (store : List ℕ) (r : Step) 
   handed_stored store' q w h =
       subst (λ (y : Step). Handed s store (stops s accepts row used) y store') (sym h)
       (record { answers = rw q; state = rw q; writes = rw q w })
-
-  pub handed_accepts : (ready : Bool) (store' : List ℕ) → accepts ≡ block_rule s row ready
-      → Handed s store (stops s accepts row used) r store' → Handed s store (judged s row ready used) r store'
-  handed_accepts ready store' e = subst (λ (y : Rule). Handed s store (stops s y row used) r store') e
 
 -- ---- the rule of a row
 

@@ -6,11 +6,11 @@ use Prim.Native.Nat.{ℕ, suc, ◌+◌, ◌*◌, ◌≤◌, ◌<◌}
 use native.Mathlib.Numerals.{add-one}
 use native.Mathlib.Omega.{arith}
 use lib.ListN.{length, take, drop, get_or, length-append}
-use lib.Seq.{take-append-le, drop-cons, drop-length, get_or-take, length-take-le}
+use lib.Seq.{take-append-le, drop-cons, get_or-take, length-take-le}
 use Rattle.crc.specs.Bits.{Bits, binary, bits_of}
 use Rattle.crc.proofs.Rows.{length-binary}
 use Rattle.crc.proofs.Bytes.{length-bits_of}
-use Rattle.line.specs.Receiving.{meaning, unfinished, sequence_found, stops, Reception, latest, is_sequence, searching, search}
+use Rattle.line.specs.Receiving.{meaning, sequence_found, stops, Reception, latest, is_sequence, search}
 use Rattle.line.specs.declared.receiver.Receiver.{Receiver}
 
 -- ---- the window in the array's first two bytes
@@ -52,12 +52,6 @@ module _ (s : Receiver) (line : List ℕ) (count : ℕ) (h : count ≤ 8 * lengt
           → search s window' (drop (used + 1) new) (used + 1) ≡ search s window (drop used new) used
       search_on t window' w =
           ap₂ (λ (x : Bits) (n : ℕ). search s x (drop n new) n) w (add-one used) ∙ sym (search-bit b l e ∙ rw t)
-
-    -- none left
-    pub search_end : used ≡ count → search s window (drop used new) used ≡ record { rule = unfinished; row = []; used = used; state = searching s window }
-    search_end e =
-        let n : used ≡ length new = omega (arith, length_new) in
-        ap (λ (bs : Bits). search s window bs used) (ap (λ (k : ℕ). drop k new) n ∙ drop-length new)
 
 -- a search stores nothing
 pub search_stores : (s : Receiver) (window bs : Bits) (used : ℕ) → (meaning (search s window bs used).rule).stores ≡ false

@@ -11,7 +11,7 @@ use Rattle.std.specs.Int.{w16, to_be_bytes, from_be_bytes}
 use Rattle.std.proofs.lemmas.Nat.{be_bytes_2}
 use lib.Dec.{eqb, lit<}
 use lib.ListN.{length, take, drop, get_or, get_or-append}
-use lib.Pow.{pow_pos, pow-add, pow_mono, shl_exact, shl_lt, shr_lt}
+use lib.Pow.{pow_pos, pow_mono, shl_exact, shl_lt, shr_lt}
 use lib.Seq.{get_or-drop, drop-cons}
 use mir.Val.{bool_byte}
 use Rattle.crc.specs.Bits.{Bits, bit, odd, binary, number, bits_of, bytes_of}
@@ -65,9 +65,6 @@ number_bit false = refl
 number_bit true = refl
 
 module _ (held n : ℕ) (h : held ≤ 15) (l : n < 2 ^ held) (b : Bool) where
-  pub shifted_lt : n * 2 + bit b < 2 ^ (held + 1)
-  shifted_lt = subst (λ (k : ℕ). n * 2 + bit b < k) (sym (pow-add 2 held 1)) (omega (arith, bit-lt b))
-
   small : n < 2 ^ 15
   small = less n (2 ^ held) (2 ^ 15) l (pow_mono h)
     where
