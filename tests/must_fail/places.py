@@ -15,6 +15,7 @@ FUNCTION = re.compile(r'^( *)(?:pub(?:\(crate\))? )?(?:extern "C" )?fn (\w+)', r
 CONSTANT = re.compile(r"^ *(?:pub(?:\(crate\))? )?const (\w+):.*?;$", re.MULTILINE | re.DOTALL)
 # An impl, of a trait or of the type alone.
 TYPE = re.compile(r"^impl(?:<[^>]*>)? (?:(?:\w+::)*(\w+)(?:<(\w+)>)? for )?(\w+)", re.MULTILINE)
+DECLARED = re.compile(r"^(?:pub(?:\(crate\))? )?(?:struct|enum) (\w+)", re.MULTILINE)
 ENUM = re.compile(r"^(?:pub(?:\(crate\))? )?enum (\w+) \{.*?^\}", re.MULTILINE | re.DOTALL)
 # The cycle of calls that a function is in, by the attributes right above it.
 CYCLE = re.compile(r"#\[cycle\((\w+)\)\]\s*(?:#\[[^\n]*\]\s*)*\Z")
@@ -58,8 +59,13 @@ class Places:
             end = re.compile(rf"^{found[1]}}}", re.MULTILINE).search(text, found.start()).end()
             owner = [name for start, name in types if start < found.start()][-1:] if found[1] else []
             cycle = CYCLE.search(text[: found.start()])
-            names = [*module_of(file), *owner]
+            names = [*module_of(self.home(file, owner)), *owner]
             yield found.start(), end, self.folder(names, found[2], cycle and cycle[1]), "::".join([self.crate.name, *names, found[2]])
+
+    def home(self, file, owner):
+        """The source file whose module names a function: the one that declares its type, where an impl stands in another."""
+        declaring = [other for other, text in self.sources.items() if owner and owner[0] in DECLARED.findall(text)]
+        return declaring[0] if len(declaring) == 1 else file
 
     def folder(self, names, function, cycle):
         """A function's place. That of functions which call each other, or themselves, is named after the cycle."""

@@ -66,19 +66,13 @@ unfolding receiver_in_range
 range_in s r =
     simp (r.known, r.marks, lt-ltb s.bad_row last_bad r.bad_row, le-leb s.taken most_items r.taken, r.held)
 
-module _ (phase : Phase) (n held : ℕ) (r : held_in_range phase n held ≡ true) where
-  pub few_held : phase ≡ P.Search → held ≤ 15
-  few_held e = leb-true held 15 (sym (ap (λ (p : Phase). held_in_range p n held) e) ∙ r)
-
-  pub part_held : phase ≡ P.InStep → held < n
-  part_held e = ltb-true held n (sym (ap (λ (p : Phase). held_in_range p n held) e) ∙ r)
-
 module _ (s : Receiver) (r : InRange s) where
   pub held_search : s.phase ≡ P.Search → s.held ≤ 15
-  held_search = few_held s.phase (block_length s.setup.k) s.held r.held
+  held_search e = leb-true s.held 15 (sym (ap (λ (p : Phase). held_in_range p (block_length s.setup.k) s.held) e) ∙ r.held)
 
   pub held_step : s.phase ≡ P.InStep → s.held < block_length s.setup.k
-  held_step = part_held s.phase (block_length s.setup.k) s.held r.held
+  held_step e =
+      ltb-true s.held (block_length s.setup.k) (sym (ap (λ (p : Phase). held_in_range p (block_length s.setup.k) s.held) e) ∙ r.held)
 
 -- ---- by the phase
 

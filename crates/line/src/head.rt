@@ -195,7 +195,8 @@ impl Head {
     }
 
     // The next event among these bits of a line, with the number of them used; an accepted block's data go to the store. Where
-    // these bits complete a block, ready says whether the machine can take it.
+    // these bits complete a block, ready says whether the machine can take it. The array is a slice here, since
+    // `order_line_receive` lends a part of a state.
     pub fn receive(
         self,
         array: &mut [u8],
@@ -220,6 +221,7 @@ impl Head {
     }
 }
 
+// A finished block's row comes with a clause on its length and no type: a struct would be one more loan in each clause.
 impl Checked {
     // A bad block with its remainder; lost where rule 7 goes back to search.
     fn after_bad(
@@ -396,7 +398,8 @@ impl Checked {
         next.reports(Event::None, line.bits)
     }
 
-    // The bits of a line up to the next event, or to the last.
+    // The bits of a line up to the next event, or to the last. The array, the readiness and the store are no struct: a call
+    // writes through two of them, and its clauses say of each what it was and what it became.
     fn read(
         self,
         array: &mut [u8; ARRAY_SIZE],

@@ -1,5 +1,5 @@
 // The bits of one unfinished block: new ones are moved in behind those held, by bytes.
-ghost use Rattle.std.specs.Prelude.{◌≡◌, ◌++◌, ◌+◌, ◌*◌, ◌≤◌, ◌<◌, length, take, drop};
+ghost use Rattle.std.specs.Prelude.{◌≡◌, ◌++◌, ◌+◌, ◌*◌, ◌<◌, take, drop};
 ghost use Rattle.crc.specs.Bits.{binary, bits_of, bytes_of};
 ghost use Rattle.line.specs.Receiving.{array_bytes, overwrite};
 
@@ -39,6 +39,7 @@ pub(crate) fn put_bits(array: &mut [u8; ARRAY_SIZE], held: usize, line: Line)
     let from = held / 8;
     let whole = (shift + line.bits) / 8;
     let mut carry = first_bits(array[from], shift);
+    // By index: of what `iter_mut` under a `zip` has written the check knows no byte.
     for (i, x) in line.bytes[..whole].iter().enumerate() {
         array[from + i] = join(carry, shift, *x);
         carry = *x;

@@ -10,6 +10,8 @@ use crate::head::Head;
 use crate::marks::Marks;
 use crate::receiving::{ARRAY_SIZE, Phase, Received, Setup};
 
+// A head's fields with the array among them, passed by value: a rule of the project, as is the array with a count of the bits
+// held beside it.
 #[derive(Clone, Copy)]
 pub struct Receiver {
     pub setup: Setup,

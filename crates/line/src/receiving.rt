@@ -29,12 +29,13 @@ pub(crate) struct Line<'a> {
     ghost held: { bits ≤ 8 * length bytes.now },
 }
 
-// An event of its own where a call used all bits: order_line_receive answers it with a number, and theorems name it.
 #[derive(Clone, Copy, Debug, PartialEq, Eq)]
 pub enum Event {
+    // All bits were used without one: an event of its own, since `order_line_receive` answers it with a number.
     None,
     Sync,
-    // With the remainder of the block's bits; 0 where the check passes and the block fits nowhere.
+    // With the remainder of the block's bits; 0 where the check passes and the block fits nowhere, as `BadRemainder` says and
+    // `order_line_receive` writes it.
     Bad(u16),
     Accepted,
     Previous,

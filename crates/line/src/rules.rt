@@ -1,9 +1,9 @@
 // Rule 1, and rules 3 to 7: what a finished block comes to, and what one whose check passes.
-ghost use Rattle.std.specs.Prelude.{◌≡◌, true, ◌&&◌, ◌-◌, ◌*◌, ◌≤◌, leb, length, take, drop};
+ghost use Rattle.std.specs.Prelude.{◌≡◌, ◌&&◌, ◌-◌, ◌*◌, ◌≤◌, leb, length, take, drop};
 ghost use Rattle.crc.specs.Bits.{number, bits_of};
-ghost use Rattle.block.specs.Lengths.{is_length, block_length};
+ghost use Rattle.block.specs.Lengths.{block_length};
 ghost use Rattle.block.specs.Block.{payload_of};
-ghost use Rattle.line.specs.Order.{longest_order, most_items, is_letter};
+ghost use Rattle.line.specs.Order.{longest_order, is_letter};
 ghost use Rattle.line.specs.Receiving.{or_wait, looks_sync, is_of, place, place_rule, makes_items, end_rule, mark_rule, service_rule};
 ghost use Rattle.line.specs.Code.ReceiveSteps.{rule_of};
 
@@ -142,6 +142,7 @@ impl Checked {
     }
 
     // By the service bits; of an end block's data the version and the length are moved out.
+    #[tactic(auto, unfolding(crate::specs::Receiving::service_rule))]
     pub(crate) fn service_rule(self, service: u8, row: &[u8]) -> Rule
         requires { block_length self.head.setup.k ≤ 8 * length row.now }
         ensures { rule_of result ≡ service_rule self.head.setup.marks.in_use self.head.setup.k self.head.taken self.head.ended service (payload_of self.head.setup.k (take (block_length self.head.setup.k) (bits_of row.now))) }

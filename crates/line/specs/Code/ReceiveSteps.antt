@@ -1,4 +1,4 @@
--- What the receiver's private functions ask and promise: the code's rules, and what is handed back for a reception.
+-- What the receiver's private functions promise: the code's rules, and what is handed back for a reception.
 -- Assumes nothing.
 use Rattle.std.specs.Prelude.{◌≡◌, Bool, List, ℕ, Err, Ok}
 use Rattle.crc.specs.Bits.{Bits}

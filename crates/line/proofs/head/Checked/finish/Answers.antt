@@ -23,9 +23,6 @@ by_row : (h : Head) (array store : List ℕ) (used : ℕ) (ready : Bool) (row ro
 by_row h array store used ready row row' r array' store' e =
     subst (λ (x : Bits). Handed (with_array h array) store (judged (with_array h array) x ready used) (step_with r array') store') e
 
-pub judge-requires : goal.judge-requires
-judge-requires c = omega arith
-
 pub returns-then-self-eq0 : goal.returns-then-self-eq0
 returns-then-self-eq0 c = by_row _ _ _ _ _ _ _ _ _ _ (finished_in_line (with_array c.args.self.head c.args.array.now) c.args.line.bytes.now c.args.line.bits c.requires c.if-self-eq0.true)
     c.judge.ensures

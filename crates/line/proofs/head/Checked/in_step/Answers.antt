@@ -16,9 +16,6 @@ pub overflow_add-missing : goal.overflow_add-missing
 overflow_add-missing c = let f = length_facts c.args.self.head.setup.k c.args.self.known in
     omega arith
 
-pub finish-requires : goal.finish-requires
-finish-requires c = omega arith
-
 pub returns-then-missing-line : goal.returns-then-missing-line
 returns-then-missing-line c = let call = c.finish in
     subst (λ (x : Reception). Handed (with_array c.args.self.head c.args.array.now) c.args.store.now x (step_with call.result call.new.array) call.new.store)

@@ -7,18 +7,12 @@ use Rattle.crc.specs.Bits.{bits_of}
 use Rattle.crc.proofs.Bytes.{length-bits_of}
 use Rattle.line.specs.Receiving.{held_bits}
 use Rattle.line.specs.ReceivingInPlace.{with_array}
-use Rattle.line.proofs.ReceivingCall.{few_held, part_held, handed_idle, handed_by, handed_search, handed_under_alarm}
+use Rattle.line.proofs.ReceivingCall.{handed_idle, handed_by, handed_search, handed_under_alarm}
 use Rattle.line.proofs.head.Checked.read.Goals as goal
 
 pub returns-then-line-eq0 : goal.returns-then-line-eq0
 returns-then-line-eq0 c = let a = c.args in
     handed_idle (with_array a.self.head a.array.now) a.store.now (take a.line.bits (bits_of a.line.bytes.now)) a.line.bits a.ready c.if-line-eq0.true _ (c.idle.ensures a.array.now)
-
-pub search-requires : goal.search-requires
-search-requires c = few_held c.args.self.head.phase _ _ c.args.self.held c.in-Search.is
-
-pub in_step-requires : goal.in_step-requires
-in_step-requires c = part_held c.args.self.head.phase _ _ c.args.self.held c.in-InStep.is
 
 pub returns-in-Search : goal.returns-in-Search
 returns-in-Search c = let a = c.args in

@@ -3,7 +3,7 @@ use mathlib.Core.Path.{◌≡◌, sym, ap, ◌∙◌}
 use mathlib.Core.List.{List}
 use Prim.Native.Nat.{ℕ}
 use native.Mathlib.Omega.{arith}
-use borrow.Author.Tests.{eq-eqb, ne_eqb}
+use borrow.Author.Tests.{eq-eqb}
 use lib.ListN.{length, take}
 use Rattle.crc.specs.Bits.{Bits, bits_of}
 use Rattle.crc.proofs.Bytes.{length-bits_of}
@@ -14,14 +14,6 @@ use Rattle.line.specs.Receiving.{end_rule, service_rule}
 use Rattle.line.proofs.BlockFinished.{length_data, moved_ok, bits_moved, end_first_bits}
 use borrow.Author.Rules.{rules}
 use Rattle.line.proofs.head.Checked.service_rule.Goals as goal
-
-pub returns-then-self : goal.returns-then-self
-unfolding service_rule
-returns-then-self c = sym (simp (sym c.is_letter.ensures ∙ c.if-is_letter.true, c.if-self.true))
-
-pub returns-then-is_letter : goal.returns-then-is_letter
-unfolding service_rule
-returns-then-is_letter c = c.place_rule.ensures ∙ sym (simp (sym c.is_letter.ensures ∙ c.if-is_letter.true, c.if-self.false))
 
 pub returns-then-service-eq-END : goal.returns-then-service-eq-END
 unfolding service_rule
@@ -36,11 +28,6 @@ returns-then-service-eq-END c = let k : ℕ = c.args.self.head.setup.k in
     ∙ ap (end_rule k c.args.self.head.taken c.args.self.head.ended) (bits_moved k c.args.row.now c.requires 5 (omega arith) _ (omega arith) _ payload c.move_data.ensures)
     ∙ sym (end_first_bits k c.args.self.head.taken c.args.self.head.ended d (omega arith))
     ∙ sym (simp (sym c.is_letter.ensures ∙ c.if-is_letter.false, eq-eqb _ _ c.if-service-eq-END.true))
-
-pub returns : goal.returns
-unfolding service_rule
-returns c = c.mark_rule.ensures
-    ∙ sym (simp (sym c.is_letter.ensures ∙ c.if-is_letter.false, ne_eqb _ _ c.if-service-eq-END.false))
 
 pub unwrap-requires : goal.unwrap-requires
 unwrap-requires c = let k : ℕ = c.args.self.head.setup.k in

@@ -1,15 +1,12 @@
 -- `Head::search` meets its contract: searching on from the window at each bit gives what searching all the bits gives. Assumes nothing.
-use mathlib.Core.Path.{◌≡◌, refl, sym, ap, ap₂, ◌∙◌}
-use mathlib.Core.List.{List}
-use Prim.Native.Nat.{ℕ}
+use mathlib.Core.Path.{refl, sym, ap, ◌∙◌}
 use native.Mathlib.Omega.{arith}
 use lib.ListN.{take}
 use Rattle.crc.specs.Bits.{Bits, binary, bits_of}
 use Rattle.line.specs.Receiving as S
 use Rattle.line.specs.ReceivingInPlace.{with_array}
-use Rattle.line.specs.Code.ReceiveSteps.{stepped, handed_back}
-use Rattle.line.specs.declared.receiving.Event.TheVariants as E
-use Rattle.line.proofs.LineSearch.{window_held, search_found, search_on, search_end}
+use Rattle.line.specs.Code.ReceiveSteps.{handed_back}
+use Rattle.line.proofs.LineSearch.{window_held, search_found, search_on}
 use Rattle.line.proofs.head.Head.search.Goals as goal
 
 pub loop-used-init : goal.loop-used-init
@@ -32,12 +29,3 @@ loop-used-preserved c = let l = c.loop-used in (
   search_on (with_array c.args.self c.args.array.now) c.args.line.bytes.now c.args.line.bits c.args.line.held (binary l.window.held l.window.number) l.used _ c.loop-used-test.true
       c.bit_at-next.ensures (sym c.ends_sequence.ensures ∙ c.if-ends_sequence.false) _ c.slide-window.ensures ∙ l.invariant.1,
 )
-
-pub returns : goal.returns
-returns c = let l = c.loop-used in
-    let w : Bits = binary l.window.held l.window.number in
-    let done : c.args.line.bits ≡ l.used = omega arith in
-    c.hold_window.ensures
-    ∙ ap₂ (λ (array : List ℕ) (used : ℕ). stepped (S.searching (with_array c.args.self array) w) E.None used) l.invariant.0 done
-    ∙ ap handed_back
-    (sym (search_end (with_array c.args.self c.args.array.now) c.args.line.bytes.now c.args.line.bits c.args.line.held w l.used (sym done)) ∙ l.invariant.1)
