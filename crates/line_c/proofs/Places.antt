@@ -5,7 +5,7 @@ use mathlib.Core.List.{List, ◌∷◌, ◌++◌, append_assoc}
 use Prim.Native.Nat.{ℕ, suc, ◌+◌, ◌≤◌}
 use native.Mathlib.Numerals.{add-one, add-two}
 use native.Mathlib.Omega.{arith}
-use lib.ListN.{length, drop, get_or, length-append}
+use lib.ListN.{length, drop, get_or, set, length-append}
 use lib.Seq.{drop-cons, take_at, drop-append-add, sets, sets-eq}
 use Rattle.line.specs.declared.marks.Marks.{Marks}
 use Rattle.line_c.specs.State.{word_bytes, head_size, head_bytes, marks_size, marks_bytes}
@@ -39,6 +39,13 @@ stored p l new at n h =
 pub length_head : (x y z d a b c : ℕ) → length (head_bytes x y z d a b c) ≡ head_size
 unfolding head_bytes word_bytes
 length_head x y z d a b c = refl
+
+-- the head's stores in a row
+pub head_stored : (s s₁ : List ℕ) (x y z d a b c : ℕ) → head_size ≤ length s
+    → s₁ ≡ sets s 0 (word_bytes x ++ (word_bytes y ++ word_bytes z))
+    → set (set (set (set s₁ 12 d) 13 a) 14 b) 15 c ≡ head_bytes x y z d a b c ++ drop head_size s
+unfolding word_bytes head_bytes
+head_stored s s₁ x y z d a b c h e = rw e (sets-eq (head_bytes x y z d a b c) s 0 h)
 
 pub length_marks : (m : Marks) → length (marks_bytes m) ≡ marks_size
 unfolding marks_bytes

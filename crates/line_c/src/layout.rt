@@ -2,7 +2,7 @@
 ghost use Rattle.std.specs.Prelude.{◌≡◌, ◌++◌, ◌+◌, ◌≤◌, length, drop, get_or};
 ghost use Rattle.std.specs.Bool.{OnTrue};
 ghost use Rattle.std.proofs.lemmas.List.Edits.{sets};
-ghost use Rattle.line_c.specs.State.{word_at, word_bytes, head_size, head_bytes, marks_size, marks_in, marks_bytes, holds};
+ghost use Rattle.line_c.specs.State.{word_at, word_bytes, head_size, marks_size, marks_in, marks_bytes, holds};
 
 use line::marks::Marks;
 
@@ -41,15 +41,15 @@ pub(crate) fn holds_state(size: usize, most: [u8; 3], s: &[u8]) -> bool
         && s[size - MARKS_SIZE] <= 1
 }
 
-// Three numbers of four bytes and four bytes, over the first bytes of s.
-pub(crate) fn store_head(words: [usize; 3], bytes: [u8; 4], s: &mut [u8])
-    requires { head_size ≤ length s.old }
-    ensures { s.new ≡ head_bytes (get_or words 0 0) (get_or words 1 0) (get_or words 2 0) (get_or bytes 0 0) (get_or bytes 1 0) (get_or bytes 2 0) (get_or bytes 3 0) ++ drop head_size s.old }
+// Three numbers of four bytes, over the first bytes of s.
+#[tactic(auto, unfolding(crate::specs::State::word_bytes))]
+pub(crate) fn store_words(words: [usize; 3], s: &mut [u8])
+    requires { 12 ≤ length s.old }
+    ensures { s.new ≡ sets s.old 0 (word_bytes (get_or words 0 0) ++ (word_bytes (get_or words 1 0) ++ word_bytes (get_or words 2 0))) }
 {
     store_word(s, 0, words[0]);
     store_word(s, 4, words[1]);
     store_word(s, 8, words[2]);
-    s[12..HEAD_SIZE].copy_from_slice(&bytes);
 }
 
 // The marks from place at on.

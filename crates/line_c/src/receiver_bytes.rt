@@ -5,7 +5,7 @@ ghost use Rattle.line.specs.ReceivingInPlace.{with_array};
 ghost use Rattle.line_c.specs.State.{head_size, head_answer, array_end, receiver_size, receiver_of, receiver_head, receiver_bytes, phase_of};
 
 use crate::layout::{
-    HEAD_SIZE, MARKS_SIZE, holds_state, load_marks, load_word, store_head, store_marks,
+    HEAD_SIZE, MARKS_SIZE, holds_state, load_marks, load_word, store_marks, store_words,
 };
 use line::Refusal;
 use line::head::Head;
@@ -53,21 +53,16 @@ pub(crate) fn load_head(s: &[u8]) -> Result<Head, Refusal>
 }
 
 // The array and the marks stay as they are.
-#[tactic(auto, using(crate::proofs::Flags::from_bool_flag))]
+#[tactic(auto, using(crate::proofs::Flags::from_bool_flag, crate::proofs::Places::head_stored))]
 pub(crate) fn put_head(head: Head, s: &mut [u8])
     requires { head_size ≤ length s.old }
     ensures { s.new ≡ receiver_head (with_array head []) ++ drop head_size s.old }
 {
-    store_head(
-        [head.setup.k, head.held, head.taken],
-        [
-            (head.bad_row % 256) as u8,
-            u8::from(head.back),
-            u8::from(head.ended),
-            head.phase as u8,
-        ],
-        s,
-    );
+    store_words([head.setup.k, head.held, head.taken], s);
+    s[12] = (head.bad_row % 256) as u8;
+    s[13] = u8::from(head.back);
+    s[14] = u8::from(head.ended);
+    s[15] = head.phase as u8;
 }
 
 pub(crate) fn store_receiver(receiver: Receiver, s: &mut [u8])

@@ -4,7 +4,7 @@ ghost use Rattle.line.specs.Sending.{opened_answer};
 ghost use Rattle.line_c.specs.State.{sender_size, sender_of, sender_bytes, next_of};
 
 use crate::layout::{
-    HEAD_SIZE, MARKS_SIZE, holds_state, load_marks, load_word, store_head, store_marks,
+    HEAD_SIZE, MARKS_SIZE, holds_state, load_marks, load_word, store_marks, store_words,
 };
 use line::Refusal;
 use line::sender::{Next, Sender, Setup};
@@ -49,15 +49,10 @@ pub(crate) fn store_sender(sender: Sender, s: &mut [u8])
     requires { sender_size ≤ length s.old }
     ensures { s.new ≡ sender_bytes sender ++ drop sender_size s.old }
 {
-    store_head(
-        [sender.setup.k, sender.setup.length, sender.newer],
-        [
-            (sender.run % 256) as u8,
-            u8::from(sender.opening),
-            sender.next as u8,
-            u8::from(sender.finished),
-        ],
-        s,
-    );
+    store_words([sender.setup.k, sender.setup.length, sender.newer], s);
+    s[12] = (sender.run % 256) as u8;
+    s[13] = u8::from(sender.opening);
+    s[14] = sender.next as u8;
+    s[15] = u8::from(sender.finished);
     store_marks(s, HEAD_SIZE, sender.setup.marks);
 }

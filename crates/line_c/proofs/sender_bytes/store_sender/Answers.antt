@@ -1,4 +1,4 @@
--- `store_sender` hands each field of the head to `store_head`, and the marks to `store_marks`. Assumes nothing.
+-- `store_sender` stores each field of the head, and hands the marks to `store_marks`. Assumes nothing.
 use mathlib.Core.Path.{◌≡◌, ap, sym, ◌∙◌}
 use mathlib.Core.List.{List, ◌++◌, append_assoc}
 use Prim.Native.Nat.{ℕ, ◌≤◌}
@@ -8,7 +8,7 @@ use lib.Seq.{drop-drop, sets}
 use Rattle.line.specs.declared.sender.Sender.{Sender}
 use Rattle.line_c.specs.State.{head_size, marks_size, marks_bytes, sender_size, sender_head, sender_bytes}
 use Rattle.line_c.proofs.Flags.{from_bool_flag}
-use Rattle.line_c.proofs.Places.{length_head, marks_stored}
+use Rattle.line_c.proofs.Places.{head_stored, length_head, marks_stored}
 use borrow.Author.Rules.{rules}
 use Rattle.line_c.proofs.sender_bytes.store_sender.Goals as goal
 
@@ -24,4 +24,6 @@ joined sender s s₁ s₂ h e₁ e₂ =
 
 pub returns : goal.returns
 returns c = joined c.args.sender c.args.s.now _ _ (search rules)
-    (c.store_head.ensures ∙ simp (c.from.ensures, c.from-2.ensures, from_bool_flag) (search rules)) c.store_marks.ensures
+    (head_stored c.args.s.now _ _ _ _ _ _ _ _ (search rules) c.store_words.ensures
+    ∙ simp (c.from.ensures, c.from-2.ensures, from_bool_flag) (search rules))
+    c.store_marks.ensures
