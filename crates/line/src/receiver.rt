@@ -91,16 +91,14 @@ impl Receiver {
     pub fn head(self) -> Head
         ensures { with_array result self.bits ≡ self }
     {
-        let setup = self.setup;
-        let phase = self.phase;
         Head {
-            setup,
+            setup: self.setup,
             held: self.held,
             bad_row: self.bad_row,
             back: self.back,
             taken: self.taken,
             ended: self.ended,
-            phase,
+            phase: self.phase,
         }
     }
 
@@ -111,22 +109,19 @@ impl Receiver {
     {
         let mut array = self.bits;
         let step = self.head().receive(&mut array, line, bits, ready, store);
-        let answer = step.answer;
         let head = step.head;
-        let setup = head.setup;
-        let phase = head.phase;
         Step {
             state: Receiver {
-                setup,
+                setup: head.setup,
                 bits: array,
                 held: head.held,
                 bad_row: head.bad_row,
                 back: head.back,
                 taken: head.taken,
                 ended: head.ended,
-                phase,
+                phase: head.phase,
             },
-            answer,
+            answer: step.answer,
         }
     }
 }
