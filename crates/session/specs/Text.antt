@@ -1,5 +1,5 @@
 -- What the run program writes: numbers, words and lines as bytes, each text in fixed memory. Assumes nothing.
-use Rattle.std.specs.Prelude.{Bool, true, false, cond, List, [], ◌∷◌, ◌++◌, ℕ, zero, suc, ◌+◌, ◌/◌, ◌%◌, ltb, Option, Some, None}
+use Rattle.std.specs.Prelude.{Result, Ok, Err, Bool, true, false, cond, List, [], ◌∷◌, ◌++◌, ℕ, zero, suc, ◌+◌, ◌/◌, ◌%◌, ltb, Option, Some, None}
 use Prim.Native.Char.{code}
 use Prim.Native.String as S
 use Rattle.line.specs.declared.receiving.Event.{Event}
@@ -93,6 +93,11 @@ unfoldable pub line_text : ℕ → Line → List ℕ
 line_text period l =
     decimal period ++ ascii " " ++ block_text l.sent.block ++ ascii " " ++ reading_text l.sent.reading ++ ascii " "
     ++ event_text l.event ++ ascii " " ++ bit_text l.back ++ ascii "\n"
+
+-- a line or a refusal's number, as an outcome
+abbrev pub numbered : Result Line ℕ → Outcome
+numbered (Ok l) = done l
+numbered (Err n) = refused n
 
 abbrev pub outcome_text : ℕ → Outcome → List ℕ
 outcome_text period (refused n) = refused_text n

@@ -53,7 +53,8 @@ fn put_yield(number: u64, yielded: Option<Outcome>, output: &mut Output)
     ensures appends { Appends output.old (yield_text number (yielded_answer yielded)) output.new }
 {
     if let Some(outcome) = yielded {
-        output.append(outcome_text(number, outcome).as_slice());
+        let text = outcome_text(number, outcome.map_err(u8::from));
+        output.append(text.as_slice());
     }
 }
 

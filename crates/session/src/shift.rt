@@ -19,7 +19,7 @@ pub fn drop_bits(s: &mut [u8], used: usize)
 {
     let from = used / 8;
     let part = used % 8;
-    // By place: a byte is made of two that stand behind it.
+    // By place: a byte is made of two, which stand from another place on.
     for i in 0..s.len() {
         s[i] = shifted(byte_at(s, from + i), byte_at(s, from + i + 1), part);
     }

@@ -1,11 +1,10 @@
 // What the run program writes, each text in fixed memory.
 ghost use Rattle.std.specs.Prelude.{◌≡◌, ◌+◌, ◌<◌, ◌≤◌, length};
 ghost use Rattle.session.specs.Buffer.{Appends};
-ghost use Rattle.session.specs.Period.{answer_of};
-ghost use Rattle.session.specs.Text.{decimal, bit_text, block_text, mark_text, item_text, reading_text, event_text, holding, heading, refused_text, line_text, outcome_text};
+ghost use Rattle.session.specs.Text.{decimal, bit_text, block_text, mark_text, item_text, reading_text, event_text, holding, heading, refused_text, line_text, numbered, outcome_text};
 
 use crate::buffer::Buffer;
-use crate::period::{Block, Line, Outcome};
+use crate::period::{Block, Line};
 use line::receiving::Event;
 
 // The longest line has 62 bytes.
@@ -142,12 +141,12 @@ pub fn line_text(period: u64, line: Line) -> Text
     text
 }
 
-// What is written of a period: its line, or the refusal that ends the run.
-pub fn outcome_text(period: u64, outcome: Outcome) -> Text
-    ensures { result ≡ holding (outcome_text period (answer_of outcome)) }
+// What is written of a period: its line, or the number of the refusal that ends the run. A number, as of `refused_text`.
+pub fn outcome_text(period: u64, outcome: Result<Line, u8>) -> Text
+    ensures { result ≡ holding (outcome_text period (numbered outcome)) }
 {
     match outcome {
         Ok(line) => line_text(period, line),
-        Err(refusal) => refused_text(u8::from(refusal)),
+        Err(number) => refused_text(number),
     }
 }
