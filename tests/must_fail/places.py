@@ -63,9 +63,18 @@ class Places:
             yield found.start(), end, self.folder(names, found[2], cycle and cycle[1]), "::".join([self.crate.name, *names, found[2]])
 
     def home(self, file, owner):
-        """The source file whose module names a function: the one that declares its type, where an impl stands in another."""
+        """The source file whose module names a function: the one that declares its type, where an impl stands in another. Of
+        several types of that name it is the one that the file imports."""
         declaring = [other for other, text in self.sources.items() if owner and owner[0] in DECLARED.findall(text)]
-        return declaring[0] if len(declaring) == 1 else file
+        if file in declaring:
+            return file
+        imported = [other for other in declaring if self.imports_type(file, other, owner[0])]
+        found = imported or declaring
+        return found[0] if len(found) == 1 else file
+
+    def imports_type(self, file, other, name):
+        """Whether a source file imports a type of this name from another."""
+        return re.search(rf"^use crate::{pathlib.PurePath(other).stem}::[^;]*\b{name}\b", self.sources[file], re.MULTILINE)
 
     def folder(self, names, function, cycle):
         """A function's place. That of functions which call each other, or themselves, is named after the cycle."""
