@@ -17,7 +17,7 @@ pub(crate) const ARRAY_END: usize = HEAD_SIZE + ARRAY_SIZE;
 
 pub(crate) const RECEIVER_SIZE: usize = ARRAY_END + MARKS_SIZE;
 
-// A From of a number would be for the crate that has Phase to write, and only these bytes know the numbers.
+// The numbers are those of the cases in their order. A From of a number would be for the crate that has Phase to write.
 fn phase_of(n: u8) -> Phase
     ensures { result ≡ phase_of n }
 {

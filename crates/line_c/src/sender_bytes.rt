@@ -11,7 +11,7 @@ use line::sender::{Next, Sender, Setup};
 
 pub(crate) const SENDER_SIZE: usize = HEAD_SIZE + MARKS_SIZE;
 
-// A From of a number would be for the crate that has Next to write, and only these bytes know the numbers.
+// The numbers are those of the cases in their order. A From of a number would be for the crate that has Next to write.
 fn next_of(n: u8) -> Next
     ensures { result ≡ next_of n }
 {

@@ -26,8 +26,8 @@ fn load_doses(count: usize, numbers: &[u16]) -> Doses
     }
 }
 
-// The numbers of the doses, over the first ones of a slice. Like the crate tint's `write_entries`, of numbers and not of bytes: one for
-// both would take what a dose becomes as a closure.
+// The numbers of the doses, over the first ones of a slice. One function for this and the crate tint's `write_entries` would take
+// what a dose becomes as a closure.
 fn store_doses(doses: &[Dose], numbers: &mut [u16])
     requires { length doses.now * 2 ≤ length numbers.old }
     ensures { numbers.new ≡ numbers_of doses.now ++ drop (length doses.now * 2) numbers.old }
