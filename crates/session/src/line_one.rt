@@ -133,6 +133,7 @@ impl LineOne {
         let Some(digit) = hex_value(c) else {
             return self.at(Place::Unreadable);
         };
+        // No `get_mut`: of the order's slice behind it nothing is proved.
         let at = self.kept;
         if order.len() <= at {
             return self.at(Place::Bytes);
