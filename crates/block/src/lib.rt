@@ -20,6 +20,7 @@ pub enum Refusal {
     Spoiled = 7,
 }
 
+// Each crate that refuses has such an impl: no macro of ours may write one.
 impl From<Refusal> for u8 {
     ghost from_gives = { λ refusal number. number ≡ refusal_number refusal };
 
@@ -31,7 +32,7 @@ impl From<Refusal> for u8 {
 // A block's service and check bits.
 pub const OVERHEAD: usize = 20;
 
-// The synchronising block's service bits, and its last sixteen bits.
+// The synchronising block's service bits, and its last sixteen bits: bits on the line, and no enum, since any may arrive.
 pub const SYNC: u8 = 0b0101;
 
 pub const SEQUENCE: u16 = 0b0101000010100101;
@@ -83,7 +84,7 @@ pub fn too_short(s: &[u8], bits: usize) -> bool
     s.len() < bits.div_ceil(8)
 }
 
-// The byte at a place, or 0 behind the last: no Option, since both callers move zeros in there.
+// The byte at a place, or 0 behind the last: no Option, since to both callers zeros stand there.
 pub fn byte_at(s: &[u8], i: usize) -> u8
     ensures { result ≡ get_or s.now i 0 }
 {

@@ -42,6 +42,7 @@ pub(crate) struct Checked {
     ghost held: { held_in_range head.phase (block_length head.setup.k) head.held ≡ true },
 }
 
+// A receiver's step without its array.
 #[derive(Clone, Copy)]
 pub struct HeadStep {
     pub head: Head,
@@ -221,8 +222,8 @@ impl Head {
     }
 }
 
-// A finished block's row comes with a clause on its length and no type: a struct would be one more loan in each clause. Nor do array,
-// ready and store make one: they are the caller's, each by itself.
+// A finished block's row comes with a clause on its length and no type: a struct would be one more loan in each clause. Nor do
+// array, ready and store make one: they are the caller's, each by itself.
 impl Checked {
     // A bad block with its remainder; lost where rule 7 goes back to search.
     fn after_bad(

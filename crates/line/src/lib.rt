@@ -29,6 +29,7 @@ pub enum Refusal {
     CodeSize = 9,
 }
 
+// Each crate that refuses has such an impl: no macro of ours may write one.
 impl From<Refusal> for u8 {
     ghost from_gives = { λ refusal number. number ≡ refusal_number refusal };
 

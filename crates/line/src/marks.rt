@@ -4,6 +4,7 @@ ghost use Rattle.line.specs.Marks.{marks_of, is_code_size, marks_in_range, mark,
 
 use crate::Refusal;
 
+// Bits on the line, and no enum: any of the sixteen may arrive.
 const MARK_5: u8 = 0b0001;
 
 const MARK_6: u8 = 0b1010;
@@ -33,7 +34,7 @@ impl Marks {
         size: 0,
     };
 
-    // The size is a machine word, so that one out of range is not cut to one in range.
+    // The size is a machine word, so that one out of range is not cut to one in range. No TryFrom, which would be public.
     #[tactic(auto, unfolding(crate::specs::Marks::marks_in_range, crate::specs::Marks::is_code_size))]
     pub(crate) fn of(size: Option<usize>) -> Result<Marks, Refusal>
         ensures { result ≡ cond (marks_in_range (marks_of size)) (Ok (marks_of size)) (Err Refusal.CodeSize) }

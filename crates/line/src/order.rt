@@ -17,6 +17,7 @@ pub const LONGEST_ORDER: usize = 262144;
 // The most data items that an order makes: those of the longest at the shortest k. A constant's value can't call `div_ceil`.
 pub(crate) const MOST_ITEMS: usize = (LONGEST_ORDER + 239) / 240;
 
+// Bits on the line, and no enum: any of the sixteen may arrive.
 pub(crate) const LETTER_A: u8 = 0b0011;
 
 pub(crate) const LETTER_B: u8 = 0b1001;
@@ -25,7 +26,7 @@ pub(crate) const LETTER_C: u8 = 0b1100;
 
 pub(crate) const END: u8 = 0b1000;
 
-// The version that an end block carries.
+// The version that an end block carries, a byte of it.
 pub(crate) const VERSION: u8 = 1;
 
 // The number of data items that these bits make, 0 if k is 0.

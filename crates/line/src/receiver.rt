@@ -29,6 +29,7 @@ pub struct Receiver {
     pub phase: Phase,
 }
 
+// As a sender's step, and not generic: theorems name each.
 #[derive(Clone, Copy)]
 pub struct Step {
     pub state: Receiver,

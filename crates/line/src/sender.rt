@@ -23,7 +23,7 @@ pub enum Next {
     Newer,
 }
 
-// What opening fixes: the data bits of a block, the bits of the order and the marks.
+// What opening fixes: the data bits of a block, the bits of the order, which a receiver is not given, and the marks.
 #[derive(Clone, Copy)]
 pub struct Setup {
     pub k: usize,
@@ -57,6 +57,7 @@ pub enum Sent {
     },
 }
 
+// By a rule of the project a step hands back a struct with the new state and the answer.
 #[derive(Clone, Copy)]
 pub struct Step {
     pub state: Sender,

@@ -16,6 +16,7 @@ pub enum Refusal {
     Steps = 12,
 }
 
+// Each crate that refuses has such an impl: no macro of ours may write one.
 impl From<Refusal> for u8 {
     ghost from_gives = { λ refusal number. number ≡ refusal_number refusal };
 
@@ -24,6 +25,7 @@ impl From<Refusal> for u8 {
     }
 }
 
+// A byte of the format.
 pub const FORMAT_VERSION: u8 = 1;
 
 // A canister's number at most, and so the most doses, since they rise by canister.
