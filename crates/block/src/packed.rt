@@ -80,6 +80,7 @@ pub fn build(m: usize, service: u8, payload: &[u8], block: &mut [u8]) -> Result<
 }
 
 // The remainder of all its bits: the check of its service bits and data, xor the check received.
+#[inline(always)]
 fn remainder_of(m: usize, block: &[u8]) -> u16
     requires { m + 3 ≤ length block.now }
     ensures { result ≡ remainder (take (8 * m + 20) (bits_of block.now)) }

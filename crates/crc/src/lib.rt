@@ -102,6 +102,7 @@ fn load_head(c: u16, bytes: [u8; 8], count: usize) -> u64
 }
 
 // The bytes of a slice into the register, by words, the first of which holds two to eight of them.
+#[inline(always)]
 fn feed_words(c: u16, s: &[u8]) -> u16
     requires { (8 ≤ length s.now) × (0 < (length s.now - 1) % 8) }
     ensures { result ≡ register c (bits_of s.now) }

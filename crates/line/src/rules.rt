@@ -54,9 +54,11 @@ fn end_length(payload: &[u8; 5]) -> usize
     u32::from_be_bytes([payload[1], payload[2], payload[3], payload[4]]) as usize
 }
 
+// Inlined, each: a call would hand over the whole head.
 impl Checked {
     // The service bits of item i; with marks any of the four is item 0's.
     #[tactic(auto, unfolding(crate::specs::Receiving::is_of))]
+    #[inline(always)]
     fn is_of(self, i: usize, service: u8) -> bool
         ensures { result ≡ is_of self.head.setup.marks.in_use i service }
     {
@@ -70,6 +72,7 @@ impl Checked {
     }
 
     // The service bits of the item before.
+    #[inline(always)]
     fn is_last(self, service: u8) -> bool
         ensures { result ≡ (leb 1 self.head.taken && is_of self.head.setup.marks.in_use (self.head.taken - 1) service) }
     {
@@ -78,6 +81,7 @@ impl Checked {
 
     // A letter or a mark, the end not taken.
     #[tactic(auto, unfolding(crate::specs::Receiving::place))]
+    #[inline(always)]
     fn place_rule(self, service: u8) -> Rule
         ensures { rule_of result ≡ place_rule self.head.taken (place self.head.setup.marks.in_use self.head.taken service) }
     {
@@ -97,6 +101,7 @@ impl Checked {
         Rule::AnythingElse
     }
 
+    #[inline(always)]
     fn makes_items(self, bits: usize) -> bool
         requires { bits ≤ longest_order }
         ensures { result ≡ makes_items self.head.setup.k bits self.head.taken }
@@ -105,6 +110,7 @@ impl Checked {
     }
 
     #[tactic(auto, unfolding(crate::specs::Receiving::end_rule))]
+    #[inline(always)]
     fn end_rule(self, payload: &[u8; 5]) -> Rule
         ensures { rule_of result ≡ end_rule self.head.setup.k self.head.taken self.head.ended (bits_of payload.now) }
     {
@@ -123,6 +129,7 @@ impl Checked {
 
     // No letter and no end block.
     #[tactic(auto, unfolding(crate::specs::Receiving::mark_rule))]
+    #[inline(always)]
     fn mark_rule(self, service: u8) -> Rule
         ensures { rule_of result ≡ mark_rule self.head.setup.marks.in_use self.head.taken self.head.ended service }
     {
@@ -133,6 +140,7 @@ impl Checked {
     }
 
     // Rule 1: first four bits 0101, last sixteen the sequence.
+    #[inline(always)]
     pub(crate) fn looks_sync(self, row: &[u8]) -> bool
         requires { block_length self.head.setup.k ≤ 8 * length row.now }
         ensures { result ≡ looks_sync self.head.setup.k (take (block_length self.head.setup.k) (bits_of row.now)) }
@@ -143,6 +151,7 @@ impl Checked {
 
     // By the service bits; of an end block's data the version and the length are moved out.
     #[tactic(auto, unfolding(crate::specs::Receiving::service_rule))]
+    #[inline(always)]
     pub(crate) fn service_rule(self, service: u8, row: &[u8]) -> Rule
         requires { block_length self.head.setup.k ≤ 8 * length row.now }
         ensures { rule_of result ≡ service_rule self.head.setup.marks.in_use self.head.setup.k self.head.taken self.head.ended service (payload_of self.head.setup.k (take (block_length self.head.setup.k) (bits_of row.now))) }
