@@ -43,8 +43,9 @@ pub(crate) fn put_bits(array: &mut [u8; ARRAY_SIZE], held: usize, line: Line)
     let mut carry = first_bits(array[from], shift);
     // By index: of what `iter_mut` under a `zip` has written the check knows no byte.
     for (i, x) in line.bytes[..whole].iter().enumerate() {
-        array[from + i] = join(carry, shift, *x);
-        carry = *x;
+        let x = *x;
+        array[from + i] = join(carry, shift, x);
+        carry = x;
     }
     let to = from + whole;
     let last = join(carry, shift, byte_at(line.bytes, whole));
