@@ -35,7 +35,8 @@ fn store_doses(doses: &[Dose], numbers: &mut [u16])
     // By place: nothing is proved of what is written through `chunks_exact_mut`.
     for (place, dose) in doses.iter().enumerate() {
         let at = place * DOSE_NUMBERS;
-        numbers[at..at + DOSE_NUMBERS].copy_from_slice(&[dose.canister, dose.steps]);
+        numbers[at] = dose.canister;
+        numbers[at + 1] = dose.steps;
     }
 }
 
