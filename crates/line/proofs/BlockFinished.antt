@@ -3,30 +3,37 @@
 use mathlib.Core.Path.{◌≡◌, refl, sym, ap, ◌∙◌, subst}
 use mathlib.Core.Bool.{Bool, true, false, ◌||◌, or-false}
 use Rattle.std.specs.Prelude.{Ok, Err, IsOk}
-use mathlib.Core.List.{List, [], ◌++◌}
+use mathlib.Core.List.{List, [], ◌∷◌, ◌++◌}
 use Prim.Native.Nat.{ℕ, ◌+◌, ◌-◌, ◌*◌, ◌/◌, ◌%◌, ◌≤◌}
 use native.Mathlib.Omega.{arith}
 use borrow.Author.Tests.{le-ltb}
 use lib.Dec.{leb}
 use lib.ListN.{length, take, drop, length-drop}
 use lib.Seq.{take_at, take-take, length-take-le}
+use types.Run.{OneOf, miss}
+use denote.Enum.Declared.{tag_of}
 use Rattle.crc.specs.Bits.{Bits, bits_of, bytes_of}
 use Rattle.crc.proofs.Bytes.{length-bits_of, bits_of-append, bits_of-bytes_of_exact}
 use Rattle.block.specs.Answer.{done}
 use Rattle.block.specs.Lengths.{block_length}
 use Rattle.block.specs.Block.{payload_of, passed, failed, verdict}
-use Rattle.block.specs.Calls.{too_short, built_answer, verdict_of, read_answer, moved_bytes, MoveData}
+use Rattle.block.specs.Calls.{too_short, built_answer, verdict_of, read_answer, carried_remainder, moved_bytes, MoveData}
 use Rattle.block.specs.Packed.{ServicePacked}
 use Rattle.std.specs.Prelude.{Result}
 use Rattle.block.specs.declared.Refusal.{Refusal}
 use Rattle.block.specs.declared.Read.{Read}
+use Rattle.block.specs.declared.Read.TheVariants as B
 use Rattle.block.proofs.Lengths.{whole_bytes}
 use Rattle.block.proofs.Refusals.{service_done, move_done}
 use Rattle.line.specs.Receiving.{last_bad, after_bad, Rule, reads_sync, check_fails, accepts, meaning, end_rule, service_rule, looks_sync, judge, or_wait, block_rule, stops, Reception, store_at}
-use Rattle.line.specs.Code.ReceiveSteps.{stepped, handed_back, judged, Handed}
+use Rattle.line.specs.Code.ReceiveSteps.{rule_of, stepped, handed_back, judged, Handed}
 use Rattle.line.specs.declared.receiver.Receiver.{Receiver}
 use Rattle.line.specs.declared.receiving.Event.TheVariants as E
 use Rattle.line.specs.declared.receiver.Step.{Step}
+use Rattle.line.specs.declared.Refusal.TheVariants as N
+use Rattle.line.specs.declared.rules.Rule as D
+use Rattle.line.specs.declared.rules.Rule.TheVariants as C
+use Rattle.line.specs.contracts.rules.Rule as code
 use Rattle.line.proofs.LastItem.{drop-take}
 
 -- ---- the store
@@ -41,12 +48,30 @@ pub handed_bad : (s : Receiver) (remainder used : ℕ)
     ≡ handed_back (stops s (check_fails remainder) [] used)
 handed_bad s remainder used = ap (λ (t : Bool). stepped (after_bad s t) (E.Bad remainder) used) (or-false (leb last_bad (s.bad_row + 1)))
 
+-- every rule of the code but the first stores nothing
+pub stores_nothing : (r : D.Rule) → OneOf (1 ∷ 2 ∷ 3 ∷ 4 ∷ 5 ∷ 6 ∷ 7 ∷ []) (tag_of code.the_type r) → (meaning (rule_of r)).stores ≡ false
+stores_nothing C.Accepts h = absurd (miss (1 ∷ 2 ∷ 3 ∷ 4 ∷ 5 ∷ 6 ∷ 7 ∷ []) 0 tt h)
+stores_nothing C.Previous h = refl
+stores_nothing C.OutOfSequence h = refl
+stores_nothing (C.Ends L) h = refl
+stores_nothing C.WrongLength h = refl
+stores_nothing C.EndsAgain h = refl
+stores_nothing C.AnythingElse h = refl
+stores_nothing C.Waits h = refl
+
 module _ (s : Receiver) (row : Bits) (used : ℕ) (store : List ℕ) (r : Step) where
   pub handed_rule : (ready : Bool) (rule : Rule) → rule ≡ block_rule s row ready → (meaning rule).stores ≡ false
       → r ≡ handed_back (stops s rule [] used) → Handed s store (judged s row ready used) r store
   handed_rule ready rule e n h =
       subst (λ (y : Rule). Handed s store (stops s y row used) r store) e
       (subst (λ (y : Step). Handed s store (stops s rule row used) y store) (sym h) (handed_plain s store (stops s rule row used) n))
+
+  -- rule 3, the store short
+  pub handed_short : too_short store (s.taken * s.setup.k + s.setup.k) ≡ true → r ≡ record { state = s; answer = Err N.Short }
+      → Handed s store (stops s accepts row used) r store
+  handed_short q h =
+      subst (λ (y : Step). Handed s store (stops s accepts row used) y store) (sym h)
+      (record { answers = rw q; state = rw q; writes = sym (simp q) })
 
   -- rule 3, the data in the store
   pub handed_stored : (store' : List ℕ) → too_short store (s.taken * s.setup.k + s.setup.k) ≡ false
@@ -55,6 +80,10 @@ module _ (s : Receiver) (row : Bits) (used : ℕ) (store : List ℕ) (r : Step) 
   handed_stored store' q w h =
       subst (λ (y : Step). Handed s store (stops s accepts row used) y store') (sym h)
       (record { answers = rw q; state = rw q; writes = rw q w })
+
+  pub handed_accepts : (ready : Bool) (store' : List ℕ) → accepts ≡ block_rule s row ready
+      → Handed s store (stops s accepts row used) r store' → Handed s store (judged s row ready used) r store'
+  handed_accepts ready store' e = subst (λ (y : Rule). Handed s store (stops s y row used) r store') e
 
 -- ---- the rule of a row
 
@@ -98,6 +127,19 @@ module _ (k : ℕ) (slice : List ℕ) (h : block_length k ≤ 8 * length slice) 
     read_verdict v e =
         let q : done (verdict_of v) ≡ done (verdict row) = sym (ap read_answer e) ∙ answered in
         cc
+
+    pub check-passes : (service : ℕ) → answer ≡ Ok (B.Passed service) → verdict row ≡ passed service
+    check-passes service e = sym (read_verdict (B.Passed service) e)
+
+    -- any other answer is that the check fails
+    pub check-not_passed : ((service : ℕ) → answer ≡ Ok (B.Passed service) → ⊥) → verdict row ≡ failed (carried_remainder (read_answer answer))
+    check-not_passed n = go answer answered n
+      where
+        go : (a : Result Read Refusal) → read_answer a ≡ done (verdict row) → ((service : ℕ) → a ≡ Ok (B.Passed service) → ⊥)
+            → verdict row ≡ failed (carried_remainder (read_answer a))
+        go (Ok (B.Passed s)) e n = absurd (n s refl)
+        go (Ok (B.Failed r)) e n = cc
+        go (Err r) e n = absurd (let z : ◌≡◌ {A = ℕ} 0 1 = cc in omega arith)
 
   -- the first m data bytes
   same_data : (m : ℕ) → 8 * m ≤ k → payload_of (8 * m) (bits_of slice) ≡ take (8 * m) (payload_of k row)

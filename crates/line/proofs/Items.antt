@@ -2,8 +2,8 @@
 use mathlib.Core.Path.{◌≡◌, refl, ap, ap₂, sym, ◌∙◌}
 use mathlib.Core.Bool.{Bool, true, false, cond}
 use mathlib.Core.List.{List, ◌++◌}
-use Prim.Native.Nat.{ℕ, zero, suc, ◌+◌, ◌-◌, ◌*◌, ◌≤◌, ◌<◌}
-use native.Mathlib.Nat.{div-mul-le_self, lt-div-mul-add, mul-le-mul, mul-le-mul_right}
+use Prim.Native.Nat.{ℕ, zero, suc, ◌+◌, ◌-◌, ◌*◌, ◌/◌, ◌≤◌, ◌<◌}
+use native.Mathlib.Nat.{add-div_right, div-zero, div-eq_of_lt, div-mul-le_self, lt-div-mul-add, mul-le-mul, mul-le-mul_right}
 use native.Mathlib.Omega.{arith}
 use borrow.Author.Tests.{leb-true, le-leb, lt-leb, ltb-true, lt-ltb, le-ltb}
 use lib.Dec.{leb}
@@ -51,6 +51,20 @@ item_count-holds k L h = let d = lt-div-mul-add {a = L + k - 1} {b = k} h in ome
 pub item_count_least : (k L : ℕ) → 0 < k → item_count k L * k < L + k
 unfolding item_count
 item_count_least k L h = let d = div-mul-le_self (L + k - 1) k in omega arith
+
+-- divided by 0, a length makes none
+pub item_count_none : (k L : ℕ) → k ≡ 0 → item_count k L ≡ 0
+unfolding item_count
+item_count_none k L e = ap (λ (x : ℕ). (L + x - 1) / x) e ∙ div-zero (L + 0 - 1)
+
+pub item_count-empty : (k L : ℕ) → 0 < k → L ≡ 0 → item_count k L ≡ 0
+unfolding item_count
+item_count-empty k L h e = div-eq_of_lt (omega arith)
+
+-- the last bit of an order is in its last item
+pub item_count_last : (k L : ℕ) → 0 < k → 1 ≤ L → item_count k L ≡ (L - 1) / k + 1
+unfolding item_count
+item_count_last k L h g = let e : L + k - 1 ≡ L - 1 + k = omega arith in ap (λ (x : ℕ). x / k) e ∙ add-div_right (L - 1) h
 
 -- item i of the data items ends within them
 pub item_within : (i n k : ℕ) → i < n → i * k + k ≤ n * k

@@ -1,5 +1,5 @@
 -- Lemmas of the two ends. Those of one function of the code stand in the folder of its file (sender/, head/, ...).
--- Loop times: Table, LoopTime (without rounding). Marks: WithoutMarks (what is left without them). An item:
+-- Loop times: Table, LoopTime (without rounding). Marks: CodeSizes, WithoutMarks (what is left without them). An item:
 -- ServiceBits, Items, LastItem (its filling), ItemBlocks (the block that is built). The sender's range: SenderRange; the most
 -- blocks that it sends: MostBlocks. Bits moved by bytes: BitMoves. A receiving call: ReceivingCall, ReceptionCases (the ways it
 -- can end), KeptSetup (what opening fixed stays), TakenBlock (what is taken, by its event), and in place InPlace; in search
@@ -10,6 +10,7 @@
 pub mod Table
 pub mod LoopTime
 pub mod ServiceBits
+pub mod CodeSizes
 pub mod WithoutMarks
 pub mod Items
 pub mod LastItem

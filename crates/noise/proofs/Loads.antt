@@ -1,5 +1,5 @@
 -- What the load does, as the code does it: a damaged span, no damage, and each refusal. Assumes nothing.
-use Rattle.std.proofs.Common.{◌≡◌, ℕ, ◌+◌, ◌-◌, ◌*◌, ◌/◌, ◌%◌, ◌^◌, ◌<◌, ◌≤◌, Bool, false, Ok, not, eqb, List, ◌++◌, length, get_or, take, drop, sym, ap, ◌∙◌, mod-lt, arith, take-append-drop, length-take-le, ltb-false, eqb-true}
+use Rattle.std.proofs.Common.{◌≡◌, refl, ℕ, ◌+◌, ◌-◌, ◌*◌, ◌/◌, ◌%◌, ◌^◌, ◌<◌, ◌≤◌, Bool, true, false, Ok, Err, not, eqb, List, ◌++◌, length, get_or, take, drop, sym, ap, ◌∙◌, mod-lt, arith, take-append-drop, length-take-le, ltb-false, eqb-true}
 use lib.Count as Count
 use lib.ListN.{replicate-append-replicate}
 use Rattle.crc.specs.Bits.{Bits, zeros, binary, xor_bits, bits_of, bytes_of}
@@ -12,9 +12,12 @@ use Rattle.block.specs.Calls.{too_short}
 use Rattle.block.proofs.Truth.{cond_case}
 use Rattle.noise.specs.Refusals as Refusals
 use Rattle.noise.specs.Generator.{next, drawn}
-use Rattle.noise.specs.Load.{Load, span_load, whole_load, load, places, ones, load_block, report_of, generator_after, loaded_bytes, LoadedAs}
+use Rattle.noise.specs.Load.{Load, span_load, whole_load, load, places, ones, load_block, refusal_number, report_of, generator_after, loaded_bytes, LoadedAs, LoadBlock}
 use Rattle.noise.specs.Code.{laid}
 use Rattle.noise.specs.declared.Generator.{Generator}
+use Rattle.noise.specs.declared.Noise.{Noise}
+use Rattle.noise.specs.declared.Refusal.{Refusal}
+use Rattle.noise.specs.declared.Refusal.TheVariants as R
 use Rattle.noise.proofs.Ones.{ones-binary}
 use Rattle.noise.proofs.Spans.{laid-block}
 
@@ -89,6 +92,45 @@ chooses_whole k g s d e t g' turned n u held bytes =
       hands_back = ap (λ (l : Load). generator_after g (done l)) (sym f);
       writes = whole_bytes k s turned g' held bytes ∙ ap (λ (l : Load). loaded_bytes k s (done l)) (sym f);
     }
+
+-- a damaged span, by the generator as the first draw left it
+pub chooses_span : (k : ℕ) (g : Generator) (s : List ℕ) (d : ℕ) → d ≡ drawn g → eqb (d % 4) 2 ≡ true
+    → (g' : Generator) → g' ≡ next g → (r : Noise) (g'' : Generator) (s' : List ℕ)
+    → LoadedAs k g' s (done (span_load (block_length k) g')) (Ok r) g'' s' → LoadedAs k g s (done (load (block_length k) g)) (Ok r) g'' s'
+unfolding load
+chooses_span k g s d e t g' n r g'' s' a =
+    let c : eqb (drawn g % 4) 2 ≡ true = ap (λ (x : ℕ). eqb (x % 4) 2) (sym e) ∙ t in
+    let f : load (block_length k) g ≡ span_load (block_length k) g' = rw (c, n) in
+    record {
+      answers = a.answers ∙ ap (λ (l : Load). report_of (done l)) (sym f);
+      hands_back = a.hands_back ∙ ap (λ (l : Load). generator_after g (done l)) (sym f);
+      writes = a.writes ∙ ap (λ (l : Load). loaded_bytes k s (done l)) (sym f);
+    }
+
+-- ---- the call: 1, 13, 6
+
+module _ (k : ℕ) (g : Generator) (s : List ℕ) where
+  refuses : (r : Refusal) → load_block k g s ≡ refused (refusal_number r) → LoadBlock k g s (Err r) g s
+  refuses r e = record { answers = rw e refl; hands_back = rw e refl; writes = rw e refl }
+
+  pub refuses_length : is_length k ≡ false → LoadBlock k g s (Err R.Block) g s
+  unfolding load_block
+  refuses_length l = refuses R.Block (rw l)
+
+  module _ (l : is_length k ≡ true) where
+    pub refuses_generator : eqb g.first 0 ≡ true → LoadBlock k g s (Err R.Generator) g s
+    unfolding load_block
+    refuses_generator z = refuses R.Generator (rw (l, z))
+
+    module _ (z : eqb g.first 0 ≡ false) where
+      pub refuses_slice : too_short s (block_length k) ≡ true → LoadBlock k g s (Err R.Short) g s
+      unfolding load_block
+      refuses_slice t = refuses R.Short (rw (l, z, t))
+
+      pub loads : too_short s (block_length k) ≡ false → (r : Noise) (g' : Generator) (s' : List ℕ)
+          → LoadedAs k g s (done (load (block_length k) g)) (Ok r) g' s' → LoadBlock k g s (Ok r) g' s'
+      unfolding load_block
+      loads t r g' s' a = rw (l, z, t) a
 
 -- ---- cases of the answer
 

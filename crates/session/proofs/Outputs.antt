@@ -5,11 +5,11 @@ use mathlib.Core.List.{List, [], ◌∷◌, ◌++◌, append_assoc, append-nil}
 use Prim.Native.Nat.{ℕ, ◌+◌, ◌*◌, ◌≤◌, ◌<◌}
 use native.Mathlib.Numerals.{add-one}
 use native.Mathlib.Omega.{arith}
-use lib.ListN.{length, take, get_or}
+use lib.ListN.{length, take, drop, replicate, get_or, length-append}
 use lib.Seq.{take-suc, take_all}
 use Rattle.session.specs.Buffer.{empty, Appends}
-use Rattle.session.specs.Text.{room}
-use Rattle.session.specs.Program.{Output, byte_taken, after_byte, after_bytes, yield_text, bytes_text, output_room, turn, turn_to}
+use Rattle.session.specs.Text.{room, heading}
+use Rattle.session.specs.Program.{Output, byte_taken, after_byte, after_bytes, yield_text, bytes_text, output_room, output_of, end_text, first_turn, turn, turn_to}
 use Rattle.session.specs.Session.{over}
 use Rattle.session.specs.declared.program.Program.{Program}
 use Rattle.session.specs.declared.program.Turn.{Turn}
@@ -73,3 +73,14 @@ not_the_end p (c ∷ cs) h = refl
 pub made_of : (p q : Program) (text : List ℕ) (o₀ o : Output) (b : Bool) → o₀ ≡ empty output_room → q ≡ p → Appends o₀ text o
     → b ≡ over q.session.place → the_turn (record { program = q; output = o; over = b }) ≡ turn_to p text
 made_of p q text o₀ o b z e a v = rw (v, e, appends_all text o (rw z at a)) refl
+
+-- what an output holds lies in its array
+text_fits : (text : List ℕ) → length text ≤ length (output_of text).bytes
+text_fits text = rw (length-append text (drop (length text) (replicate output_room 0))) (omega arith)
+
+pub start_fits : first_turn.output.len ≤ length first_turn.output.bytes
+start_fits = text_fits heading
+
+pub turn_fits : (p : Program) (part : List ℕ) → (turn p part).output.len ≤ length (turn p part).output.bytes
+turn_fits p [] = text_fits (end_text p)
+turn_fits p (c ∷ cs) = text_fits (bytes_text p (c ∷ cs))

@@ -4,14 +4,15 @@ use mathlib.Core.List.{List, [], ◌∷◌, ◌++◌, map, append_assoc}
 use native.Mathlib.Omega.{arith}
 use borrow.Rule.Slice.PartMut.{put_mid}
 use Prim.Native.Nat.{ℕ, zero, suc, ◌+◌, ◌-◌, ◌*◌, ◌≤◌, ◌<◌}
-use lib.ListN.{length, get_or, take, drop, set, replicate, length-append}
-use lib.Seq.{length-take-le, take_all, take-append_seam, drop-append-add, drop-drop, set-append_seam}
+use lib.ListN.{length, get_or, take, drop, set, length-append}
+use lib.Seq.{length-take-le, take_all, take-append_seam, drop-append-add, drop-drop}
 use Rattle.std.specs.List.{flat_map}
 use Rattle.std.proofs.lemmas.List.{length-map, map_more, take_more, flat_map_more}
 use Rattle.tint.specs.Format.{canisters}
 use Rattle.tint.specs.Calls.{no_dose, first_places, filled_up, doses_of, doses_from}
 use Rattle.tint.specs.declared.Dose.{Dose}
 use Rattle.tint.specs.declared.Doses.{Doses}
+use Rattle.tint.proofs.FromTheFront.{filled_so_far, filled_next, filled_all}
 
 -- ---- the first places
 
@@ -37,11 +38,12 @@ doses_of-doses_from ds = first_places-append ds _
 -- one dose more
 pub filled_more : (ds : List Dose) (i : ℕ) (d : Dose) → i ≡ length ds → i < canisters → set (filled_up ds) i d ≡ filled_up (ds ++ d ∷ [])
 filled_more ds i d e m =
-    let n : canisters - length ds ≡ suc (canisters - (i + 1)) = omega arith in
-    let k : canisters - (i + 1) ≡ canisters - length (ds ++ d ∷ []) = omega (arith, length-append ds (d ∷ [])) in
-    ap₂ (λ (j x : ℕ). set (ds ++ replicate x no_dose) j d) e n ∙ set-append_seam ds no_dose (replicate (canisters - (i + 1)) no_dose) d
-    ∙ sym (append_assoc ds (d ∷ []) (replicate (canisters - (i + 1)) no_dose))
-    ∙ ap (λ (x : ℕ). (ds ++ d ∷ []) ++ replicate x no_dose) k
+    let all : List Dose = ds ++ d ∷ [] in
+    let n : length all ≡ length ds + 1 = length-append ds (d ∷ []) in
+    let few : length ds < canisters = omega arith in
+    ap (λ (j : ℕ). set (filled_up ds) j d) e
+    ∙ filled_all no_dose all [] (set (filled_up ds) (length ds) d) (length ds + 1) refl n
+    (filled_next no_dose all (d ∷ []) [] (filled_up ds) (length ds) d few refl (filled_so_far no_dose ds (d ∷ []) (omega arith)))
 
 module _ (f : List ℕ → Dose) (es : List (List ℕ)) (i : ℕ) (list : List Dose) (e : list ≡ filled_up (map f (take i es))) where
   -- with the dose of the next one

@@ -173,6 +173,10 @@ module _ {A : Type 0} (ds : List Dose) (next : Answer A) where
   unfolding judge_doses
   judge-entry h = rw h refl
 
+  pub judge-steps : in_range_and_order 0 ds ≡ true → most_total < total ds → judge_doses ds next ≡ refused Refusals.steps
+  unfolding judge_doses
+  judge-steps h t = rw (h, lt-ltb most_total (total ds) t) refl
+
   pub judge_good : in_range_and_order 0 ds ≡ true → total ds ≤ most_total → judge_doses ds next ≡ next
   unfolding judge_doses
   judge_good h t = rw (h, le-ltb most_total (total ds) t) refl
@@ -185,6 +189,10 @@ module _ {A : Type 0} (ds : List Dose) (next : Answer A) where
       (not-false (in_range_and_order 0 ds) a.0, ltb-false most_total (total ds) b.0, b.1)
 
   module _ (count : ℕ) where
+    pub counted_none : count ≡ 0 → judge_counted count ds next ≡ refused Refusals.format
+    unfolding judge_counted
+    counted_none h = rw (eq-eqb count 0 h) refl
+
     pub counted_many : canisters < count → judge_counted count ds next ≡ refused Refusals.entry
     unfolding judge_counted
     counted_many h = rw (ne_eqb count 0 (λ z. omega arith), lt-ltb canisters count h) refl
