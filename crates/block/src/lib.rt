@@ -113,8 +113,7 @@ pub fn received_check(a: u8, b: u8, c: u8) -> u16
 pub fn check_block(k: usize, block: &[u8]) -> Result<u16, Refusal>
     ensures { CheckBlock k block.now result }
 {
-    let m = look_up(k)?;
-    packed::check(m, block)
+    packed::check(look_up(k)?, block)
 }
 
 // One block read without its data. Refused in the order 1, 6.

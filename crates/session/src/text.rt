@@ -133,7 +133,7 @@ pub fn line_text(period: u64, line: Line) -> Text
     text.block(line.sent.block);
     text.push(b' ');
     text.reading(line.sent.reading);
-    text.push(b' ');
+    text.push(b' '); // the event may hold a blank itself
     text.event(line.event);
     text.push(b' ');
     text.bit(line.back);

@@ -7,10 +7,10 @@ use Rattle.block.proofs.check_block.Goals as goal
 
 pub returns : goal.returns
 returns c = let a = c.args in
-    let f = found a.k _ (sym c.look_up.ensures.answers ∙ ap length_answer c.in_ok-m.was) in
+    let f = found a.k _ (sym c.look_up.ensures.answers ∙ ap length_answer c.in_ok-look_up.was) in
     check_known a.k f.0 _ f.1 a.block.now _ c.check.ensures
 
-pub returns-in_err-m : goal.returns-in_err-m
-returns-in_err-m c = let a = c.args in
+pub returns-in_err-look_up : goal.returns-in_err-look_up
+returns-in_err-look_up c = let a = c.args in
     let p = err_from_is_err_and c.from_residual.result c.from_residual.ensures.1 in
-    rw (p.1, p.2) (check_unknown a.k _ (sym c.look_up.ensures.answers ∙ ap length_answer c.in_err-m.was) a.block.now)
+    rw (p.1, p.2) (check_unknown a.k _ (sym c.look_up.ensures.answers ∙ ap length_answer c.in_err-look_up.was) a.block.now)
