@@ -10,7 +10,7 @@
  *   - what a call may write overlaps nothing else that is lent to the same call;
  *   - nobody else touches what is lent while the call runs: no other thread, no interrupt handler, no DMA;
  *   - a bool argument is 0 or 1;
- *   - there is stack enough. No proof bounds it: tests/stack.c found 1,472 bytes for order_line_send, 1,040 for
+ *   - there is stack enough. No proof bounds it: tests/stack.c found 1,472 bytes for order_line_send, 1,024 for
  *     order_line_receive and less than 350 for every other call (docs/SPEED.md). Allow 1,600.
  * Nothing else is asked: any bytes, any numbers. What a call only writes may be uninitialised before it: a state before
  * its opening; the block, the data, the tint order or the doses that it makes; the store; every number but *first and
